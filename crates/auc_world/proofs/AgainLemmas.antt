@@ -652,7 +652,7 @@ one_again laws set w (Noted released) realm is honest = λ h again. again
 
 -- what holds of a run, in which each number was released once
 pub both_hold : AllLaws → (set : Setting) (w : Net) (hs : List Happening) → AreSubscribers set.rows → IsRealm set.realm → AreTold set w hs → IsHonest set w hs → HoldsOf set w → AgainOf set w
-    → AreReleasedOnce (after set w hs).released → HoldsOf set (after set w hs) × AgainOf set (after set w hs)
+    → AreReleasedOnce set.rows (after set w hs).released → HoldsOf set (after set w hs) × AgainOf set (after set w hs)
 both_hold laws set w [] subscribers realm told honest h again once = (h, again)
 both_hold laws set w (e ∷ es) subscribers realm told honest h again once =
     let next = one_holds laws.ends set w e es subscribers honest h once in

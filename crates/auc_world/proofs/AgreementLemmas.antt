@@ -31,8 +31,9 @@ use Rattle.auc_server.specs.declared.server.ServerState.{ServerState}
 use Rattle.auc_server.specs.declared.server.ServerState.TheVariants as state
 use Rattle.auc_server.specs.declared.why.ServerWhy.{ServerWhy}
 use Rattle.auc_server.specs.declared.why.ServerWhy.TheVariants as why
-use Rattle.auc_sqn.specs.Number.{max_seq}
-use Rattle.auc_subs.specs.Subscriber.{AreSubscribers, IsRow}
+use Rattle.auc_sqn.specs.Number.{top_of}
+use Rattle.auc_subs.proofs.Facts.{top_at-row}
+use Rattle.auc_subs.specs.Subscriber.{AreSubscribers, IsRow, top_at}
 use Rattle.auc_subs.specs.declared.row.Row.{Row}
 use Rattle.auc_vector.specs.Keys.{ck_by, ik_by, keys_of}
 use Rattle.auc_vector.specs.Notes.{Asking}
@@ -83,22 +84,22 @@ none_some : {X : Type 0} (o : Option X) (a : X) → o ≡ None → o ≡ Some a 
 none_some o a e f = cc
 
 -- the first numbers of numbers that were released once
-once_front : (xs ys : List Number) → AreReleasedOnce (xs ++ ys) → AreReleasedOnce xs
-once_front xs ys o =
+once_front : (rows : List Row) (xs ys : List Number) → AreReleasedOnce rows (xs ++ ys) → AreReleasedOnce rows xs
+once_front rows xs ys o =
     let long = length-append xs ys in record {
       once = λ i j d before within. λ same. o.once i j d before (omega arith) (get_or_append_left xs ys d i (omega arith) ∙ same ∙ sym (get_or_append_left xs ys d j within));
-      numbers = λ k d within. subst (λ (r : Number). r.n ≤ max_seq) (get_or_append_left xs ys d k within) (o.numbers k d (omega arith));
+      numbers = λ k d within. subst (λ (r : Number). r.n ≤ top_at rows r.sub) (get_or_append_left xs ys d k within) (o.numbers k d (omega arith));
     }
 
 -- the last of them isn't among those before
-not_before : (xs : List Number) (x : Number) → AreReleasedOnce (xs ++ x ∷ []) → Contains xs x → ⊥
-not_before xs x o c =
+not_before : (rows : List Row) (xs : List Number) (x : Number) → AreReleasedOnce rows (xs ++ x ∷ []) → Contains xs x → ⊥
+not_before rows xs x o c =
     let long = length_push xs x in
     let (place, within, is) = c in
     o.once place (length xs) x within (omega arith) (get_or_append_left xs (x ∷ []) x place within ∙ is ∙ sym (get_or_push xs x x (length xs) refl))
 
-number_fits : (released : List Number) (x : Number) → AreReleasedOnce released → Contains released x → x.n ≤ max_seq
-number_fits released x o c = let (place, within, is) = c in subst (λ (r : Number). r.n ≤ max_seq) is (o.numbers place x within)
+number_fits : (rows : List Row) (released : List Number) (x : Number) → AreReleasedOnce rows released → Contains released x → x.n ≤ top_at rows x.sub
+number_fits rows released x o c = let (place, within, is) = c in subst (λ (r : Number). r.n ≤ top_at rows r.sub) is (o.numbers place x within)
 
 -- ---- what is posted
 
@@ -291,7 +292,7 @@ drawn_later set released more i d = record {
 
 -- two vectors of a subscriber with one RAND and one AUTN are of one number, whatever they were made for
 pub one_number : Laws → (set : Setting) (a b : ServerOptions) (sub m n : ℕ) (v u : Vector) → AreSubscribers set.rows → vector_at set a sub m ≡ Some v → vector_at set b sub n ≡ Some u
-    → v.rand ≡ u.rand → v.autn ≡ u.autn → m ≤ max_seq → n ≤ max_seq → m ≡ n
+    → v.rand ≡ u.rand → v.autn ≡ u.autn → m ≤ top_at set.rows sub → n ≤ top_at set.rows sub → m ≡ n
 one_number laws set a b sub m n v u subscribers ev eu rand autn mm nn = by (slice_get set.rows sub) refl ev eu
   where
     by : (o : Option Row) → slice_get set.rows sub ≡ o → vector_of_row set a sub m o ≡ Some v → vector_of_row set b sub n o ≡ Some u → m ≡ n
@@ -302,12 +303,13 @@ one_number laws set a b sub m n v u subscribers ev eu rand autn mm nn = by (slic
         let opc = home.secret.opc in
         let r = rand_of set.key sub m in
         let s = rand_of set.key sub n in
-        let left : vector_of home.secret a.method home.amf a.name m r ≡ v = one (Some v) (vector_of home.secret a.method home.amf a.name m r) v (sym f) refl in
-        let right : vector_of home.secret b.method home.amf b.name n s ≡ u = one (Some u) (vector_of home.secret b.method home.amf b.name n s) u (sym g) refl in
+        let left : vector_of home.secret a.method home.amf a.name home.bits m r ≡ v = one (Some v) (vector_of home.secret a.method home.amf a.name home.bits m r) v (sym f) refl in
+        let right : vector_of home.secret b.method home.amf b.name home.bits n s ≡ u = one (Some u) (vector_of home.secret b.method home.amf b.name home.bits n s) u (sym g) refl in
         let rands : r ≡ s = ap (λ (x : Vector). x.rand) left ∙ rand ∙ sym (ap (λ (x : Vector). x.rand) right) in
-        let autns : autn_of k opc r home.amf m ≡ autn_of k opc s home.amf n = ap (λ (x : Vector). x.autn) left ∙ autn ∙ sym (ap (λ (x : Vector). x.autn) right) in
-        laws.numbers k opc home.amf r s m n row.key row.operator mm nn
-        (ap (λ (x : List ℕ). sqn_in k opc x (autn_of k opc r home.amf m)) rands ∙ ap (λ (y : List ℕ). sqn_in k opc s y) autns)
+        let autns : autn_of k opc r home.amf home.bits m ≡ autn_of k opc s home.amf home.bits n = ap (λ (x : Vector). x.autn) left ∙ autn ∙ sym (ap (λ (x : Vector). x.autn) right) in
+        let top : top_at set.rows sub ≡ top_of home.bits = top_at-row set.rows sub home e in
+        laws.numbers k opc home.amf r s home.bits m n row.key row.operator row.few (subst (λ (t : ℕ). m ≤ t) top mm) (subst (λ (t : ℕ). n ≤ t) top nn)
+        (ap (λ (x : List ℕ). sqn_in k opc x (autn_of k opc r home.amf home.bits m)) rands ∙ ap (λ (y : List ℕ). sqn_in k opc s y) autns)
 
 -- ---- a server's turn
 
@@ -374,23 +376,23 @@ contains_same : (xs : List Number) (x y : Number) → x ≡ y → Contains xs x 
 contains_same xs x y e c = subst (Contains xs) e c
 
 -- no inputs that were posted before are those of a number that is released now
-fresh : Laws → (set : Setting) (w : Net) (b : ServerOptions) (sub n : ℕ) (v : Vector) (i : FullInputs) → AreSubscribers set.rows → HoldsOf set w → AreReleasedOnce (w.released ++ record { sub = sub; n = n } ∷ [])
+fresh : Laws → (set : Setting) (w : Net) (b : ServerOptions) (sub n : ℕ) (v : Vector) (i : FullInputs) → AreSubscribers set.rows → HoldsOf set w → AreReleasedOnce set.rows (w.released ++ record { sub = sub; n = n } ∷ [])
     → vector_at set b sub n ≡ Some v → IsPosted w.packets i → i.sub ≡ sub → i.rand ≡ v.rand → i.autn ≡ v.autn → ⊥
 fresh laws set w b sub n v i subscribers h once of p is rand autn =
     let d = h.drawn i p in
     let x : Number = record { sub = sub; n = n } in
-    let front = once_front w.released (x ∷ []) once in
-    let mm = number_fits w.released (record { sub = i.sub; n = d.n }) front d.is_in in
-    let nn = number_fits (w.released ++ x ∷ []) x once (Contains-push w.released x) in
+    let front = once_front set.rows w.released (x ∷ []) once in
+    let mm = number_fits set.rows w.released (record { sub = i.sub; n = d.n }) front d.is_in in
+    let nn = number_fits set.rows (w.released ++ x ∷ []) x once (Contains-push w.released x) in
     let m_at : vector_at set d.options sub d.n ≡ Some d.vector = ap (λ (k : ℕ). vector_at set d.options k d.n) (sym is) ∙ d.of_number in
-    let number = one_number laws set d.options b sub d.n n d.vector v subscribers m_at of (sym d.rand ∙ rand) (sym d.autn ∙ autn) mm nn in
-    not_before w.released x once
+    let number = one_number laws set d.options b sub d.n n d.vector v subscribers m_at of (sym d.rand ∙ rand) (sym d.autn ∙ autn) (subst (λ (k : ℕ). d.n ≤ top_at set.rows k) is mm) nn in
+    not_before set.rows w.released x once
     (contains_same w.released (record { sub = i.sub; n = d.n }) x (same_subscriber i.sub sub d.n is ∙ same_number sub d.n n number) d.is_in)
 
 -- a turn that sends a new challenge
 server_new : Laws → (set : Setting) (w : Net) (place : ℕ) (session : Session) (s : ServerEnd) (did : Step ServerWhy) (sub n : ℕ) (v : Vector) (next : Option (List ℕ)) (bytes : List ℕ)
     → AreSubscribers set.rows → HoldsOf set w → slice_get w.sessions place ≡ Some session → Fits s → RenewsFirst s → vector_at set s.options sub n ≡ Some v → s.challenged ≡ Some (challenge_of s sub n v next)
-    → did ≡ step.Sent bytes → AreReleasedOnce (w.released ++ record { sub = sub; n = n } ∷ []) → HoldsOf set (with_server w place session (record { sub = sub; n = n } ∷ []) s did)
+    → did ≡ step.Sent bytes → AreReleasedOnce set.rows (w.released ++ record { sub = sub; n = n } ∷ []) → HoldsOf set (with_server w place session (record { sub = sub; n = n } ∷ []) s did)
 server_new laws set w place session s did sub n v next bytes subscribers h there fits first of sent_is did_is once =
     let x : Number = record { sub = sub; n = n } in
     let j = inputs_new s sub v in
@@ -465,7 +467,7 @@ vector_keys set o sub n v device c text e rand autn secret = by (slice_get set.r
     by None at' f = absurd (none_some None v refl f)
     by (Some home) at' f =
         let r = rand_of set.key sub n in
-        let u = vector_of home.secret o.method home.amf o.name n r in
+        let u = vector_of home.secret o.method home.amf o.name home.bits n r in
         let is : u ≡ v = one (Some v) u v (sym f) refl in
         let same : home.secret ≡ device.secret = sym (secret home at') in
         let rands : r ≡ c.rand = ap (λ (x : Vector). x.rand) is ∙ sym rand in
@@ -528,7 +530,7 @@ full_agreed set w h a b k l i j ina inb won other alike =
 pub record Next (set : Setting) (w next : Net) : Type 0 where
   pub more : List Number
   pub grows : next.released ≡ w.released ++ more
-  pub holds : HoldsOf set w → AreReleasedOnce next.released → HoldsOf set next
+  pub holds : HoldsOf set w → AreReleasedOnce set.rows next.released → HoldsOf set next
 
 still : (set : Setting) (w : Net) → Next set w w
 still set w = record { more = []; grows = sym (append-nil w.released); holds = λ h o. h }
@@ -586,7 +588,7 @@ to_server_next laws set w d told (Some s) subscribers is there =
           (λ (new : SendsChallenge set asked turn.0 turn.1).
           let x : Number = record { sub = new.request.sub; n = new.n } in
           let is_more : more ≡ x ∷ [] = ap (λ (a : Option Asking). drawn_in_turn a turn.1.notes.number) new.of ∙ ap (drawn_in_turn (Some new.request)) new.drawn in
-          subst (λ (r : List Number). AreReleasedOnce (w.released ++ r) → HoldsOf set (with_server w d.place d.session r turn.0 turn.1.step)) (sym is_more)
+          subst (λ (r : List Number). AreReleasedOnce set.rows (w.released ++ r) → HoldsOf set (with_server w d.place d.session r turn.0 turn.1.step)) (sym is_more)
           (λ once. server_new laws set w d.place d.session turn.0 turn.1.step new.request.sub new.n new.vector new.next turn.0.last subscribers h there fits first new.of_number new.challenge new.sent once) o)
           (laws.server_moves set w.homes s told.seen told.reply told.notes old.fits);
     }
@@ -916,13 +918,13 @@ run_grows laws set w (h ∷ hs) subscribers honest =
 
 -- after the first of some happenings
 pub one_holds : Laws → (set : Setting) (w : Net) (e : Happening) (es : List Happening) → AreSubscribers set.rows → IsHonest set w (e ∷ es) → HoldsOf set w
-    → AreReleasedOnce (after set w (e ∷ es)).released → HoldsOf set (after_one set w e)
+    → AreReleasedOnce set.rows (after set w (e ∷ es)).released → HoldsOf set (after_one set w e)
 one_holds laws set w e es subscribers honest h once =
     let first = one_next laws set w e subscribers honest.0 in
     let rest = run_grows laws set (after_one set w e) es subscribers honest.1 in
-    first.holds h (once_front (after_one set w e).released rest.0 (subst AreReleasedOnce rest.1 once))
+    first.holds h (once_front set.rows (after_one set w e).released rest.0 (subst (AreReleasedOnce set.rows) rest.1 once))
 
-pub run_holds : Laws → (set : Setting) (w : Net) (hs : List Happening) → AreSubscribers set.rows → IsHonest set w hs → HoldsOf set w → AreReleasedOnce (after set w hs).released
+pub run_holds : Laws → (set : Setting) (w : Net) (hs : List Happening) → AreSubscribers set.rows → IsHonest set w hs → HoldsOf set w → AreReleasedOnce set.rows (after set w hs).released
     → HoldsOf set (after set w hs)
 run_holds laws set w [] subscribers honest h once = h
 run_holds laws set w (e ∷ es) subscribers honest h once =

@@ -89,7 +89,8 @@ module _ (packets : List SentPacket) (sessions : List Session) (released : List 
       })
 
   module _ (device card : Device) (new : Peer) (turn : Turn PeerWhy) (bytes : List ℕ) (there : slice_get devices session.device ≡ Some device)
-      (same_card : subscription_of card ≡ subscription_of device) (of_packet : bytes ≡ sent_packet.bytes)
+      (same_card : subscription_of card ≡ subscription_of device) (same_bits : card.usim.array.bits ≡ device.usim.array.bits) (same_age : card.usim.array.age ≡ device.usim.array.age)
+      (of_packet : bytes ≡ sent_packet.bytes)
       (steps : Steps set.key (subscription_of device) device.store session.peer bytes device.usim.array new turn card.store card.usim.array) (pasts : RememberPasts devices) where
     abbrev told : Told
     told = record { seen = steps.seen; notes = turn.notes; inner = peer_turns.inner_of new; reply = replies.Wrong }
@@ -154,6 +155,8 @@ module _ (packets : List SentPacket) (sessions : List Session) (released : List 
             after = card;
             here = get_here devices session.device device card there;
             secret = ap (λ (s : Subscription). s.secret) same_card;
+            bits = same_bits;
+            age = same_age;
             others = λ other differ. get_other devices session.device other card differ;
             asked = steps.usim;
             decrypts = λ past remembers. subst (λ (k : Keeps). Decrypts (decryption_made (subscription_of device) k session.peer steps.seen (peer_row session.peer steps.seen) turn.notes.usim) (peer_turns.inner_of new))

@@ -50,96 +50,96 @@ use Rattle.auc_world.specs.VectorAt.{vector_at, vector_of_row}
 use Rattle.auc_world.specs.Pieces.{Piece, lines_of_pieces, IsQuiet, PiecesGive, JobsGiveAfterAllLines}
 
 -- what a USIM accepted by two lists of lines
-pub accepted-append : (sub : ℕ) (xs ys : List LineRecord) → accepted sub (xs ++ ys) ≡ accepted sub xs ++ accepted sub ys
-accepted-append sub xs ys = flat_map-append (accepted_by sub) xs ys
+pub accepted-append : (bits sub : ℕ) (xs ys : List LineRecord) → accepted bits sub (xs ++ ys) ≡ accepted bits sub xs ++ accepted bits sub ys
+accepted-append bits sub xs ys = flat_map-append (accepted_by bits sub) xs ys
 
 -- ---- a job that doesn't give to a USIM
 
 -- nothing is accepted by a draw
-draw_quiet : (set : Setting) (who count sub : ℕ) (lines : List LineRecord) → DrawGives set who count lines → accepted sub lines ≡ []
-draw_quiet set who zero sub lines gives = ap (accepted sub) gives
-draw_quiet set who (suc count) sub [] gives = refl
-draw_quiet set who (suc count) sub (Vector s n ∷ lines) gives = draw_quiet set who count sub lines gives.2
-draw_quiet set who (suc count) sub (Withheld s n stop ∷ lines) gives = ap (accepted sub) gives.3
-draw_quiet set who (suc count) sub (Exhausted s word ∷ lines) gives = ap (accepted sub) gives.2
-draw_quiet set who (suc count) sub (Sync s answer ∷ lines) gives = absurd gives
-draw_quiet set who (suc count) sub (Give s n answer ∷ lines) gives = absurd gives
-draw_quiet set who (suc count) sub (Further said ∷ lines) gives = absurd gives
-draw_quiet set who (suc count) sub (Told r ∷ lines) gives = absurd gives
+draw_quiet : (set : Setting) (who count bits sub : ℕ) (lines : List LineRecord) → DrawGives set who count lines → accepted bits sub lines ≡ []
+draw_quiet set who zero bits sub lines gives = ap (accepted bits sub) gives
+draw_quiet set who (suc count) bits sub [] gives = refl
+draw_quiet set who (suc count) bits sub (Vector s n ∷ lines) gives = draw_quiet set who count bits sub lines gives.2
+draw_quiet set who (suc count) bits sub (Withheld s n stop ∷ lines) gives = ap (accepted bits sub) gives.3
+draw_quiet set who (suc count) bits sub (Exhausted s word ∷ lines) gives = ap (accepted bits sub) gives.2
+draw_quiet set who (suc count) bits sub (Sync s answer ∷ lines) gives = absurd gives
+draw_quiet set who (suc count) bits sub (Give s n answer ∷ lines) gives = absurd gives
+draw_quiet set who (suc count) bits sub (Further said ∷ lines) gives = absurd gives
+draw_quiet set who (suc count) bits sub (Told r ∷ lines) gives = absurd gives
 
 -- nor after a verdict
-follows_quiet : (set : Setting) (who count sub : ℕ) (answer : SyncVerdict) (lines : List LineRecord) → VectorsFollow set who count answer lines → accepted sub lines ≡ []
-follows_quiet set who count sub (verdict.Moved seen seq_ms) lines follows = draw_quiet set who count sub lines follows
-follows_quiet set who count sub (verdict.InRange seen seq_ms) lines follows = draw_quiet set who count sub lines follows
-follows_quiet set who count sub (verdict.Beyond seen seq_ms) lines follows = ap (accepted sub) follows
-follows_quiet set who count sub verdict.WrongMac lines follows = ap (accepted sub) follows
+follows_quiet : (set : Setting) (who count bits sub : ℕ) (answer : SyncVerdict) (lines : List LineRecord) → VectorsFollow set who count answer lines → accepted bits sub lines ≡ []
+follows_quiet set who count bits sub (verdict.Moved seen seq_ms) lines follows = draw_quiet set who count bits sub lines follows
+follows_quiet set who count bits sub (verdict.InRange seen seq_ms) lines follows = draw_quiet set who count bits sub lines follows
+follows_quiet set who count bits sub (verdict.Beyond seen seq_ms) lines follows = ap (accepted bits sub) follows
+follows_quiet set who count bits sub verdict.WrongMac lines follows = ap (accepted bits sub) follows
 
 -- nor by another subscriber's USIM
-give_quiet : (sub s n : ℕ) (answer : GiveVerdict) → (s == sub) ≡ false → accepted sub (Give s n answer ∷ []) ≡ []
-give_quiet sub s n answer other = ap (λ b. (if b then taken n answer else []) ++ []) other
+give_quiet : (bits sub s n : ℕ) (answer : GiveVerdict) → (s == sub) ≡ false → accepted bits sub (Give s n answer ∷ []) ≡ []
+give_quiet bits sub s n answer other = ap (λ b. (if b then taken bits n answer else []) ++ []) other
 
 -- nor by what follows from a vector
-one_quiet : (set : Setting) (who sub : ℕ) (Follows : ℕ → List LineRecord → Type 0) (lines : List LineRecord) → OneGives set who Follows lines
-    → ((n : ℕ) (rest : List LineRecord) → Follows n rest → accepted sub rest ≡ []) → accepted sub lines ≡ []
-one_quiet set who sub Follows [] gives quiet = refl
-one_quiet set who sub Follows (Vector s n ∷ lines) gives quiet = quiet n lines gives.2
-one_quiet set who sub Follows (Withheld s n stop ∷ lines) gives quiet = ap (accepted sub) gives.3
-one_quiet set who sub Follows (Exhausted s word ∷ lines) gives quiet = ap (accepted sub) gives.2
-one_quiet set who sub Follows (Sync s answer ∷ lines) gives quiet = absurd gives
-one_quiet set who sub Follows (Give s n answer ∷ lines) gives quiet = absurd gives
-one_quiet set who sub Follows (Further said ∷ lines) gives quiet = absurd gives
-one_quiet set who sub Follows (Told r ∷ lines) gives quiet = absurd gives
+one_quiet : (set : Setting) (who bits sub : ℕ) (Follows : ℕ → List LineRecord → Type 0) (lines : List LineRecord) → OneGives set who Follows lines
+    → ((n : ℕ) (rest : List LineRecord) → Follows n rest → accepted bits sub rest ≡ []) → accepted bits sub lines ≡ []
+one_quiet set who bits sub Follows [] gives quiet = refl
+one_quiet set who bits sub Follows (Vector s n ∷ lines) gives quiet = quiet n lines gives.2
+one_quiet set who bits sub Follows (Withheld s n stop ∷ lines) gives quiet = ap (accepted bits sub) gives.3
+one_quiet set who bits sub Follows (Exhausted s word ∷ lines) gives quiet = ap (accepted bits sub) gives.2
+one_quiet set who bits sub Follows (Sync s answer ∷ lines) gives quiet = absurd gives
+one_quiet set who bits sub Follows (Give s n answer ∷ lines) gives quiet = absurd gives
+one_quiet set who bits sub Follows (Further said ∷ lines) gives quiet = absurd gives
+one_quiet set who bits sub Follows (Told r ∷ lines) gives quiet = absurd gives
 
-keys_quiet : (snid : List ℕ) (sub : ℕ) (vectors : List AuthVector) → accepted sub (map (kasme_line snid) vectors) ≡ []
-keys_quiet snid sub [] = refl
-keys_quiet snid sub (v ∷ vectors) = keys_quiet snid sub vectors
+keys_quiet : (snid : List ℕ) (bits sub : ℕ) (vectors : List AuthVector) → accepted bits sub (map (kasme_line snid) vectors) ≡ []
+keys_quiet snid bits sub [] = refl
+keys_quiet snid bits sub (v ∷ vectors) = keys_quiet snid bits sub vectors
 
-judged_quiet : (l : FivegLine) (home : HomeKeys) (device : DeviceKeys) (answer : GiveVerdict) (sub : ℕ) → accepted sub (judged_lines l home device answer) ≡ []
-judged_quiet l home device given.Accepted sub = by l.hxres
+judged_quiet : (l : FivegLine) (home : HomeKeys) (device : DeviceKeys) (answer : GiveVerdict) (bits sub : ℕ) → accepted bits sub (judged_lines l home device answer) ≡ []
+judged_quiet l home device given.Accepted bits sub = by l.hxres
   where
-    by : (told : Bool) → accepted sub (hxres_lines told home ++ Further (further.Fiveg l.sub (outcome_of home device (turned l.bit device.res_star))) ∷ []) ≡ []
+    by : (told : Bool) → accepted bits sub (hxres_lines told home ++ Further (further.Fiveg l.sub (outcome_of home device (turned l.bit device.res_star))) ∷ []) ≡ []
     by true = refl
     by false = refl
-judged_quiet l home device (given.Sync sqn_ms) sub = refl
-judged_quiet l home device given.Absent sub = refl
+judged_quiet l home device (given.Sync sqn_ms) bits sub = refl
+judged_quiet l home device given.Absent bits sub = refl
 
-fiveg_quiet : (set : Setting) (before : Before) (l : FivegLine) (n sub : ℕ) (lines : List LineRecord) → (l.sub == sub) ≡ false → FivegFollows set before l n lines → accepted sub lines ≡ []
-fiveg_quiet set before l n sub lines other f = by (is_separated (vector_of_row set f.row l.sub n).autn) f.follows
+fiveg_quiet : (set : Setting) (before : Before) (l : FivegLine) (n bits sub : ℕ) (lines : List LineRecord) → (l.sub == sub) ≡ false → FivegFollows set before l n lines → accepted bits sub lines ≡ []
+fiveg_quiet set before l n bits sub lines other f = by (is_separated (vector_of_row set f.row l.sub n).autn) f.follows
   where
-    by : (separated : Bool) → AuthenticatesIf separated set before l f.row n lines → accepted sub lines ≡ []
-    by false is = ap (accepted sub) is
+    by : (separated : Bool) → AuthenticatesIf separated set before l f.row n lines → accepted bits sub lines ≡ []
+    by false is = ap (accepted bits sub) is
     by true is =
-        ap (accepted sub) is.lines_are ∙ accepted-append sub is.front is.more
-        ∙ ap (λ (sqns : List (List ℕ)). sqns ++ accepted sub is.more) (ap (accepted sub) is.gives.lines_are ∙ give_quiet sub l.sub n is.gives.answer other)
-        ∙ ap (accepted sub) is.judged ∙ judged_quiet l (home_of (vector_of_row set f.row l.sub n) l.home) (device_of_row f.row n (rand_of set.key l.sub n) l.device) is.gives.answer sub
+        ap (accepted bits sub) is.lines_are ∙ accepted-append bits sub is.front is.more
+        ∙ ap (λ (sqns : List (List ℕ)). sqns ++ accepted bits sub is.more) (ap (accepted bits sub) is.gives.lines_are ∙ give_quiet bits sub l.sub n is.gives.answer other)
+        ∙ ap (accepted bits sub) is.judged ∙ judged_quiet l (home_of (vector_of_row set f.row l.sub n) l.home) (device_of_row f.row n (rand_of set.key l.sub n) l.device) is.gives.answer bits sub
 
 -- nor by sites
-lease_quiet : (set : Setting) (who size sub : ℕ) (o : Option Judged) (lines : List LineRecord) → LeaseGives set who size o lines → accepted sub lines ≡ []
-lease_quiet set who size sub None lines gives = ap (accepted sub) gives
-lease_quiet set who size sub (Some (judged.Again g)) lines gives = ap (accepted sub) gives
-lease_quiet set who size sub (Some (judged.Old last)) lines gives = ap (accepted sub) gives
-lease_quiet set who size sub (Some judged.New) lines gives = draw_quiet set who size sub lines gives
+lease_quiet : (set : Setting) (who size bits sub : ℕ) (o : Option Judged) (lines : List LineRecord) → LeaseGives set who size o lines → accepted bits sub lines ≡ []
+lease_quiet set who size bits sub None lines gives = ap (accepted bits sub) gives
+lease_quiet set who size bits sub (Some (judged.Again g)) lines gives = ap (accepted bits sub) gives
+lease_quiet set who size bits sub (Some (judged.Old last)) lines gives = ap (accepted bits sub) gives
+lease_quiet set who size bits sub (Some judged.New) lines gives = draw_quiet set who size bits sub lines gives
 
-site_event_quiet : (set : Setting) (who size sub : ℕ) (w : Network) (e : SiteEvent) (lines : List LineRecord) (turn : Turn) → SiteEventGives set who size w e lines turn → accepted sub lines ≡ []
-site_event_quiet set who size sub w e lines turn gives =
-    ap (accepted sub) gives.lines_are ∙ accepted-append sub gives.drawn (Further (further.Sites who (note_of w e turn)) ∷ [])
-    ∙ ap (λ (sqns : List (List ℕ)). sqns ++ []) (lease_quiet set who size sub (judgement_in w (event_of w e)) gives.drawn gives.draws)
+site_event_quiet : (set : Setting) (who size bits sub : ℕ) (w : Network) (e : SiteEvent) (lines : List LineRecord) (turn : Turn) → SiteEventGives set who size w e lines turn → accepted bits sub lines ≡ []
+site_event_quiet set who size bits sub w e lines turn gives =
+    ap (accepted bits sub) gives.lines_are ∙ accepted-append bits sub gives.drawn (Further (further.Sites who (note_of w e turn)) ∷ [])
+    ∙ ap (λ (sqns : List (List ℕ)). sqns ++ []) (lease_quiet set who size bits sub (judgement_in w (event_of w e)) gives.drawn gives.draws)
 
-sites_quiet : (set : Setting) (who size sub : ℕ) (w : Network) (events : List SiteEvent) (lines : List LineRecord) (turns : List Turn) → SitesGo set who size w events lines turns
-    → accepted sub lines ≡ []
-sites_quiet set who size sub w [] lines turns (none, ends) = ap (accepted sub) none
-sites_quiet set who size sub w (e ∷ events) lines [] go = absurd go
-sites_quiet set who size sub w (e ∷ events) lines (turn ∷ turns) (front, rest, is, first, more) =
-    ap (accepted sub) is ∙ accepted-append sub front rest ∙ ap (λ (sqns : List (List ℕ)). sqns ++ accepted sub rest) (site_event_quiet set who size sub w e front turn first)
-    ∙ sites_quiet set who size sub (after_event w turn.event turn.numbers turn.end) events rest turns more
+sites_quiet : (set : Setting) (who size bits sub : ℕ) (w : Network) (events : List SiteEvent) (lines : List LineRecord) (turns : List Turn) → SitesGo set who size w events lines turns
+    → accepted bits sub lines ≡ []
+sites_quiet set who size bits sub w [] lines turns (none, ends) = ap (accepted bits sub) none
+sites_quiet set who size bits sub w (e ∷ events) lines [] go = absurd go
+sites_quiet set who size bits sub w (e ∷ events) lines (turn ∷ turns) (front, rest, is, first, more) =
+    ap (accepted bits sub) is ∙ accepted-append bits sub front rest ∙ ap (λ (sqns : List (List ℕ)). sqns ++ accepted bits sub rest) (site_event_quiet set who size bits sub w e front turn first)
+    ∙ sites_quiet set who size bits sub (after_event w turn.event turn.numbers turn.end) events rest turns more
 
 -- nor by a session of EAP-SIM
-sim_quiet : (set : Setting) (l : SimValue) (sub : ℕ) (lines : List LineRecord) → SimGives set l lines → accepted sub lines ≡ []
-sim_quiet set l sub lines gives = sim_gives_drawn (accepted_by sub) set l lines (λ note. refl) gives ∙ draw_quiet set l.sub l.count sub gives.drawn gives.draws
+sim_quiet : (set : Setting) (l : SimValue) (bits sub : ℕ) (lines : List LineRecord) → SimGives set l lines → accepted bits sub lines ≡ []
+sim_quiet set l bits sub lines gives = sim_gives_drawn (accepted_by bits sub) set l lines (λ note. refl) gives ∙ draw_quiet set l.sub l.count bits sub gives.drawn gives.draws
 
 -- nor in an event, if its device is another's
-event_quiet : (sub : ℕ) (r : EventRecord) → IsOf (λ other. (other == sub) ≡ false) (device_in r.result) → accepted sub (Told r ∷ []) ≡ []
-event_quiet sub r other = by (device_in r.result) other
+event_quiet : (bits sub : ℕ) (r : EventRecord) → IsOf (λ other. (other == sub) ≡ false) (device_in r.result) → accepted bits sub (Told r ∷ []) ≡ []
+event_quiet bits sub r other = by (device_in r.result) other
   where
     by : (o : Option ℕ) → IsOf (λ other. (other == sub) ≡ false) o → sqn_accepted (if is_that sub o then usim_in r.result else None) ++ [] ≡ []
     by None other = refl
@@ -149,10 +149,10 @@ event_quiet sub r other = by (device_in r.result) other
 abbrev AreOthers : ℕ → Net → Type 0
 AreOthers sub net = AreOf (λ other. (other == sub) ≡ false) net.sessions
 
-event_line_quiet : (set : Setting) (before : Before) (net next : Net) (e : Event) (sub : ℕ) (lines : List LineRecord) → EventGives set before net e lines next → AreOthers sub net
-    → accepted sub lines ≡ []
-event_line_quiet set before net next e sub lines gives others =
-    ap (accepted sub) gives.lines_are ∙ event_quiet sub (record { event = e; result = came set net e gives.told }) (device_is_of (λ other. (other == sub) ≡ false) set net e gives.told others)
+event_line_quiet : (set : Setting) (before : Before) (net next : Net) (e : Event) (bits sub : ℕ) (lines : List LineRecord) → EventGives set before net e lines next → AreOthers sub net
+    → accepted bits sub lines ≡ []
+event_line_quiet set before net next e bits sub lines gives others =
+    ap (accepted bits sub) gives.lines_are ∙ event_quiet bits sub (record { event = e; result = came set net e gives.told }) (device_is_of (λ other. (other == sub) ≡ false) set net e gives.told others)
 
 others_stay : (set : Setting) (before : Before) (net next : Net) (e : Event) (sub : ℕ) (lines : List LineRecord) → EventGives set before net e lines next → AreOthers sub net
     → Opens (λ other. (other == sub) ≡ false) e → AreOthers sub next
@@ -160,73 +160,73 @@ others_stay set before net next e sub lines gives others opens =
     subst (AreOthers sub) (sym gives.leads) (sessions_stay (λ other. (other == sub) ≡ false) set net e gives.told others opens)
 
 -- nor by the packets that follow one
-relay_quiet : (set : Setting) (before : Before) (net next : Net) (session : ℕ) (at' : End) (o : Option ℕ) (sub : ℕ) (lines : List LineRecord)
-    → RelayGives set before net session at' o lines next → AreOthers sub net → (accepted sub lines ≡ []) × AreOthers sub next
-relay_quiet set before net next session at' None sub [] gives others = (refl, subst (AreOthers sub) (sym gives) others)
-relay_quiet set before net next session at' None sub (line ∷ lines) gives others = absurd gives
-relay_quiet set before net next session at' (Some packet) sub [] gives others = absurd gives
-relay_quiet set before net next session at' (Some packet) sub (line ∷ lines) (mid, first, more) others =
-    let (quiet, last) = relay_quiet set (behind before (line ∷ [])) mid next session (other at') (packet_of line) sub lines more
+relay_quiet : (set : Setting) (before : Before) (net next : Net) (session : ℕ) (at' : End) (o : Option ℕ) (bits sub : ℕ) (lines : List LineRecord)
+    → RelayGives set before net session at' o lines next → AreOthers sub net → (accepted bits sub lines ≡ []) × AreOthers sub next
+relay_quiet set before net next session at' None bits sub [] gives others = (refl, subst (AreOthers sub) (sym gives) others)
+relay_quiet set before net next session at' None bits sub (line ∷ lines) gives others = absurd gives
+relay_quiet set before net next session at' (Some packet) bits sub [] gives others = absurd gives
+relay_quiet set before net next session at' (Some packet) bits sub (line ∷ lines) (mid, first, more) others =
+    let (quiet, last) = relay_quiet set (behind before (line ∷ [])) mid next session (other at') (packet_of line) bits sub lines more
     (others_stay set before net mid (event.Deliver session at' packet) sub (line ∷ []) first others tt) in
-    (accepted-append sub (line ∷ []) lines ∙ ap (λ (sqns : List (List ℕ)). sqns ++ accepted sub lines) (event_line_quiet set before net mid (event.Deliver session at' packet) sub (line ∷ []) first others) ∙ quiet, last)
+    (accepted-append bits sub (line ∷ []) lines ∙ ap (λ (sqns : List (List ℕ)). sqns ++ accepted bits sub lines) (event_line_quiet set before net mid (event.Deliver session at' packet) bits sub (line ∷ []) first others) ∙ quiet, last)
 
-plain_quiet : (set : Setting) (before : Before) (net next : Net) (session : ℕ) (sub : ℕ) (lines : List LineRecord) → PlainGives set before net session lines next → AreOthers sub net
-    → (accepted sub lines ≡ []) × AreOthers sub next
-plain_quiet set before net next session sub [] gives others = absurd gives
-plain_quiet set before net next session sub (line ∷ lines) (mid, first, more) others =
-    let (quiet, last) = relay_quiet set (behind before (line ∷ [])) mid next session end.Peer (packet_of line) sub lines more
+plain_quiet : (set : Setting) (before : Before) (net next : Net) (session : ℕ) (bits sub : ℕ) (lines : List LineRecord) → PlainGives set before net session lines next → AreOthers sub net
+    → (accepted bits sub lines ≡ []) × AreOthers sub next
+plain_quiet set before net next session bits sub [] gives others = absurd gives
+plain_quiet set before net next session bits sub (line ∷ lines) (mid, first, more) others =
+    let (quiet, last) = relay_quiet set (behind before (line ∷ [])) mid next session end.Peer (packet_of line) bits sub lines more
     (others_stay set before net mid (event.Start session) sub (line ∷ []) first others tt) in
-    (accepted-append sub (line ∷ []) lines ∙ ap (λ (sqns : List (List ℕ)). sqns ++ accepted sub lines) (event_line_quiet set before net mid (event.Start session) sub (line ∷ []) first others) ∙ quiet, last)
+    (accepted-append bits sub (line ∷ []) lines ∙ ap (λ (sqns : List (List ℕ)). sqns ++ accepted bits sub lines) (event_line_quiet set before net mid (event.Start session) bits sub (line ∷ []) first others) ∙ quiet, last)
 
 -- a line that doesn't hold the USIM, in a network whose sessions are at other devices
-line_quiet : (set : Setting) (before : Before) (net next : Net) (l : Line) (sub : ℕ) (lines : List LineRecord) → LineGives set before net l lines next → is_held_by sub l ≡ false → AreOthers sub net
-    → (accepted sub lines ≡ []) × AreOthers sub next
-line_quiet set before net next (line.Draw who count) sub lines (gives, is) none others = (draw_quiet set who count sub lines gives, subst (AreOthers sub) (sym is) others)
-line_quiet set before net next (line.Sync who seq bit count) sub lines (gives, is) none others =
-    (ap (accepted sub) gives.lines_are ∙ follows_quiet set who count sub gives.answer gives.more gives.follows, subst (AreOthers sub) (sym is) others)
-line_quiet set before net next (line.Give who n) sub lines (gives, is) none others = (ap (accepted sub) gives.lines_are ∙ give_quiet sub who n gives.answer none, subst (AreOthers sub) (sym is) others)
-line_quiet set before net next (line.Eps who snid) sub lines (gives, is) none others = (
-  one_quiet set who sub (λ n rest. rest ≡ map (kasme_line snid) (vector_at set who n)) lines gives
-      (λ n rest is. ap (accepted sub) is ∙ keys_quiet snid sub (vector_at set who n)),
+line_quiet : (set : Setting) (before : Before) (net next : Net) (l : Line) (bits sub : ℕ) (lines : List LineRecord) → LineGives set before net l lines next → is_held_by sub l ≡ false → AreOthers sub net
+    → (accepted bits sub lines ≡ []) × AreOthers sub next
+line_quiet set before net next (line.Draw who count) bits sub lines (gives, is) none others = (draw_quiet set who count bits sub lines gives, subst (AreOthers sub) (sym is) others)
+line_quiet set before net next (line.Sync who report count) bits sub lines (gives, is) none others =
+    (ap (accepted bits sub) gives.lines_are ∙ follows_quiet set who count bits sub gives.answer gives.more gives.follows, subst (AreOthers sub) (sym is) others)
+line_quiet set before net next (line.Give who n) bits sub lines (gives, is) none others = (ap (accepted bits sub) gives.lines_are ∙ give_quiet bits sub who n gives.answer none, subst (AreOthers sub) (sym is) others)
+line_quiet set before net next (line.Eps who snid) bits sub lines (gives, is) none others = (
+  one_quiet set who bits sub (λ n rest. rest ≡ map (kasme_line snid) (vector_at set who n)) lines gives
+      (λ n rest is. ap (accepted bits sub) is ∙ keys_quiet snid bits sub (vector_at set who n)),
   subst (AreOthers sub) (sym is) others,
 )
-line_quiet set before net next (line.Fiveg l) sub lines (gives, is) none others = (
-  one_quiet set l.sub sub (λ n rest. FivegFollows set (behind before (Vector l.sub n ∷ [])) l n rest) lines gives
-      (λ n rest f. fiveg_quiet set (behind before (Vector l.sub n ∷ [])) l n sub rest none f),
+line_quiet set before net next (line.Fiveg l) bits sub lines (gives, is) none others = (
+  one_quiet set l.sub bits sub (λ n rest. FivegFollows set (behind before (Vector l.sub n ∷ [])) l n rest) lines gives
+      (λ n rest f. fiveg_quiet set (behind before (Vector l.sub n ∷ [])) l n bits sub rest none f),
   subst (AreOthers sub) (sym is) others,
 )
-line_quiet set before net next (line.Sites l) sub lines ((turns, go), is) none others =
-    (sites_quiet set l.sub l.size sub (sites_start l) l.schedule lines turns go, subst (AreOthers sub) (sym is) others)
-line_quiet set before net next (line.Sim l) sub lines (gives, is) none others = (sim_quiet set l sub lines gives, subst (AreOthers sub) (sym is) others)
-line_quiet set before net next (line.Session opening) sub lines gives none others =
-    (event_line_quiet set before net next (event.Open opening) sub lines gives others, others_stay set before net next (event.Open opening) sub lines gives others none)
-line_quiet set before net next (line.Start session) sub lines gives none others =
-    (event_line_quiet set before net next (event.Start session) sub lines gives others, others_stay set before net next (event.Start session) sub lines gives others tt)
-line_quiet set before net next (line.Deliver session at' packet) sub lines gives none others =
-    (event_line_quiet set before net next (event.Deliver session at' packet) sub lines gives others, others_stay set before net next (event.Deliver session at' packet) sub lines gives others tt)
-line_quiet set before net next (line.Repeat session) sub lines gives none others =
-    (event_line_quiet set before net next (event.Repeat session) sub lines gives others, others_stay set before net next (event.Repeat session) sub lines gives others tt)
-line_quiet set before net next (line.GiveUp session at') sub lines gives none others =
-    (event_line_quiet set before net next (event.GiveUp session at') sub lines gives others, others_stay set before net next (event.GiveUp session at') sub lines gives others tt)
-line_quiet set before net next (line.Plain session) sub lines gives none others = plain_quiet set before net next session sub lines gives others
-line_quiet set before net next (line.Tamper packet at' byte) sub lines gives none others =
-    (event_line_quiet set before net next (event.Tamper packet at' byte) sub lines gives others, others_stay set before net next (event.Tamper packet at' byte) sub lines gives others tt)
-line_quiet set before net next (line.Cut packet count) sub lines gives none others =
-    (event_line_quiet set before net next (event.Cut packet count) sub lines gives others, others_stay set before net next (event.Cut packet count) sub lines gives others tt)
+line_quiet set before net next (line.Sites l) bits sub lines ((turns, go), is) none others =
+    (sites_quiet set l.sub l.size bits sub (sites_start l) l.schedule lines turns go, subst (AreOthers sub) (sym is) others)
+line_quiet set before net next (line.Sim l) bits sub lines (gives, is) none others = (sim_quiet set l bits sub lines gives, subst (AreOthers sub) (sym is) others)
+line_quiet set before net next (line.Session opening) bits sub lines gives none others =
+    (event_line_quiet set before net next (event.Open opening) bits sub lines gives others, others_stay set before net next (event.Open opening) sub lines gives others none)
+line_quiet set before net next (line.Start session) bits sub lines gives none others =
+    (event_line_quiet set before net next (event.Start session) bits sub lines gives others, others_stay set before net next (event.Start session) sub lines gives others tt)
+line_quiet set before net next (line.Deliver session at' packet) bits sub lines gives none others =
+    (event_line_quiet set before net next (event.Deliver session at' packet) bits sub lines gives others, others_stay set before net next (event.Deliver session at' packet) sub lines gives others tt)
+line_quiet set before net next (line.Repeat session) bits sub lines gives none others =
+    (event_line_quiet set before net next (event.Repeat session) bits sub lines gives others, others_stay set before net next (event.Repeat session) sub lines gives others tt)
+line_quiet set before net next (line.GiveUp session at') bits sub lines gives none others =
+    (event_line_quiet set before net next (event.GiveUp session at') bits sub lines gives others, others_stay set before net next (event.GiveUp session at') sub lines gives others tt)
+line_quiet set before net next (line.Plain session) bits sub lines gives none others = plain_quiet set before net next session bits sub lines gives others
+line_quiet set before net next (line.Tamper packet at' byte) bits sub lines gives none others =
+    (event_line_quiet set before net next (event.Tamper packet at' byte) bits sub lines gives others, others_stay set before net next (event.Tamper packet at' byte) sub lines gives others tt)
+line_quiet set before net next (line.Cut packet count) bits sub lines gives none others =
+    (event_line_quiet set before net next (event.Cut packet count) bits sub lines gives others, others_stay set before net next (event.Cut packet count) sub lines gives others tt)
 
 -- a job that doesn't
-lines_quiet : (set : Setting) (before : Before) (net last : Net) (job : List Line) (sub : ℕ) (lines : List LineRecord) → JobGives set before net job lines last → holds sub job ≡ false → AreOthers sub net
-    → accepted sub lines ≡ []
-lines_quiet set before net last [] sub lines (none, is) other others = ap (accepted sub) none
-lines_quiet set before net last (l ∷ job) sub lines (front, rest, next, is, first, more) other others =
+lines_quiet : (set : Setting) (before : Before) (net last : Net) (job : List Line) (bits sub : ℕ) (lines : List LineRecord) → JobGives set before net job lines last → holds sub job ≡ false → AreOthers sub net
+    → accepted bits sub lines ≡ []
+lines_quiet set before net last [] bits sub lines (none, is) other others = ap (accepted bits sub) none
+lines_quiet set before net last (l ∷ job) bits sub lines (front, rest, next, is, first, more) other others =
     let (here, there) = or_parts (is_held_by sub l) (holds sub job) other in
-    let (quiet, still) = line_quiet set before net next l sub front first here others in
-    ap (accepted sub) is ∙ accepted-append sub front rest
-    ∙ ap (λ (sqns : List (List ℕ)). sqns ++ accepted sub rest) quiet ∙ lines_quiet set (behind before front) next last job sub rest more there still
+    let (quiet, still) = line_quiet set before net next l bits sub front first here others in
+    ap (accepted bits sub) is ∙ accepted-append bits sub front rest
+    ∙ ap (λ (sqns : List (List ℕ)). sqns ++ accepted bits sub rest) quiet ∙ lines_quiet set (behind before front) next last job bits sub rest more there still
 
-pub job_quiet : (set : Setting) (before : Before) (kept : List Kept) (job : List Line) (sub : ℕ) (lines : List LineRecord) (last : Net) → JobGives set before (start_of set kept job) job lines last → holds sub job ≡ false
-    → accepted sub lines ≡ []
-job_quiet set before kept job sub lines last gives other = lines_quiet set before (start_of set kept job) last job sub lines gives other (All-nil (λ s. (s.sub == sub) ≡ false))
+pub job_quiet : (set : Setting) (before : Before) (kept : List Kept) (job : List Line) (bits sub : ℕ) (lines : List LineRecord) (last : Net) → JobGives set before (start_of set kept job) job lines last → holds sub job ≡ false
+    → accepted bits sub lines ≡ []
+job_quiet set before kept job bits sub lines last gives other = lines_quiet set before (start_of set kept job) last job bits sub lines gives other (All-nil (λ s. (s.sub == sub) ≡ false))
 
 -- ---- other lines before a job
 
@@ -235,17 +235,17 @@ abbrev place : List LineRecord → List LineRecord → List LineRecord → Befor
 place early beside own = record { early = early; beside = beside; own = own }
 
 -- a USIM's past is the same after other lines of the round by which it has accepted nothing
-same_past : (early own beside done : List LineRecord) (row : Row) (sub : ℕ) → accepted sub own ≡ [] → accepted sub beside ≡ []
+same_past : (early own beside done : List LineRecord) (row : Row) (sub : ℕ) → accepted row.bits sub own ≡ [] → accepted row.bits sub beside ≡ []
     → past_before (place early own done) row sub ≡ past_before (place early beside done) row sub
 same_past early own beside done row sub quiet still =
-    ap (past_of row.usim) (accepted-append sub (early ++ own) done
-    ∙ ap (λ (sqns : List (List ℕ)). sqns ++ accepted sub done) (accepted-append sub early own ∙ ap (λ (sqns : List (List ℕ)). accepted sub early ++ sqns) (quiet ∙ sym still) ∙ sym (accepted-append sub early beside))
-    ∙ sym (accepted-append sub (early ++ beside) done))
+    ap (past_of row.bits row.usim) (accepted-append row.bits sub (early ++ own) done
+    ∙ ap (λ (sqns : List (List ℕ)). sqns ++ accepted row.bits sub done) (accepted-append row.bits sub early own ∙ ap (λ (sqns : List (List ℕ)). accepted row.bits sub early ++ sqns) (quiet ∙ sym still) ∙ sym (accepted-append row.bits sub early beside))
+    ∙ sym (accepted-append row.bits sub (early ++ beside) done))
 
 -- by lines of a worker and by those of other workers, the USIM has accepted nothing
 record IsStill (own beside : List LineRecord) (sub : ℕ) : Type 0 where
-  pub own_none : accepted sub own ≡ []
-  pub beside_none : accepted sub beside ≡ []
+  pub own_none : (bits : ℕ) → accepted bits sub own ≡ []
+  pub beside_none : (bits : ℕ) → accepted bits sub beside ≡ []
 
 -- an event gives the same after such lines, in a network whose sessions are at such USIMs
 event_beside : (set : Setting) (early own beside done : List LineRecord) (net next : Net) (e : Event) (lines : List LineRecord) → AreOf (IsStill own beside) net.sessions
@@ -266,8 +266,8 @@ event_beside set early own beside done net next e lines still gives = record {
     by (Some p) still asked = record {
       row = asked.row;
       there = asked.there;
-      answers = subst (λ (past : Past). UsimNotes p.device.secret past p.challenge gives.told.notes.usim)
-          (same_past early own beside done asked.row p.delivery.session.sub still.own_none still.beside_none) asked.answers;
+      answers = subst (λ (past : Past). UsimNotes p.device.secret asked.row past p.challenge gives.told.notes.usim)
+          (same_past early own beside done asked.row p.delivery.session.sub (still.own_none asked.row.bits) (still.beside_none asked.row.bits)) asked.answers;
       decrypts = asked.decrypts;
     }
 
@@ -304,8 +304,8 @@ give_beside set early own beside done who n lines still gives = record {
   there = gives.there;
   answer = gives.answer;
   lines_are = gives.lines_are;
-  given = subst (λ (past : Past). IsGiven (is_released (place early own done) who n) past n gives.answer)
-      (same_past early own beside done gives.row who still.own_none still.beside_none) gives.given;
+  given = subst (λ (past : Past). IsGiven gives.row (is_released (place early own done) who n) past n gives.answer)
+      (same_past early own beside done gives.row who (still.own_none gives.row.bits) (still.beside_none gives.row.bits)) gives.given;
 }
 
 -- so does what follows a vector
@@ -341,7 +341,7 @@ line_beside : (set : Setting) (early own beside done : List LineRecord) (net nex
     → AreOf (IsStill own beside) net.sessions → LineGives set (place early own done) net l lines next
     → LineGives set (place early beside done) net l lines next × AreOf (IsStill own beside) next.sessions
 line_beside set early own beside done net next (line.Draw who count) lines held still gives = (gives, subst (λ (w : Net). AreOf (IsStill own beside) w.sessions) (sym gives.1) still)
-line_beside set early own beside done net next (line.Sync who seq bit count) lines held still gives = (gives, subst (λ (w : Net). AreOf (IsStill own beside) w.sessions) (sym gives.1) still)
+line_beside set early own beside done net next (line.Sync who report count) lines held still gives = (gives, subst (λ (w : Net). AreOf (IsStill own beside) w.sessions) (sym gives.1) still)
 line_beside set early own beside done net next (line.Give who n) lines held still (gives, is) =
     ((give_beside set early own beside done who n lines (held who (eq-eqb who who refl)) gives, is), subst (λ (w : Net). AreOf (IsStill own beside) w.sessions) (sym is) still)
 line_beside set early own beside done net next (line.Eps who snid) lines held still gives = (gives, subst (λ (w : Net). AreOf (IsStill own beside) w.sessions) (sym gives.1) still)
@@ -398,14 +398,14 @@ jobs_beside set early kept beside (job ∷ jobs) [] nets apart still give = absu
 jobs_beside set early kept beside (job ∷ jobs) (piece ∷ pieces) [] apart still give = absurd give
 jobs_beside set early kept beside (job ∷ jobs) (piece ∷ pieces) (net ∷ nets) apart still (quiet, gives, more) = (
   job_beside set early piece.earlier beside [] (start_of set kept job) net job piece.lines
-      (λ sub is. record { own_none = quiet sub is; beside_none = All-head (IsQuiet beside) job jobs still sub is }) (All-nil (λ s. IsStill piece.earlier beside s.sub)) gives,
+      (λ sub is. record { own_none = λ bits. quiet bits sub is; beside_none = λ bits. All-head (IsQuiet beside) job jobs still bits sub is }) (All-nil (λ s. IsStill piece.earlier beside s.sub)) gives,
   jobs_beside set early kept (beside ++ piece.lines) jobs pieces nets (AllPairs-tail AreApart job jobs apart)
       (all_from_both (IsQuiet beside) (AreApart job) (IsQuiet (beside ++ piece.lines)) jobs
-      (λ other was far sub to. accepted-append sub beside piece.lines ∙ ap (λ (sqns : List (List ℕ)). sqns ++ accepted sub piece.lines) (was sub to)
-      ∙ job_quiet set (place early piece.earlier []) kept job sub piece.lines net gives (not_given sub job other far to))
+      (λ other was far bits sub to. accepted-append bits sub beside piece.lines ∙ ap (λ (sqns : List (List ℕ)). sqns ++ accepted bits sub piece.lines) (was bits sub to)
+      ∙ job_quiet set (place early piece.earlier []) kept job bits sub piece.lines net gives (not_given sub job other far to))
       (All-tail (IsQuiet beside) job jobs still) (AllPairs-head AreApart job jobs apart)) more,
 )
 
 -- the same of a round
 pub jobs_give_after_all_lines : JobsGiveAfterAllLines
-jobs_give_after_all_lines set early kept jobs pieces nets apart give = jobs_beside set early kept [] jobs pieces nets apart (λ k d within sub to. refl) give
+jobs_give_after_all_lines set early kept jobs pieces nets apart give = jobs_beside set early kept [] jobs pieces nets apart (λ k d within bits sub to. refl) give

@@ -83,8 +83,9 @@ places_differ rows devices sub other place are found differ found_too =
 module _ (rows : List Row) (devices : List Device) (place sub : ℕ) (device card : Device) (rand autn : List ℕ) (answer : Answer)
     (are : AreSubscribers rows) (there : slice_get devices place ≡ Some device) (found : device_place rows (map subscription_of devices) sub ≡ Some place)
     (same : subscription_of card ≡ subscription_of device)
-    (answers : (past : Past) → Remembers device.usim.array past → IsAnswer device.usim.secret past rand autn answer)
-    (past : (past : Past) → Remembers device.usim.array past → Remembers card.usim.array (past_after_answer past answer)) where
+    (answers : (past : Past) → Remembers device.usim.array past → IsAnswer device.usim.secret device.usim.array.bits device.usim.array.age past rand autn answer)
+    (past : (past : Past) → Remembers device.usim.array past → Remembers card.usim.array (past_after_answer device.usim.array.bits past answer))
+    (bits : card.usim.array.bits ≡ device.usim.array.bits) (age : card.usim.array.age ≡ device.usim.array.age) where
   alike : map subscription_of (slice_set devices place card) ≡ map subscription_of devices
   alike = map_same subscription_of devices place device card there same
 
@@ -105,6 +106,8 @@ module _ (rows : List Row) (devices : List Device) (place sub : ℕ) (device car
     answers = answers;
     past = past;
     secret = ap (λ (s : Subscription). s.secret) same;
+    bits = bits;
+    age = age;
   }
 
 -- a device whose USIM has the same secret

@@ -10,7 +10,7 @@ pub use Rattle.auc_world.proofs.HomeLemmas.{homes_alike}
 pub use Rattle.auc_world.proofs.HomeMoveLemmas.{place_stays, waiting_stays}
 pub use Rattle.auc_world.proofs.JobLemmas.{moved_releases, number_of_line, numbers_in, of_sub, of_sub-append}
 pub use Rattle.auc_world.proofs.JobRunLemmas.{IsKnown, IsOfJob, counted_once, job_runs, number_counts}
-pub use Rattle.auc_world.proofs.LimitLemmas.{get_or-greater, length-opened, opened_above}
+pub use Rattle.auc_world.proofs.LimitLemmas.{get_or-greater, get_or-lesser, get_or-reopened, length-opened, length-reopened, opened_above, opened_at, opened_within, reopened_within}
 pub use Rattle.auc_world.proofs.NetLemmas.{AreAt, IsPresentedAt, OpensAt, places_stay, presented_is_at}
 pub use Rattle.auc_world.proofs.PastLemmas.{each_accepted_in_past}
 pub use Rattle.auc_world.proofs.PeerMoveLemmas.{Counts, IsNamed, IsQuiet, giving_up_counts, new_is_quiet, taken_in, turn_counts}

@@ -125,7 +125,7 @@ plain_runs set before w next session (line ∷ lines) (mid, first, more) =
 
 line_runs : (set : Setting) (before : Before) (w next : Net) (l : Line) (lines : List LineRecord) → LineGives set before w l lines next → Runs set w next lines
 line_runs set before w next (line.Draw sub count) lines (gives, is) = stands set w next lines is
-line_runs set before w next (line.Sync sub seq bit count) lines (gives, is) = stands set w next lines is
+line_runs set before w next (line.Sync sub report count) lines (gives, is) = stands set w next lines is
 line_runs set before w next (line.Give sub n) lines (gives, is) = stands set w next lines is
 line_runs set before w next (line.Eps sub snid) lines (gives, is) = stands set w next lines is
 line_runs set before w next (line.Fiveg l) lines (gives, is) = stands set w next lines is
@@ -215,7 +215,7 @@ pub record IsOfJob (set : Setting) (net : Net) (lines : List LineRecord) : Type 
   pub counts : (sub n : ℕ) → times n (of_sub sub net.released) ≤ times n (numbers_of sub lines)
   pub known : All (IsKnown set) net.released
   pub sized : AreSized net.homes
-  pub holds : AreReleasedOnce net.released → net.broken ≡ None → HoldsOf set net × AgainOf set net
+  pub holds : AreReleasedOnce set.rows net.released → net.broken ≡ None → HoldsOf set net × AgainOf set net
 
 pub job_runs : AllLaws → (set : Setting) (before : Before) (kept : List Kept) (job : List Line) (lines : List LineRecord) (net : Net) → AreSubscribers set.rows → IsRealm set.realm
     → AreSized (start_of set kept job).homes → JobGives set before (start_of set kept job) job lines net → IsOfJob set net lines
@@ -227,7 +227,7 @@ job_runs laws set before kept job lines net are realm sized gives =
       sized = subst (λ (v : Net). AreSized v.homes) (sym runs.leads) (run_is_sized set (start_of set kept job) runs.happenings sized (record { packets = refl; sessions = refl }));
       holds = λ once unbroken. subst (λ (v : Net). HoldsOf set v × AgainOf set v) (sym runs.leads)
           (unbroken_run_holds laws set (start_of set kept job) runs.happenings are realm (job_has_secrets set kept job are) sized (record { packets = refl; sessions = refl }) runs.told
-          (subst (λ (v : Net). AreReleasedOnce v.released) runs.leads once) (subst (λ (v : Net). v.broken ≡ None) runs.leads unbroken));
+          (subst (λ (v : Net). AreReleasedOnce set.rows v.released) runs.leads once) (subst (λ (v : Net). v.broken ≡ None) runs.leads unbroken));
     }
 
 -- ---- released once

@@ -24,6 +24,7 @@ mod RunLemmas
 mod SimLemmas
 mod SitesLemmas
 mod SitesExamples
+mod UsimExamples
 mod JobRunLemmas
 mod PlaceLemmas
 mod HomeMoveLemmas

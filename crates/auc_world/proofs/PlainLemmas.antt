@@ -115,10 +115,10 @@ begins [] mac two = absurd (omega (arith, two))
 begins (x ∷ rest) mac two = refl
 
 -- AMF stands behind the six bytes of the masked SQN in AUTN
-amf_at : (k opc rand amf : List ℕ) (n : ℕ) → IsBlock k → IsBlock opc → length amf ≡ 2 → slice_index (autn_of k opc rand amf n) 6 ≡ slice_index amf 0
+amf_at : (k opc rand amf : List ℕ) (bits n : ℕ) → IsBlock k → IsBlock opc → length amf ≡ 2 → slice_index (autn_of k opc rand amf bits n) 6 ≡ slice_index amf 0
 unfolding autn_of
-amf_at k opc rand amf n hk ho two =
-    let sqn = sqn_bytes n in
+amf_at k opc rand amf bits n hk ho two =
+    let sqn = sqn_bytes bits n in
     let six : length sqn ≡ 6 = refl in
     let ak = f5 k opc rand in
     let masked : length (xor sqn ak) ≡ 6 = length_xor sqn ak (six ∙ sym (f5_size k opc rand hk ho)) ∙ six in
@@ -169,14 +169,14 @@ taken set opening number s home keeps id synced syncs next of c seen received ar
     let rand_is = rand_block set.key s.sub c.n in
     let block : IsBlock keys.k_encr = k_encr_block opening.method c.text v.ik v.ck in
     let draft = challenge_draft o set.realm id v.rand v.autn keys.k_encr c.given check in
-    let may = challenge_may o set.realm id v.rand v.autn keys.k_encr c.given check of.suits.short rand_is.size (autn_size home.secret.k home.secret.opc v.rand home.amf c.n row.key row.operator rand_is row.management)
+    let may = challenge_may o set.realm id v.rand v.autn keys.k_encr c.given check of.suits.short rand_is.size (autn_size home.secret.k home.secret.opc v.rand home.amf home.bits c.n row.key row.operator rand_is row.management)
     (names_fit of.laws.may_be_hidden set.realm keys.k_encr c.given of.realm.short of.realm.bytes block c.names) (checkcode_hash opening.method c.packets) in
     let read = reads_sealed of.laws keys.k_aut draft seen may (challenge_values opening.method opening.name opening.bidding set.realm v.rand v.autn keys.k_encr c.given check) received
     (are ∙ challenge_is o set.realm id v keys c.given check) in (
       draft_mac keys.k_aut [] draft,
       record {
         waits = c.waits;
-        passes = passes_by opening.method opening home.amf v.autn of.suits.by (amf_at home.secret.k home.secret.opc v.rand home.amf c.n row.key row.operator row.management);
+        passes = passes_by opening.method opening home.amf v.autn of.suits.by (amf_at home.secret.k home.secret.opc v.rand home.amf home.bits c.n row.key row.operator row.management);
         is = read.0;
         first = ap (λ (l : List ℕ). slice_index l 0) are ∙ first_byte o set.realm id v keys c.given check;
         second = ap (λ (l : List ℕ). slice_index l 1) are ∙ second_byte o set.realm id v keys c.given check;
@@ -204,8 +204,8 @@ answers set opening number s home keeps id synced syncs next of c =
     let (mac, h) = taken set opening number s home keeps id synced syncs next of c seen took.received took.are in
     let row_is = challenged_row opening device c.p seen c.text c.packets id set.realm v.rand v.autn c.given mac keys h in
     let same = ap (λ (r : PeerRow). kept_by r c.p None keeps) row_is in
-    let usim_is : UsimNotes home.secret took.past (Some (of_vector v.rand v.autn)) told.notes.usim =
-    subst (λ (r : PeerRow). UsimNotes home.secret took.past (asked r) told.notes.usim) row_is took.usim in
+    let usim_is : UsimNotes home.secret took.row took.past (Some (of_vector v.rand v.autn)) told.notes.usim =
+    subst (λ (r : PeerRow). UsimNotes home.secret took.row took.past (asked r) told.notes.usim) row_is took.usim in
     let decrypts : Decrypts (decryption_noted device c.p seen (Some (of_vector v.rand v.autn)) told.notes.usim) told.inner =
     subst (λ (r : PeerRow). Decrypts (decryption_made device keeps c.p seen r told.notes.usim) told.inner) row_is took.decrypts in
     ⊎_elim
@@ -234,7 +234,7 @@ answers set opening number s home keeps id synced syncs next of c =
           (packet_text (sync_failure opening.method id (auts home.secret.k home.secret.opc v.rand b.0))) false (record { resumed = refl; drawn = refl; taken = refl }) same
           (ap (λ (o : Option UsimNote). peer_step set.key device keeps c.p seen o told.inner) b.1 ∙ r.turn_is) (omega (arith, one));
     }))
-    (usim_answers of.laws home.secret took.past v.rand home.amf c.n told.notes.usim row.key row.operator row.management usim_is)
+    (usim_answers of.laws home.secret took.row took.past v.rand home.amf home.bits c.n told.notes.usim row.key row.operator row.management usim_is)
 
 -- ---- the second challenge
 
@@ -251,7 +251,7 @@ challenged_again set opening number s home keeps id next of c r =
     let took = server_takes set Late number (with_ends s c.q r.p) device keeps (packet_text (sync_failure opening.method id answer)) c.q 0 next refl r.way in
     let told = took.told in
     let is = reads_itself of.laws told.seen (sync_failure opening.method id answer) (sync_may opening.method id answer long) (sync_values opening.method id answer) took.received took.are in
-    let d = challenges_again of.laws set took.homes c.q told.seen told.reply o s.sub home c.text id c.n c.packets r.sqn told.notes c.awaits of.there row.key row.operator r.six is took.centre took.spare.given took.spare.near in
+    let d = challenges_again of.laws set took.homes c.q told.seen told.reply o s.sub home c.text id c.n c.packets r.sqn told.notes c.awaits of.there row.key row.operator r.six is took.centre took.notes took.spare.given took.spare.resolved in
     record {
       q = d.q;
       p = r.p;

@@ -21,6 +21,7 @@ use Rattle.auc_server.specs.declared.setting.HomeRow.{HomeRow}
 use Rattle.auc_server.specs.declared.why.ServerWhy.{ServerWhy}
 use Rattle.auc_released.specs.declared.numbers.Number.{Number}
 use Rattle.auc_sqn.specs.Past.{Past}
+use Rattle.auc_subs.specs.declared.row.Row.{Row}
 use Rattle.auc_vector.specs.Notes.{Asking}
 use Rattle.auc_vector.specs.declared.notes.Notes.{Notes}
 use Rattle.auc_vector.specs.declared.turn.Step.{Step}
@@ -155,8 +156,9 @@ pub record PeerTook (set : Setting) (stage : Stage) (number : ℕ) (s : Session)
   pub told : Told
   pub received : IsReceived told.seen
   pub are : told.seen.bytes ≡ bytes
+  pub row : Row
   pub past : Past
-  pub usim : UsimNotes device.secret past (asked (peer_row s.peer told.seen)) told.notes.usim
+  pub usim : UsimNotes device.secret row past (asked (peer_row s.peer told.seen)) told.notes.usim
   pub decrypts : Decrypts (decryption_made device keeps s.peer told.seen (peer_row s.peer told.seen) told.notes.usim) told.inner
   pub notes : told.notes ≡ (peer_step set.key device keeps s.peer told.seen told.notes.usim told.inner).1.notes
   pub e : Event
@@ -232,6 +234,7 @@ peer_takes_all set stage number s device keeps bytes syncs next o = by o.lines o
             told = told;
             received = received.0;
             are = received.1 ∙ o.are;
+            row = usim.row;
             past = past_before o.before usim.row s.sub;
             usim = usim.answers;
             decrypts = usim.decrypts;

@@ -94,7 +94,7 @@ past_read sub (auts.SeqMs seq) = tt
 
 past_row_of : (sent : Challenged) (answer : List ℕ) (home : Option rows.Row) → IsPast (read_by sent answer home)
 past_row_of sent answer None = tt
-past_row_of sent answer (Some home) = past_read sent.sub (read_auts_of home.secret sent.vector.rand answer)
+past_row_of sent answer (Some home) = past_read sent.sub (read_auts_of home.secret sent.vector.rand answer home.bits)
 
 past_auts : (set : Setting) (sent : Challenged) (answer : Option (List ℕ)) → IsPast (on_auts set sent answer)
 past_auts set sent None = tt

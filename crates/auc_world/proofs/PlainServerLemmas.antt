@@ -1,5 +1,5 @@
 -- For plain sessions: the turns of a server, from the Identity response to Success.
-use Rattle.std.proofs.Common.{◌≡◌, ℕ, ◌==◌, Bool, true, false, not, if◌then◌else◌, List, [], ◌∷◌, length, Option, Some, None, slice_get, refl, sym, ap, ◌∙◌, subst, eq-eqb}
+use Rattle.std.proofs.Common.{◌≡◌, ℕ, ◌==◌, nat_le, Bool, true, false, not, if◌then◌else◌, List, [], ◌∷◌, length, Option, Some, None, slice_get, refl, sym, ap, ◌∙◌, subst, eq-eqb}
 use Rattle.std.proofs.lemmas.Slice.Eq.{bytes_eq-Decides}
 use Rattle.std.specs.Str.{bytes_eq}
 use Rattle.auc_aes.specs.Bytes.{IsBlock}
@@ -49,11 +49,14 @@ use Rattle.auc_server.specs.declared.server.ServerState.{ServerState}
 use Rattle.auc_server.specs.declared.server.ServerState.TheVariants as state
 use Rattle.auc_server.specs.declared.setting.HomeRow.{HomeRow}
 use Rattle.auc_server.specs.declared.why.ServerWhy.{ServerWhy}
-use Rattle.auc_sqn.specs.Number.{seq_of}
+use Rattle.auc_sqn.specs.Number.{seq_of, top_of}
 use Rattle.auc_subs.specs.declared.row.Row as rows
+use Rattle.auc_vector.specs.Auts.{read_auts_of}
 use Rattle.auc_vector.specs.Keys.{keys_of}
 use Rattle.auc_random.specs.Random.{rand_of}
 use Rattle.auc_vector.specs.Vector.{vector_of}
+use Rattle.auc_vector.specs.declared.auts.Auts.{Auts}
+use Rattle.auc_vector.specs.declared.auts.Auts.TheVariants as read
 use Rattle.auc_vector.specs.declared.notes.Notes.{Notes}
 use Rattle.auc_vector.specs.declared.notes.NumberNote.{NumberNote}
 use Rattle.auc_vector.specs.declared.notes.NumberNote.TheVariants as number
@@ -67,13 +70,13 @@ use Rattle.auc_vector.specs.declared.turn.Turn.{Turn}
 use Rattle.auc_world.proofs.PlainKeyLemmas.{AreNewNames, name_named, names_are, nonce_block}
 use Rattle.auc_world.proofs.PlainPacketLemmas.{Is, Laws, packet_there}
 use Rattle.auc_world.specs.Given.{IsCentreAsked, IsNumberAnswer, NumberFollows, resync_note}
-use Rattle.auc_world.specs.Plain.{is_refused, is_too_far}
+use Rattle.auc_world.specs.Plain.{is_refused, is_unresolved}
 
 -- ---- a challenge
 
 -- the vector of a number, by the options of a server
 abbrev pub vector_for : Setting → ServerOptions → ℕ → rows.Row → ℕ → Vector
-vector_for set o sub home n = vector_of home.secret o.method home.amf o.name n (rand_of set.key sub n)
+vector_for set o sub home n = vector_of home.secret o.method home.amf o.name home.bits n (rand_of set.key sub n)
 
 -- its keys under an identity
 abbrev pub keys_under : ServerOptions → List ℕ → Vector → KeySet
@@ -112,7 +115,7 @@ true_false : ◌≡◌ {A = Bool} true false → ⊥
 true_false e = cc
 
 -- the centre gave a number
-challenges : (set : Setting) (homes : List HomeRow) (s : ServerEnd) (sub : ℕ) (home : rows.Row) (checked : Bool) (resynced : Option ResyncNote) (drawn : Option NumberNote) → slice_get set.rows sub ≡ Some home → IsNumberAnswer drawn
+challenges : (set : Setting) (homes : List HomeRow) (s : ServerEnd) (sub : ℕ) (home : rows.Row) (checked : Bool) (resynced : Option ResyncNote) (drawn : Option NumberNote) → slice_get set.rows sub ≡ Some home → IsNumberAnswer set sub drawn
     → is_refused drawn ≡ false → IsChallenge set s.options sub home s.identity (next_id s.id) s.synced s.packets (challenged set homes s sub checked resynced drawn)
 challenges set homes s sub home checked resynced None there answer fine = absurd answer
 challenges set homes s sub home checked resynced (Some (number.Exhausted w)) there answer fine = absurd (true_false fine)
@@ -442,11 +445,15 @@ sync_sound : (m : Method) (answer : List ℕ) → is_malformed subtype.Synchroni
 sync_sound method.Aka answer = refl
 sync_sound method.Prime answer = refl
 
--- the first one is resynchronised
-sync_row : Laws → (set : Setting) (homes : List HomeRow) (s : ServerEnd) (seen : Seen) (said : Reply) (o : ServerOptions) (sub : ℕ) (home : rows.Row) (text : List ℕ) (id n : ℕ) (packets : List (List ℕ)) (sqn : List ℕ)
-    → Awaits s o sub text id (vector_for set o sub home n) false packets → slice_get set.rows sub ≡ Some home → IsBlock home.secret.k → IsBlock home.secret.opc → length sqn ≡ 6
-    → Is seen (sync_failure o.method id (auts home.secret.k home.secret.opc (rand_of set.key sub n) sqn)) → server_row set homes s seen said ≡ row.Resynchronise sub (seq_of sqn)
-sync_row laws set homes s seen said o sub home text id n packets sqn w there hk ho six is =
+-- what the home network reads in the AUTS of an SQN, in answer to the RAND of a number
+abbrev read_for : Setting → ℕ → rows.Row → ℕ → List ℕ → Auts
+read_for set sub home n sqn = read_auts_of home.secret (rand_of set.key sub n) (auts home.secret.k home.secret.opc (rand_of set.key sub n) sqn) home.bits
+
+-- the AUTS of the first one is read
+sync_row : (set : Setting) (homes : List HomeRow) (s : ServerEnd) (seen : Seen) (said : Reply) (o : ServerOptions) (sub : ℕ) (home : rows.Row) (text : List ℕ) (id n : ℕ) (packets : List (List ℕ)) (sqn : List ℕ)
+    → Awaits s o sub text id (vector_for set o sub home n) false packets → slice_get set.rows sub ≡ Some home
+    → Is seen (sync_failure o.method id (auts home.secret.k home.secret.opc (rand_of set.key sub n) sqn)) → server_row set homes s seen said ≡ by_auts sub (read_for set sub home n sqn)
+sync_row set homes s seen said o sub home text id n packets sqn w there is =
     let v = vector_for set o sub home n in
     let answer = auts home.secret.k home.secret.opc (rand_of set.key sub n) sqn in
     let list = attr.Auts answer ∷ own_kdf o.method in
@@ -457,35 +464,51 @@ sync_row laws set homes s seen said o sub home text id n packets sqn w there hk 
     ∙ ap (λ (b : Bool). if b then row.Ignore reason.Malformed else if_challenged set s s.challenged seen kind list) (sync_sound o.method answer)
     ∙ ap (λ (c : Option Challenged). if_challenged set s c seen kind list) w.challenged_is
     ∙ ap (λ (b : Bool). if b then row.SecondSync else on_auts set sent (Some answer)) w.synced_is
-    ∙ ap (read_by sent answer) there ∙ ap (by_auts sub) (laws.auts home.secret (rand_of set.key sub n) sqn hk ho six)
+    ∙ ap (read_by sent answer) there
 
 -- the centre moved its number or left it, and gave a number
 challenges_after : (set : Setting) (homes : List HomeRow) (s : ServerEnd) (o : ServerOptions) (sub : ℕ) (home : rows.Row) (text : List ℕ) (id : ℕ) (v : Vector) (packets : List (List ℕ)) (found_so : Resynchronisation) (notes : Notes)
-    → Awaits s o sub text id v false packets → slice_get set.rows sub ≡ Some home → notes.resync ≡ Some (resync_note found_so) → NumberFollows found_so notes.number
-    → is_refused notes.number ≡ false → is_too_far notes.resync ≡ false
+    → Awaits s o sub text id v false packets → slice_get set.rows sub ≡ Some home → notes.resync ≡ Some (resync_note found_so) → NumberFollows set sub found_so notes.number
+    → is_refused notes.number ≡ false → is_unresolved notes.resync ≡ false
     → IsChallenge set o sub home text (next_id id) true packets (resynchronised set homes s sub notes.resync notes.number)
-challenges_after set homes s o sub home text id v packets (found.Beyond seen seq) notes w there resynced follows given near = absurd (true_false (sym (ap is_too_far resynced) ∙ near))
-challenges_after set homes s o sub home text id v packets (found.Moved seen seq) notes w there resynced follows given near =
+challenges_after set homes s o sub home text id v packets (found.Beyond seen seq) notes w there resynced follows given resolved = absurd (true_false (sym (ap is_unresolved resynced) ∙ resolved))
+challenges_after set homes s o sub home text id v packets (found.Moved seen seq) notes w there resynced follows given resolved =
     let note : Option ResyncNote = Some (resync.Moved seen seq) in
     challenges_by set o sub home text (next_id id) true packets (resynchronised set homes s sub notes.resync notes.number) (challenged set homes (resynchronising s) sub false note notes.number)
     (ap (λ (r : Option ResyncNote). resynchronised set homes s sub r notes.number) resynced)
     (challenges_as set (resynchronising s) o sub home text id true packets (challenged set homes (resynchronising s) sub false note notes.number) w.options_are w.identity_is w.id_is refl w.packets_are
     (challenges set homes (resynchronising s) sub home false note notes.number there follows given))
-challenges_after set homes s o sub home text id v packets (found.InRange seen seq) notes w there resynced follows given near =
+challenges_after set homes s o sub home text id v packets (found.InRange seen seq) notes w there resynced follows given resolved =
     let note : Option ResyncNote = Some (resync.InRange seen seq) in
     challenges_by set o sub home text (next_id id) true packets (resynchronised set homes s sub notes.resync notes.number) (challenged set homes (resynchronising s) sub false note notes.number)
     (ap (λ (r : Option ResyncNote). resynchronised set homes s sub r notes.number) resynced)
     (challenges_as set (resynchronising s) o sub home text id true packets (challenged set homes (resynchronising s) sub false note notes.number) w.options_are w.identity_is w.id_is refl w.packets_are
     (challenges set homes (resynchronising s) sub home false note notes.number there follows given))
 
+-- the AUTS of the subscriber's own USIM led to a number
 pub challenges_again : Laws → (set : Setting) (homes : List HomeRow) (s : ServerEnd) (seen : Seen) (said : Reply) (o : ServerOptions) (sub : ℕ) (home : rows.Row) (text : List ℕ) (id n : ℕ) (packets : List (List ℕ)) (sqn : List ℕ) (notes : Notes)
     → Awaits s o sub text id (vector_for set o sub home n) false packets → slice_get set.rows sub ≡ Some home → IsBlock home.secret.k → IsBlock home.secret.opc → length sqn ≡ 6
     → Is seen (sync_failure o.method id (auts home.secret.k home.secret.opc (rand_of set.key sub n) sqn)) → IsCentreAsked set (asking (server_row set homes s seen said)) notes
-    → is_refused notes.number ≡ false → is_too_far notes.resync ≡ false → IsChallenge set o sub home text (next_id id) true packets (server_step set homes s seen said notes)
-challenges_again laws set homes s seen said o sub home text id n packets sqn notes w there hk ho six is centre given near =
-    let row_is = sync_row laws set homes s seen said o sub home text id n packets sqn w there hk ho six is in
-    let asked = subst (λ (r : Row). IsCentreAsked set (asking r) notes) row_is centre in
-    let (before, resynced, follows) = asked.answers in
-    challenges_by set o sub home text (next_id id) true packets (server_step set homes s seen said notes) (resynchronised set homes s sub notes.resync notes.number)
-    (ap (λ (r : Row). server_does set homes s (text_in seen.reading) (packets_after s seen r) r notes) row_is)
-    (challenges_after set homes s o sub home text id (vector_for set o sub home n) packets (resynchronise_of before (seq_of sqn)) notes w there resynced follows given near)
+    → notes ≡ (server_step set homes s seen said notes).1.notes
+    → is_refused notes.number ≡ false → is_unresolved notes.resync ≡ false → IsChallenge set o sub home text (next_id id) true packets (server_step set homes s seen said notes)
+challenges_again laws set homes s seen said o sub home text id n packets sqn notes w there hk ho six is centre own given resolved = by (nat_le (seq_of home.bits sqn) (top_of home.bits)) read_is
+  where
+    read_as : Bool → Auts
+    read_as within = if within then read.SeqMs (seq_of home.bits sqn) else read.WrongMac
+
+    read_is : server_row set homes s seen said ≡ by_auts sub (read_as (nat_le (seq_of home.bits sqn) (top_of home.bits)))
+    read_is =
+        sync_row set homes s seen said o sub home text id n packets sqn w there is
+        ∙ ap (by_auts sub) (laws.auts home.secret (rand_of set.key sub n) sqn home.bits hk ho six)
+
+    by : (within : Bool) → server_row set homes s seen said ≡ by_auts sub (read_as within) → IsChallenge set o sub home text (next_id id) true packets (server_step set homes s seen said notes)
+    by false row_is =
+        let refused : notes ≡ noted (Some resync.BadAuts) None =
+        own ∙ ap (λ (r : Row). (server_does set homes s (text_in seen.reading) (packets_after s seen r) r notes).1.notes) row_is in
+        absurd (true_false (ap (λ (m : Notes). is_unresolved m.resync) (sym refused) ∙ resolved))
+    by true row_is =
+        let asked = subst (λ (r : Row). IsCentreAsked set (asking r) notes) row_is centre in
+        let (before, resynced, follows) = asked.answers in
+        challenges_by set o sub home text (next_id id) true packets (server_step set homes s seen said notes) (resynchronised set homes s sub notes.resync notes.number)
+        (ap (λ (r : Row). server_does set homes s (text_in seen.reading) (packets_after s seen r) r notes) row_is)
+        (challenges_after set homes s o sub home text id (vector_for set o sub home n) packets (resynchronise_of before (seq_of home.bits sqn)) notes w there resynced follows given resolved)

@@ -9,7 +9,7 @@ use Rattle.auc_vector.specs.declared.notes.Notes.{Notes}
 use Rattle.auc_world.specs.Agreement.{AreSized}
 use Rattle.auc_world.specs.Came.{Came}
 use Rattle.auc_world.specs.Event.{asked_in, number_in, number_released, resync_in, usim_in}
-use Rattle.auc_world.specs.Plain.{IsAskedFor, TellAnother, TellChallenge, TellNoCause, counter_accepted, counter_resumed, counter_taken, is_refused, is_too_far, results, sqn_reported}
+use Rattle.auc_world.specs.Plain.{IsAskedFor, TellAnother, TellChallenge, TellNoCause, counter_accepted, counter_resumed, counter_taken, is_refused, is_unresolved, results, sqn_reported}
 use Rattle.auc_world.specs.declared.event.Event.{Event}
 use Rattle.auc_world.specs.declared.event.Note.{Note}
 use Rattle.auc_world.specs.declared.record.LineRecord.{LineRecord}
@@ -27,7 +27,7 @@ pub data Stage : Type 0 where
 pub record TellNone (sub syncs : ℕ) (lines : List LineRecord) : Type 0 where
   pub own : All (λ came. IsAskedFor sub (asked_in came)) (results lines)
   pub given : All (λ came. is_refused (number_in came) ≡ false) (results lines)
-  pub near : All (λ came. is_too_far (resync_in came) ≡ false) (results lines)
+  pub resolved : All (λ came. is_unresolved (resync_in came) ≡ false) (results lines)
   pub once : length (flat_map (λ came. sqn_reported (usim_in came)) (results lines)) ≤ syncs
 
 -- what lines tell at a stage
@@ -45,11 +45,11 @@ IsSizedAt Late homes sub = Unit {0}
 IsSizedAt Free homes sub = Unit {0}
 
 pub at_first : (sub syncs : ℕ) (lines : List LineRecord) → TellNoCause sub syncs lines → TellSo Early sub syncs lines
-at_first sub syncs lines t = (record { own = t.own; given = t.given; near = t.near; once = t.once }, t.challenge)
+at_first sub syncs lines t = (record { own = t.own; given = t.given; resolved = t.resolved; once = t.once }, t.challenge)
 
 more : (sub few syncs : ℕ) (lines : List LineRecord) → few ≤ syncs → TellNone sub few lines → TellNone sub syncs lines
 more sub few syncs lines less t =
-    let once = t.once in record { own = t.own; given = t.given; near = t.near; once = omega (arith, once, less) }
+    let once = t.once in record { own = t.own; given = t.given; resolved = t.resolved; once = omega (arith, once, less) }
 
 -- a smaller number of synchronisation failures is one of them
 pub loosened : (stage : Stage) (sub few syncs : ℕ) (lines : List LineRecord) → few ≤ syncs → TellSo stage sub few lines → TellSo stage sub syncs lines
@@ -68,7 +68,7 @@ line_of e note = record_of.Event (record { event = e; result = Ok note })
 pub record Spared (sub syncs : ℕ) (asked : Option ℕ) (notes : Notes) (lines : List LineRecord) : Type 0 where
   pub own : IsAskedFor sub asked
   pub given : is_refused notes.number ≡ false
-  pub near : is_too_far notes.resync ≡ false
+  pub resolved : is_unresolved notes.resync ≡ false
   pub once : length (sqn_reported notes.usim) ≤ syncs
   pub later : TellNone sub (syncs - length (sqn_reported notes.usim)) lines
 
@@ -82,12 +82,12 @@ spared sub syncs e note lines t =
     record {
       own = All-head (λ (c : Came). IsAskedFor sub (asked_in c)) own rest t.own;
       given = All-head (λ (c : Came). is_refused (number_in c) ≡ false) own rest t.given;
-      near = All-head (λ (c : Came). is_too_far (resync_in c) ≡ false) own rest t.near;
+      resolved = All-head (λ (c : Came). is_unresolved (resync_in c) ≡ false) own rest t.resolved;
       once = omega (arith, long, once);
       later = record {
         own = All-tail (λ (c : Came). IsAskedFor sub (asked_in c)) own rest t.own;
         given = All-tail (λ (c : Came). is_refused (number_in c) ≡ false) own rest t.given;
-        near = All-tail (λ (c : Came). is_too_far (resync_in c) ≡ false) own rest t.near;
+        resolved = All-tail (λ (c : Came). is_unresolved (resync_in c) ≡ false) own rest t.resolved;
         once = omega (arith, long, once);
       };
     }

@@ -104,10 +104,10 @@ f5_star_size k opc rand hk ho =
 -- ---- AUTN and AUTS
 
 -- AUTN has 16 bytes
-pub autn_size : (k opc rand amf : List ℕ) (n : ℕ) → IsBlock k → IsBlock opc → IsBlock rand → length amf ≡ 2 → length (autn_of k opc rand amf n) ≡ 16
+pub autn_size : (k opc rand amf : List ℕ) (bits n : ℕ) → IsBlock k → IsBlock opc → IsBlock rand → length amf ≡ 2 → length (autn_of k opc rand amf bits n) ≡ 16
 unfolding autn_of
-autn_size k opc rand amf n hk ho hr two =
-    let sqn = sqn_bytes n in
+autn_size k opc rand amf bits n hk ho hr two =
+    let sqn = sqn_bytes bits n in
     let six : length sqn ≡ 6 = refl in
     let ak = f5 k opc rand in
     let mac = f1 k opc rand sqn amf in

@@ -7,8 +7,7 @@ use Rattle.auc_reauth.specs.declared.context.Context.{Context}
 use Rattle.auc_released.specs.declared.numbers.Number.{Number}
 use Rattle.auc_server.specs.Table.{vector_at}
 use Rattle.auc_server.specs.declared.server.Resumed.{Resumed}
-use Rattle.auc_sqn.specs.Number.{max_seq}
-use Rattle.auc_subs.specs.Subscriber.{AreSubscribers}
+use Rattle.auc_subs.specs.Subscriber.{AreSubscribers, top_at}
 use Rattle.auc_world.specs.Agreement.{AreOfOneChallenge, AreReleasedOnce, AreSized, AreTold, Happening, HaveSecrets, IsFresh, IsRealm, PeerWon, ServerWon, after}
 use Rattle.auc_world.specs.Net.{Net, inputs_accepted, inputs_of_peer}
 use Rattle.auc_world.specs.Resumption.{resumptions}
@@ -24,7 +23,7 @@ use Rattle.auc_world.proofs.PremiseLemmas.{honest_run}
 
 -- what holds of a network after an unbroken run from its beginning
 pub unbroken_run_holds : AllLaws → (set : Setting) (w : Net) (hs : List Happening) → AreSubscribers set.rows → IsRealm set.realm → HaveSecrets set w.devices → AreSized w.homes → IsFresh w
-    → AreTold set w hs → AreReleasedOnce (after set w hs).released → (after set w hs).broken ≡ None → HoldsOf set (after set w hs) × AgainOf set (after set w hs)
+    → AreTold set w hs → AreReleasedOnce set.rows (after set w hs).released → (after set w hs).broken ≡ None → HoldsOf set (after set w hs) × AgainOf set (after set w hs)
 unbroken_run_holds laws set w hs subscribers realm secrets sized new told once unbroken =
     both_hold laws set w hs subscribers realm told (honest_run set w hs unbroken).1 (begins set w secrets new) (begins_again set w sized new) once
 
@@ -93,10 +92,10 @@ peer_success_is_resumed set w b keys j again there won =
 
 -- inputs of one challenge are of one number, whichever jobs released it
 pub one_challenge_is_of_one_number : Laws → (set : Setting) (released others : List Number) (i j : FullInputs) → AreSubscribers set.rows
-    → All (λ number. number.n ≤ max_seq) released → All (λ number. number.n ≤ max_seq) others
+    → All (λ number. number.n ≤ top_at set.rows number.sub) released → All (λ number. number.n ≤ top_at set.rows number.sub) others
     → (d : IsDrawn set released i) → (e : IsDrawn set others j) → AreOfOneChallenge i j → d.n ≡ e.n
 one_challenge_is_of_one_number laws set released others i j subscribers within also_within d e alike =
-    let m = contained (λ (number : Number). number.n ≤ max_seq) released (record { sub = i.sub; n = d.n }) within d.is_in in
-    let n = contained (λ (number : Number). number.n ≤ max_seq) others (record { sub = j.sub; n = e.n }) also_within e.is_in in
+    let m = contained (λ (number : Number). number.n ≤ top_at set.rows number.sub) released (record { sub = i.sub; n = d.n }) within d.is_in in
+    let n = contained (λ (number : Number). number.n ≤ top_at set.rows number.sub) others (record { sub = j.sub; n = e.n }) also_within e.is_in in
     one_number laws set d.options e.options i.sub d.n e.n d.vector e.vector subscribers d.of_number (ap (λ (k : ℕ). vector_at set e.options k e.n) alike.sub ∙ e.of_number)
-    (sym d.rand ∙ alike.rand ∙ e.rand) (sym d.autn ∙ alike.autn ∙ e.autn) m n
+    (sym d.rand ∙ alike.rand ∙ e.rand) (sym d.autn ∙ alike.autn ∙ e.autn) m (subst (λ (k : ℕ). e.n ≤ top_at set.rows k) (sym alike.sub) n)

@@ -15,10 +15,10 @@ all_at P xs i x all there = subst P (get_or_from_slice_get xs i x x there) (all 
 
 -- a vector of a number that is made from a subscriber's row is the one of the row
 pub vector_of_row : (key : List ℕ) (rows : List Row) (sub n : ℕ) (source : Source) (vector : AuthVector) → AreOfRow key rows sub source
-    → vector ≡ vector_of source.secret method.Aka source.amf [] n (rand_of source.rands.key source.rands.sub n) → IsOfRow key rows sub n vector
+    → vector ≡ vector_of source.secret method.Aka source.amf [] source.bits n (rand_of source.rands.key source.rands.sub n) → IsOfRow key rows sub n vector
 vector_of_row key rows sub n source vector are made = record {
   row = are.row;
   there = are.there;
   is_row = are.is_row;
-  made = made ∙ ap (λ (s : Source). vector_of s.secret method.Aka s.amf [] n (rand_of s.rands.key s.rands.sub n)) are.made;
+  made = made ∙ ap (λ (s : Source). vector_of s.secret method.Aka s.amf [] s.bits n (rand_of s.rands.key s.rands.sub n)) are.made;
 }

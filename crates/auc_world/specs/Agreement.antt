@@ -14,8 +14,7 @@ use Rattle.auc_server.specs.Server.{ServerEnd}
 use Rattle.auc_server.specs.Setting.{Setting}
 use Rattle.auc_server.specs.declared.server.ServerState.TheVariants as state
 use Rattle.auc_server.specs.declared.setting.HomeRow.{HomeRow}
-use Rattle.auc_sqn.specs.Number.{max_seq}
-use Rattle.auc_subs.specs.Subscriber.{AreSubscribers}
+use Rattle.auc_subs.specs.Subscriber.{AreSubscribers, top_at}
 use Rattle.auc_subs.specs.declared.row.Row.{Row}
 use Rattle.auc_vector.specs.declared.turn.Outcome.TheVariants as outcome
 use Rattle.auc_world.specs.Came.{AreReceived, Presented, bytes_named, presented_by}
@@ -147,10 +146,10 @@ pub record IsSized (c : Context) : Type 0 where
 abbrev pub AreSized : List HomeRow → Type 0
 AreSized homes = (m : Method) (place : ℕ) (c : Context) → entry m (home_at homes place).store ≡ Some c → IsSized c
 
--- no number was released twice, and each is one that a vector may have
-pub record AreReleasedOnce (released : List Number) : Type 0 where
+-- no number was released twice, and each is one that a vector of its subscriber may have
+pub record AreReleasedOnce (rows : List Row) (released : List Number) : Type 0 where
   pub once : AllPairs ◌≢◌ released
-  pub numbers : All (λ number. number.n ≤ max_seq) released
+  pub numbers : All (λ number. number.n ≤ top_at rows number.sub) released
 
 -- inputs are of one challenge of a subscriber, under whatever identities
 pub record AreOfOneChallenge (i j : FullInputs) : Type 0 where
@@ -189,5 +188,5 @@ Agree w = (a b : Session) (k l : KeySet) (i j : Inputs) → Contains w.sessions 
 abbrev pub EachHonestRunAgrees : Type 0
 EachHonestRunAgrees = (set : Setting) (w : Net) (hs : List Happening) → AreSubscribers set.rows → IsRealm set.realm → HaveSecrets set w.devices
     → AreSized w.homes → IsFresh w → AreTold set w hs
-    → AreReleasedOnce (after set w hs).released → AreResumedOnce (resumptions (after set w hs).sessions)
+    → AreReleasedOnce set.rows (after set w hs).released → AreResumedOnce (resumptions (after set w hs).sessions)
     → (after set w hs).broken ≡ None → Agree (after set w hs)

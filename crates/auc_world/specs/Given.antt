@@ -17,14 +17,17 @@ use Rattle.auc_lines.specs.declared.part.End.TheVariants as end
 use Rattle.auc_lines.specs.declared.part.FivegLine.{FivegLine}
 use Rattle.auc_lines.specs.declared.part.Line.{Line}
 use Rattle.auc_lines.specs.declared.part.Line.TheVariants as line
+use Rattle.auc_lines.specs.declared.part.Report.{Report}
+use Rattle.auc_lines.specs.declared.part.Report.TheVariants as report_of
 use Rattle.auc_peer.specs.Asking.{answer_noted}
 use Rattle.auc_peer.specs.Turn.{Decrypts}
 use Rattle.auc_peer.specs.declared.peer.Challenge.{Challenge}
 use Rattle.auc_request.specs.Request.{is_separated}
-use Rattle.auc_sqn.specs.Number.{ind_of, max_seq, seq_of, sqn_bytes}
+use Rattle.auc_sqn.specs.Number.{ind_of, indices, seq_of, sqn_bytes}
 use Rattle.auc_sqn.specs.Past.{Past, opening_past, verdict_of, IsSqnMs}
 use Rattle.auc_sqn.specs.declared.verdict.Verdict.{Verdict}
-use Rattle.auc_sqn.specs.declared.verdict.Verdict.TheVariants.{Fresh, Old, Far}
+use Rattle.auc_sqn.specs.declared.verdict.Verdict.TheVariants.{Fresh, Old, Far, Aged}
+use Rattle.auc_subs.specs.Subscriber.{top_at}
 use Rattle.auc_subs.specs.declared.row.Row.{Row}
 use Rattle.auc_usim.specs.Usim.{IsAnswer}
 use Rattle.auc_vector.specs.Auts.{read_auts_of}
@@ -87,7 +90,13 @@ turned (Some bit) bytes = xor bytes (bit_mask (length bytes) bit)
 -- the AUTS of a USIM whose SQN_MS is that of a number, for the RAND of the subscriber's number 0, with one bit
 -- inverted if a bit is named
 abbrev pub auts_for : Setting → Row → ℕ → ℕ → Option ℕ → List ℕ
-auts_for set row sub seq bit = turned bit (auts row.secret.k row.secret.opc (rand_of set.key sub 0) (sqn_bytes seq))
+auts_for set row sub seq bit = turned bit (auts row.secret.k row.secret.opc (rand_of set.key sub 0) (sqn_bytes row.bits seq))
+
+-- what the AUTS of a report says by a row's secret for the RAND that it answers: of the subscriber's number 0, or the one that came
+-- with it
+abbrev pub said_by : Setting → Row → ℕ → Report → Auts
+said_by set row sub (report_of.Seq seq bit) = read_auts_of row.secret (rand_of set.key sub 0) (auts_for set row sub seq bit) row.bits
+said_by set row sub (report_of.Auts auts rand) = read_auts_of row.secret rand auts row.bits
 
 -- the line's verdict, as the resynchronisation found it
 abbrev pub verdict_for : Resynchronisation → SyncVerdict
@@ -107,14 +116,14 @@ VectorsFollow set sub count (verdict.InRange seen seq_ms) lines = DrawGives set 
 VectorsFollow set sub count (verdict.Beyond seen seq_ms) lines = lines ≡ []
 VectorsFollow set sub count verdict.WrongMac lines = lines ≡ []
 
--- what the AUTS of a USIM gives: the verdict, and what follows it
-pub record SyncGives (set : Setting) (sub seq : ℕ) (bit : Option ℕ) (count : ℕ) (lines : List LineRecord) : Type 0 where
+-- what the AUTS of a report gives: the verdict, and what follows it
+pub record SyncGives (set : Setting) (sub : ℕ) (report : Report) (count : ℕ) (lines : List LineRecord) : Type 0 where
   pub row : Row
   pub there : slice_get set.rows sub ≡ Some row
   pub answer : SyncVerdict
   pub more : List LineRecord
   pub lines_are : lines ≡ record_of.Sync sub answer ∷ more
-  pub verdict : IsVerdict (read_auts_of row.secret (rand_of set.key sub 0) (auts_for set row sub seq bit)) answer
+  pub verdict : IsVerdict (said_by set row sub report) answer
   pub follows : VectorsFollow set sub count answer more
 
 -- ---- give
@@ -127,29 +136,38 @@ is_in n numbers = list_any (λ m. m == n) numbers
 abbrev pub is_released : Before → ℕ → ℕ → Bool
 is_released before sub n = is_in n (numbers_of sub before.early) || is_in n (numbers_of sub before.own)
 
--- the past of a USIM: its opening, and the SQNs that it accepted since, the last one first
-abbrev pub past_of : ℕ → List (List ℕ) → Past
-past_of opening sqns = fold (λ past sqn. (seq_of sqn, ind_of sqn) ∷ past) (opening_past opening) sqns
+-- the past of a USIM whose index has so many bits: its opening, and the SQNs that it accepted since, the last one first
+abbrev pub past_of : ℕ → ℕ → List (List ℕ) → Past
+past_of bits opening sqns = fold (λ past sqn. (seq_of bits sqn, ind_of bits sqn) ∷ past) (opening_past bits opening) sqns
 
 -- a USIM's past has each SQN that it accepted
 abbrev pub EachAcceptedSqnIsInThePast : Type 0
-EachAcceptedSqnIsInThePast = (opening : ℕ) (sqns : List (List ℕ)) → All (λ sqn. Contains (past_of opening sqns) (seq_of sqn, ind_of sqn)) sqns
+EachAcceptedSqnIsInThePast = (bits opening : ℕ) (sqns : List (List ℕ))
+    → All (λ sqn. Contains (past_of bits opening sqns) (seq_of bits sqn, ind_of bits sqn)) sqns
 
--- the past of a subscriber's USIM by all lines before
+-- the past of a subscriber's USIM by some lines, and by all lines before
+abbrev pub past_by : Row → ℕ → List LineRecord → Past
+past_by row sub lines = past_of row.bits row.usim (accepted row.bits sub lines)
+
 abbrev pub past_before : Before → Row → ℕ → Past
-past_before before row sub = past_of row.usim (accepted sub (before.early ++ before.beside ++ before.own))
+past_before before row sub = past_by row sub (before.early ++ before.beside ++ before.own)
 
 -- a USIM's answer to the vector of a number, by its verdict on the number's SQN: a synchronisation failure
 -- carries SQN_MS
-abbrev pub UsimAnswers : Verdict → Past → GiveVerdict → Type 0
-UsimAnswers Fresh past answer = answer ≡ given.Accepted
-UsimAnswers (Old entry) past answer = (sqn_ms : List ℕ) × IsSqnMs past sqn_ms × (answer ≡ given.Sync sqn_ms)
-UsimAnswers (Far greatest) past answer = (sqn_ms : List ℕ) × IsSqnMs past sqn_ms × (answer ≡ given.Sync sqn_ms)
+abbrev pub UsimAnswers : ℕ → Verdict → Past → GiveVerdict → Type 0
+UsimAnswers bits Fresh past answer = answer ≡ given.Accepted
+UsimAnswers bits (Old entry) past answer = (sqn_ms : List ℕ) × IsSqnMs bits past sqn_ms × (answer ≡ given.Sync sqn_ms)
+UsimAnswers bits (Far greatest) past answer = (sqn_ms : List ℕ) × IsSqnMs bits past sqn_ms × (answer ≡ given.Sync sqn_ms)
+UsimAnswers bits (Aged greatest) past answer = (sqn_ms : List ℕ) × IsSqnMs bits past sqn_ms × (answer ≡ given.Sync sqn_ms)
 
--- the answer when a vector is presented: absent, if the centre hasn't released it
-abbrev pub IsGiven : Bool → Past → ℕ → GiveVerdict → Type 0
-IsGiven false past n answer = answer ≡ given.Absent
-IsGiven true past n answer = UsimAnswers (verdict_of past n (n % 32)) past answer
+-- the verdict of a row's USIM on the SQN of a number
+abbrev pub verdict_by : Row → Past → ℕ → Verdict
+verdict_by row past n = verdict_of row.age past n (n % indices row.bits)
+
+-- the answer when a vector is presented to a row's USIM: absent, if the centre hasn't released it
+abbrev pub IsGiven : Row → Bool → Past → ℕ → GiveVerdict → Type 0
+IsGiven row false past n answer = answer ≡ given.Absent
+IsGiven row true past n answer = UsimAnswers row.bits (verdict_by row past n) past answer
 
 -- what presenting a number's vector to its subscriber's USIM gives
 pub record GiveGives (set : Setting) (before : Before) (sub n : ℕ) (lines : List LineRecord) : Type 0 where
@@ -157,7 +175,7 @@ pub record GiveGives (set : Setting) (before : Before) (sub n : ℕ) (lines : Li
   pub there : slice_get set.rows sub ≡ Some row
   pub answer : GiveVerdict
   pub lines_are : lines ≡ record_of.Give sub n answer ∷ []
-  pub given : IsGiven (is_released before sub n) (past_before before row sub) n answer
+  pub given : IsGiven row (is_released before sub n) (past_before before row sub) n answer
 
 -- ---- EPS and 5G
 
@@ -174,7 +192,7 @@ EpsGives set sub snid lines = OneGives set sub (λ n rest. rest ≡ map (kasme_l
 abbrev pub device_of_row : Row → ℕ → List ℕ → List ℕ → DeviceKeys
 device_of_row row n rand name =
     device_of (f2 row.secret.k row.secret.opc rand) (f3 row.secret.k row.secret.opc rand) (f4 row.secret.k row.secret.opc rand)
-    (f5 row.secret.k row.secret.opc rand) (sqn_bytes n) rand name
+    (f5 row.secret.k row.secret.opc rand) (sqn_bytes row.bits n) rand name
 
 -- what the networks make of RES* that reaches them: the serving network compares HRES*, and then the home network RES*
 abbrev pub outcome_of : HomeKeys → DeviceKeys → List ℕ → FivegOutcome
@@ -221,15 +239,15 @@ FivegGives set before line lines =
 
 -- ---- events of sessions
 
--- the centre's answer to a draw is a number that a vector may have, or the word of a spent subscriber
-abbrev pub IsNumberNote : NumberNote → Type 0
-IsNumberNote (number.Drew n) = (1 ≤ n) × (n ≤ max_seq)
-IsNumberNote (number.Exhausted word) = max_seq ≤ word
-IsNumberNote (number.Withheld n stop) = (1 ≤ n) × (n ≤ max_seq)
+-- the centre's answer to a draw for a subscriber is a number that a vector may have, or the word of a spent subscriber
+abbrev pub IsNumberNote : Setting → ℕ → NumberNote → Type 0
+IsNumberNote set sub (number.Drew n) = (1 ≤ n) × (n ≤ top_at set.rows sub)
+IsNumberNote set sub (number.Exhausted word) = top_at set.rows sub ≤ word
+IsNumberNote set sub (number.Withheld n stop) = (1 ≤ n) × (n ≤ top_at set.rows sub)
 
-abbrev pub IsNumberAnswer : Option NumberNote → Type 0
-IsNumberAnswer None = ⊥
-IsNumberAnswer (Some note) = IsNumberNote note
+abbrev pub IsNumberAnswer : Setting → ℕ → Option NumberNote → Type 0
+IsNumberAnswer set sub None = ⊥
+IsNumberAnswer set sub (Some note) = IsNumberNote set sub note
 
 -- the note of a resynchronisation
 abbrev pub resync_note : Resynchronisation → ResyncNote
@@ -238,38 +256,39 @@ resync_note (found.InRange seen seq_ms) = resync.InRange seen seq_ms
 resync_note (found.Beyond seen seq_ms) = resync.Beyond seen seq_ms
 
 -- what follows it: a number is asked for, if the centre's number moved or is in range
-abbrev pub NumberFollows : Resynchronisation → Option NumberNote → Type 0
-NumberFollows (found.Moved seen seq_ms) answer = IsNumberAnswer answer
-NumberFollows (found.InRange seen seq_ms) answer = IsNumberAnswer answer
-NumberFollows (found.Beyond seen seq_ms) answer = answer ≡ None
+abbrev pub NumberFollows : Setting → ℕ → Resynchronisation → Option NumberNote → Type 0
+NumberFollows set sub (found.Moved seen seq_ms) answer = IsNumberAnswer set sub answer
+NumberFollows set sub (found.InRange seen seq_ms) answer = IsNumberAnswer set sub answer
+NumberFollows set sub (found.Beyond seen seq_ms) answer = answer ≡ None
 
 -- the centre answered a request for a number, after a SEQ was reported or without one
-abbrev pub CentreAnswers : Option ℕ → Notes → Type 0
-CentreAnswers None notes = IsNumberAnswer notes.number
-CentreAnswers (Some seq_ms) notes = (seen : ℕ) × (notes.resync ≡ Some (resync_note (resynchronise_of seen seq_ms)))
-    × NumberFollows (resynchronise_of seen seq_ms) notes.number
+abbrev pub CentreAnswers : Setting → ℕ → Option ℕ → Notes → Type 0
+CentreAnswers set sub None notes = IsNumberAnswer set sub notes.number
+CentreAnswers set sub (Some seq_ms) notes = (seen : ℕ) × (notes.resync ≡ Some (resync_note (resynchronise_of seen seq_ms)))
+    × NumberFollows set sub (resynchronise_of seen seq_ms) notes.number
 
 -- if it was asked, for a subscriber that there is
 pub record AsksCentre (set : Setting) (request : Asking) (notes : Notes) : Type 0 where
   pub known : request.sub < length set.rows
-  pub answers : CentreAnswers request.reported notes
+  pub answers : CentreAnswers set request.sub request.reported notes
 
 abbrev pub IsCentreAsked : Setting → Option Asking → Notes → Type 0
 IsCentreAsked set None notes = Unit {0}
 IsCentreAsked set (Some request) notes = AsksCentre set request notes
 
--- a USIM answered what it was handed, by its past, as the note tells
-abbrev pub UsimNotes : Secret → Past → Option Challenge → Option UsimNote → Type 0
-UsimNotes secret past None note = note ≡ None
-UsimNotes secret past (Some challenge) None = ⊥
-UsimNotes secret past (Some challenge) (Some note) = IsAnswer secret past challenge.rand challenge.autn (answer_noted secret challenge note)
+-- a row's USIM with a secret answered what it was handed, by its past, as the note tells
+abbrev pub UsimNotes : Secret → Row → Past → Option Challenge → Option UsimNote → Type 0
+UsimNotes secret row past None note = note ≡ None
+UsimNotes secret row past (Some challenge) None = ⊥
+UsimNotes secret row past (Some challenge) (Some note) =
+    IsAnswer secret row.bits row.age past challenge.rand challenge.autn (answer_noted secret challenge note)
 
 -- the device of a session's subscriber received a packet: its USIM answered, by all that it had accepted; and what was
 -- decrypted is what was encrypted
 pub record AsksUsim (set : Setting) (before : Before) (p : Presented) (told : Told) : Type 0 where
   pub row : Row
   pub there : slice_get set.rows p.delivery.session.sub ≡ Some row
-  pub answers : UsimNotes p.device.secret (past_before before row p.delivery.session.sub) p.challenge told.notes.usim
+  pub answers : UsimNotes p.device.secret row (past_before before row p.delivery.session.sub) p.challenge told.notes.usim
   pub decrypts : Decrypts p.decryption told.inner
 
 abbrev pub IsUsimAsked : Setting → Before → Option Presented → Told → Type 0
@@ -321,7 +340,7 @@ PlainGives set before net session (line ∷ lines) next = (mid : Net) × EventGi
 -- what a line of a job gives, in the job's network, and the network after it
 abbrev pub LineGives : Setting → Before → Net → Line → List LineRecord → Net → Type 0
 LineGives set before net (line.Draw sub count) lines next = DrawGives set sub count lines × (next ≡ net)
-LineGives set before net (line.Sync sub seq bit count) lines next = SyncGives set sub seq bit count lines × (next ≡ net)
+LineGives set before net (line.Sync sub report count) lines next = SyncGives set sub report count lines × (next ≡ net)
 LineGives set before net (line.Give sub n) lines next = GiveGives set before sub n lines × (next ≡ net)
 LineGives set before net (line.Eps sub snid) lines next = EpsGives set sub snid lines × (next ≡ net)
 LineGives set before net (line.Fiveg line) lines next = FivegGives set before line lines × (next ≡ net)

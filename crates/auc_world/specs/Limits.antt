@@ -1,7 +1,8 @@
 -- Limits: up to which number a subscriber's numbers are reserved, and where a round that goes by limits opens the
 -- subscribers.
-use Rattle.std.specs.Prelude.{◌≡◌, ℕ, ◌+◌, ◌<◌, ◌≤◌, ◌⊎◌, max, List, [], ◌∷◌, length, map, All, slice_index}
+use Rattle.std.specs.Prelude.{◌≡◌, ℕ, ◌+◌, ◌<◌, ◌≤◌, ◌⊎◌, max, min, List, [], ◌∷◌, length, map, All, slice_index}
 use Rattle.auc_sqn.specs.Number.{max_seq}
+use Rattle.auc_subs.specs.Subscriber.{tops_of}
 use Rattle.auc_subs.specs.declared.row.Row.{Row}
 use Rattle.auc_world.specs.declared.record.LineRecord.{LineRecord}
 use Rattle.auc_world.specs.Lines.{numbers_of}
@@ -13,10 +14,16 @@ greater [] others = []
 greater (n ∷ numbers) [] = n ∷ greater numbers []
 greater (n ∷ numbers) (m ∷ others) = max n m ∷ greater numbers others
 
+-- the same with the lesser of the two
+abbrev pub lesser : List ℕ → List ℕ → List ℕ
+lesser [] others = []
+lesser (n ∷ numbers) [] = n ∷ lesser numbers []
+lesser (n ∷ numbers) (m ∷ others) = min n m ∷ lesser numbers others
+
 -- where the first round, and the round after a restart, opens each subscriber: at its own number or at its limit,
--- whichever is greater
+-- whichever is greater, but at most at its greatest number. A limit may be above that
 abbrev pub opened : List Row → List ℕ → List ℕ
-opened rows limits = greater (map (λ row. row.seq) rows) limits
+opened rows limits = lesser (tops_of rows) (greater (map (λ row. row.seq) rows) limits)
 
 -- the least step of a limit
 abbrev pub least_step : ℕ
@@ -25,7 +32,7 @@ least_step = 64
 -- the limits that a restart may have after some lines, by the limits before and by each subscriber's greatest closing
 -- word so far
 pub record Raises (rows : List Row) (early : List LineRecord) (limits highs next : List ℕ) : Type 0 where
-  -- a limit stays, or is the greatest number, or rises by a step at least
+  -- a limit stays, or is the greatest number of all, or rises by a step at least
   pub step : (sub : ℕ) → sub < length rows → (slice_index next sub ≡ slice_index limits sub)
       ⊎ ((slice_index next sub ≡ max_seq) ⊎ (slice_index limits sub + least_step ≤ slice_index next sub))
   -- it is at least each number that was released

@@ -51,25 +51,25 @@ held_by sub (Event r) = withheld_noted (number_for sub r)
 abbrev pub held_of : ℕ → List LineRecord → List (ℕ × Stop)
 held_of sub lines = flat_map (held_by sub) lines
 
--- the SQN of a presented number, if it was accepted
-abbrev pub taken : ℕ → GiveVerdict → List (List ℕ)
-taken n given.Accepted = sqn_bytes n ∷ []
-taken n (given.Sync sqn_ms) = []
-taken n given.Absent = []
+-- the SQN of a presented number, if it was accepted. The index of its subscriber's SQNs has so many bits
+abbrev pub taken : ℕ → ℕ → GiveVerdict → List (List ℕ)
+taken bits n given.Accepted = sqn_bytes bits n ∷ []
+taken bits n (given.Sync sqn_ms) = []
+taken bits n given.Absent = []
 
 -- the SQN that a line says a subscriber's USIM accepted
-abbrev pub accepted_by : ℕ → LineRecord → List (List ℕ)
-accepted_by sub (Vector s n) = []
-accepted_by sub (Withheld s n stop) = []
-accepted_by sub (Exhausted s word) = []
-accepted_by sub (Sync s verdict) = []
-accepted_by sub (Give s n verdict) = if s == sub then taken n verdict else []
-accepted_by sub (Further said) = []
-accepted_by sub (Event r) = sqn_accepted (usim_for sub r)
+abbrev pub accepted_by : ℕ → ℕ → LineRecord → List (List ℕ)
+accepted_by bits sub (Vector s n) = []
+accepted_by bits sub (Withheld s n stop) = []
+accepted_by bits sub (Exhausted s word) = []
+accepted_by bits sub (Sync s verdict) = []
+accepted_by bits sub (Give s n verdict) = if s == sub then taken bits n verdict else []
+accepted_by bits sub (Further said) = []
+accepted_by bits sub (Event r) = sqn_accepted (usim_for sub r)
 
 -- the SQNs that a subscriber's USIM accepted, 6 bytes each
-abbrev pub accepted : ℕ → List LineRecord → List (List ℕ)
-accepted sub lines = flat_map (accepted_by sub) lines
+abbrev pub accepted : ℕ → ℕ → List LineRecord → List (List ℕ)
+accepted bits sub lines = flat_map (accepted_by bits sub) lines
 
 -- the lines of all jobs, one job after the other
 abbrev pub all_lines : List (List LineRecord) → List LineRecord

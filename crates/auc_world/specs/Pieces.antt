@@ -42,7 +42,7 @@ PiecesSplitTheRound = (top opening closing sub : ℕ) (pieces : List Piece) → 
 
 -- by these lines, no USIM that the job holds has accepted a number
 abbrev pub IsQuiet : List LineRecord → List Line → Type 0
-IsQuiet lines job = (sub : ℕ) → holds sub job ≡ true → accepted sub lines ≡ []
+IsQuiet lines job = (bits sub : ℕ) → holds sub job ≡ true → accepted bits sub lines ≡ []
 
 -- each job gives the lines of its piece and its network, after its worker's earlier lines, by which its USIMs have accepted
 -- nothing

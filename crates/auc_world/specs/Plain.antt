@@ -74,15 +74,15 @@ pub record EndsSuit (row : Row) (opening : SessionLine) : Type 0 where
 
 -- ---- the session
 
--- a pseudonym that a device keeps has 33 bytes (RFC 4187 §4.1.1.7 leaves its length to the server)
+-- a pseudonym that a device keeps has at most 255 bytes (RFC 4187 §4.1.1.7 leaves its length to the server)
 abbrev pub IsPseudonym : Option (List ℕ) → Type 0
 IsPseudonym None = Unit {0}
-IsPseudonym (Some text) = length text ≡ 33
+IsPseudonym (Some text) = length text ≤ 255
 
 -- so has the identity of a context
 abbrev pub IsContext : Option Context → Type 0
 IsContext None = Unit {0}
-IsContext (Some c) = length c.identity ≡ 33
+IsContext (Some c) = length c.identity ≤ 255
 
 -- a session was opened with such options and nothing has happened in it; its device is that of its subscriber, and its server
 -- serves that subscriber. Whatever pseudonym and context the device keeps, they may be ones that the server can't resolve
@@ -173,13 +173,13 @@ is_refused (Some (number.Drew n)) = false
 is_refused (Some (number.Exhausted word)) = true
 is_refused (Some (number.Withheld n stop)) = true
 
--- the centre's number was too far above the SEQ that a USIM reported
-abbrev pub is_too_far : Option ResyncNote → Bool
-is_too_far None = false
-is_too_far (Some (resync.Moved seen seq)) = false
-is_too_far (Some (resync.InRange seen seq)) = false
-is_too_far (Some (resync.Beyond seen seq)) = true
-is_too_far (Some resync.BadAuts) = false
+-- a synchronisation failure led to no number: the centre's was too far above the SEQ that the USIM reported, or AUTS was refused
+abbrev pub is_unresolved : Option ResyncNote → Bool
+is_unresolved None = false
+is_unresolved (Some (resync.Moved seen seq)) = false
+is_unresolved (Some (resync.InRange seen seq)) = false
+is_unresolved (Some (resync.Beyond seen seq)) = true
+is_unresolved (Some resync.BadAuts) = true
 
 -- the SQN_MS that a USIM reported by a synchronisation failure
 abbrev pub sqn_reported : Option UsimNote → List (List ℕ)
@@ -219,12 +219,14 @@ abbrev pub TellChallenge : List LineRecord → Type 0
 TellChallenge lines = (flat_map counter_resumed (results lines) ≡ []) ⊎ TellAnother lines
 
 -- no line tells why a session of a subscriber fails: the centre was asked for that subscriber, it gave each number that it was
--- asked for, its number was never too far above the SEQ that the USIM reported, and the USIM reported no more than so many
--- synchronisation failures; and a context that was taken up again led to a challenge, since the device accepted no counter
+-- asked for, each synchronisation failure led to a number, and the USIM reported no more than so many of them; and a context that
+-- was taken up again led to a challenge, since the device accepted no counter.
+-- The AUTS of the subscriber's own USIM can be refused too: its SEQ is above the subscriber's greatest number if the USIM accepted
+-- an SQN of another subscriber with the same secret, whose index is longer
 pub record TellNoCause (sub syncs : ℕ) (lines : List LineRecord) : Type 0 where
   pub own : All (λ came. IsAskedFor sub (asked_in came)) (results lines)
   pub given : All (λ came. is_refused (number_in came) ≡ false) (results lines)
-  pub near : All (λ came. is_too_far (resync_in came) ≡ false) (results lines)
+  pub resolved : All (λ came. is_unresolved (resync_in came) ≡ false) (results lines)
   pub once : length (flat_map (λ came. sqn_reported (usim_in came)) (results lines)) ≤ syncs
   pub challenge : TellChallenge lines
 

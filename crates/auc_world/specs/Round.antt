@@ -5,7 +5,7 @@ use Rattle.auc_edge.specs.declared.stop.Stop.{Stop}
 use Rattle.auc_history.specs.History.{drawn, skipped}
 use Rattle.auc_history.specs.Split.{Splits, all_entries}
 use Rattle.auc_lines.specs.declared.part.Line.{Line}
-use Rattle.auc_sqn.specs.Number.{max_seq}
+use Rattle.auc_subs.specs.Subscriber.{top_at}
 use Rattle.auc_world.specs.declared.record.Closing.{Closing}
 use Rattle.auc_world.specs.declared.record.LineRecord.{LineRecord}
 use Rattle.auc_world.specs.declared.record.LineRecord.TheVariants.{Vector, Withheld, Exhausted, Sync, Give, Further, Event}
@@ -80,7 +80,7 @@ pub record IsLawfulRound (set : Setting) (stop : Option Stop) (early : List Line
   pub nets : List Net
   pub given : JobsGive set early kept [] jobs round.jobs nets
   pub split : (sub : ℕ) → sub < length openings
-      → Splits max_seq (slice_index openings sub) (slice_index words sub) (entries_of_jobs sub [] round.jobs)
+      → Splits (top_at set.rows sub) (slice_index openings sub) (slice_index words sub) (entries_of_jobs sub [] round.jobs)
   pub closings : round.closings ≡ closings_from 0 openings words round.jobs
   -- each drawn number that isn't a mark was released or withheld
   pub withheld : Withholds stop (all_lines round.jobs)

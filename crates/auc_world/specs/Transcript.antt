@@ -1,19 +1,19 @@
 -- Lawful transcripts: the parts of a scenario, one after the other.
-use Rattle.std.specs.Prelude.{◌≡◌, ℕ, ◌+◌, ◌<◌, ◌≤◌, min, Option, None, List, [], ◌∷◌, ◌++◌, length, flat_map, map, All, slice_index}
+use Rattle.std.specs.Prelude.{◌≡◌, ℕ, ◌+◌, ◌<◌, ◌≤◌, Option, None, List, [], ◌∷◌, ◌++◌, length, flat_map, map, All, slice_index}
 use Rattle.auc_edge.specs.declared.stop.Stop.{Stop}
 use Rattle.auc_history.specs.declared.entry.Entry.{Entry}
 use Rattle.auc_history.specs.Split.{all_entries}
 use Rattle.auc_lines.specs.declared.part.Line.{Line}
 use Rattle.auc_lines.specs.declared.part.Part.{Part}
 use Rattle.auc_lines.specs.declared.part.Part.TheVariants.{Round, Restart}
-use Rattle.auc_sqn.specs.Number.{max_seq}
+use Rattle.auc_subs.specs.Subscriber.{top_at, tops_of}
 use Rattle.auc_subs.specs.declared.row.Row.{Row}
 use Rattle.auc_world.specs.declared.record.LineRecord.{LineRecord}
 use Rattle.auc_world.specs.declared.record.PartRecord.{PartRecord}
 use Rattle.auc_world.specs.declared.record.PartRecord.TheVariants as record_of
 use Rattle.auc_world.specs.declared.record.RoundRecord.{RoundRecord}
 use Rattle.auc_world.specs.Entries.{entries_of_jobs}
-use Rattle.auc_world.specs.Limits.{greater, opened, Raises}
+use Rattle.auc_world.specs.Limits.{greater, lesser, opened, Raises}
 use Rattle.auc_world.specs.Lines.{all_lines, numbers_of}
 use Rattle.auc_world.specs.Round.{IsLawfulRound}
 use Rattle.auc_world.specs.Net.{Net}
@@ -48,18 +48,18 @@ beginning rows reserved = record {
   highs = [];
 }
 
--- the words at which the next round opens the subscribers: those at which the last one closed them, but at most the
--- greatest number
-abbrev pub reopened : List ℕ → List ℕ
-reopened words = map (λ word. min word max_seq) words
+-- the words at which the next round opens the subscribers: those at which the last one closed them, but at most their
+-- greatest numbers
+abbrev pub reopened : List Row → List ℕ → List ℕ
+reopened rows words = lesser (tops_of rows) words
 
 -- after a round that closed the subscribers at some words, with these networks of its jobs after the last lines
-abbrev pub after_round : Course → RoundRecord → List ℕ → List Net → Course
-after_round at round words nets = record {
+abbrev pub after_round : List Row → Course → RoundRecord → List ℕ → List Net → Course
+after_round rows at round words nets = record {
   number = at.number + 1;
   early = at.early ++ all_lines round.jobs;
   kept = kept_by_jobs at.kept nets;
-  openings = reopened words;
+  openings = reopened rows words;
   limits = at.limits;
   highs = greater words at.highs;
 }
@@ -80,7 +80,7 @@ pub record ServesRound (set : Setting) (stop : Option Stop) (at : Course) (jobs 
   pub numbered : round.number ≡ at.number
   pub words : List ℕ
   pub lawful : IsLawfulRound set stop at.early at.kept at.openings jobs round words
-  pub leads : next ≡ after_round at round words lawful.nets
+  pub leads : next ≡ after_round set.rows at round words lawful.nets
 
 -- a restart with some limits
 pub record Restarts (set : Setting) (at next : Course) : Type 0 where
@@ -95,9 +95,10 @@ ServesPart set stop at (Round jobs) record_of.Restart next = ⊥
 ServesPart set stop at Restart (record_of.Round round) next = ⊥
 ServesPart set stop at Restart record_of.Restart next = Restarts set at next
 
--- a restart opens each subscriber at no less than each number that was released for it
+-- a restart opens each subscriber at no less than each number that was released for it, since none was above its greatest
 abbrev pub EachRestartOpensAboveReleased : Type 0
 EachRestartOpensAboveReleased = (set : Setting) (at next : Course) (sub : ℕ) → Restarts set at next → sub < length set.rows
+    → All (λ n. n ≤ top_at set.rows sub) (numbers_of sub at.early)
     → All (λ n. n ≤ slice_index next.openings sub) (numbers_of sub at.early)
 
 -- ---- transcripts

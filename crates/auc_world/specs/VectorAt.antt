@@ -11,7 +11,7 @@ use Rattle.auc_world.specs.Setting.{Setting}
 -- served names one
 abbrev pub vector_with : Option Row → ℕ → List ℕ → List AuthVector
 vector_with None n rand = []
-vector_with (Some row) n rand = vector_of row.secret method.Aka row.amf [] n rand ∷ []
+vector_with (Some row) n rand = vector_of row.secret method.Aka row.amf [] row.bits n rand ∷ []
 
 -- the vector of a subscriber's number, with the RAND of both
 abbrev pub vector_at : Setting → ℕ → ℕ → List AuthVector
@@ -19,4 +19,4 @@ vector_at set sub n = vector_with (slice_get set.rows sub) n (rand_of set.key su
 
 -- the same of a subscriber whose row is known
 abbrev pub vector_of_row : Setting → Row → ℕ → ℕ → AuthVector
-vector_of_row set row sub n = vector_of row.secret method.Aka row.amf [] n (rand_of set.key sub n)
+vector_of_row set row sub n = vector_of row.secret method.Aka row.amf [] row.bits n (rand_of set.key sub n)

@@ -36,14 +36,14 @@ pub record AreOfRow (key : List ℕ) (rows : List Row) (sub : ℕ) (source : Sou
   pub row : Row
   pub there : slice_get rows sub ≡ Some row
   pub is_row : IsRow row
-  pub made : source ≡ record { secret = row.secret; amf = row.amf; rands = record { key = key; sub = sub } }
+  pub made : source ≡ record { secret = row.secret; amf = row.amf; bits = row.bits; rands = record { key = key; sub = sub } }
 
 -- the vector of a subscriber's number is the one of its row
 pub record IsOfRow (key : List ℕ) (rows : List Row) (sub n : ℕ) (vector : AuthVector) : Type 0 where
   pub row : Row
   pub there : slice_get rows sub ≡ Some row
   pub is_row : IsRow row
-  pub made : vector ≡ vector_of row.secret method.Aka row.amf [] n (rand_of key sub n)
+  pub made : vector ≡ vector_of row.secret method.Aka row.amf [] row.bits n (rand_of key sub n)
 
 -- a number that was released, if one was, is one that a vector may have, of a known subscriber
 abbrev pub IsReleasableNumber : Setting → Option Number → Type 0

@@ -84,9 +84,11 @@ pub record Challenges (old : ℕ → Option Memory) (sub : ℕ) (rand autn : Lis
   pub after : Memory
   pub here : new sub ≡ Some after
   pub others : (i : ℕ) → i ≢ sub → new i ≡ old i
-  pub answers : (past : Past) → Remembers before.array past → IsAnswer before.secret past rand autn answer
-  pub past : (past : Past) → Remembers before.array past → Remembers after.array (past_after_answer past answer)
+  pub answers : (past : Past) → Remembers before.array past → IsAnswer before.secret before.array.bits before.array.age past rand autn answer
+  pub past : (past : Past) → Remembers before.array past → Remembers after.array (past_after_answer before.array.bits past answer)
   pub secret : after.secret ≡ before.secret
+  pub bits : after.array.bits ≡ before.array.bits
+  pub age : after.array.age ≡ before.array.age
 
 -- ---- an event
 
@@ -97,6 +99,8 @@ pub record IsHanded (p : Presented) (told : Told) (old new : List Device) : Type
   pub after : Device
   pub here : slice_get new p.delivery.session.device ≡ Some after
   pub secret : after.usim.secret ≡ before.usim.secret
+  pub bits : after.usim.array.bits ≡ before.usim.array.bits
+  pub age : after.usim.array.age ≡ before.usim.array.age
   pub others : (place : ℕ) → place ≢ p.delivery.session.device → slice_get new place ≡ slice_get old place
   pub asked : AsksDevice p.device p.challenge told.notes.usim before.usim.array after.usim.array
   pub decrypts : (past : Past) → Remembers before.usim.array past

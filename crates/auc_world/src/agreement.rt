@@ -77,12 +77,12 @@ pub fn each_acceptance_is_of_the_own_context()
 }
 
 /// A plain session ends in Success at both ends under the same keys, unless one of its lines tells why not: the centre was
-/// asked for another subscriber, or gave no number, or its number was too far above the SEQ that the USIM reported, or the
-/// USIM reported two synchronisation failures, or its server took up a context again, and needed no challenge or the device
-/// accepted the counter. The device sends the identity of its context, its pseudonym or its permanent identity, and the server
-/// may ask for other identities before the challenge (RFC 4187 §4.1). The session's options have to suit (`EndsSuit`): EAP-AKA'
-/// needs a subscriber whose AMF has the separation bit, and a peer that expects no other name; a device that has EAP-AKA'
-/// takes no bid for it in EAP-AKA (RFC 9048 §3.1 and §4, TS 33.102 Annex H).
+/// asked for another subscriber, or gave no number, or its number was too far above the SEQ that the USIM reported, or AUTS
+/// was refused, or the USIM reported two synchronisation failures, or its server took up a context again, and needed no
+/// challenge or the device accepted the counter. The device sends the identity of its context, its pseudonym or its
+/// permanent identity, and the server may ask for other identities before the challenge (RFC 4187 §4.1). The session's
+/// options have to suit (`EndsSuit`): EAP-AKA' needs a subscriber whose AMF has the separation bit, and a peer that expects
+/// no other name; a device that has EAP-AKA' takes no bid for it in EAP-AKA (RFC 9048 §3.1 and §4, TS 33.102 Annex H).
 pub fn each_plain_session_succeeds()
     ensures { EachPlainSessionSucceeds }
 {

@@ -1,7 +1,7 @@
 //! The vectors that a job's lines release.
 
 ghost use Rattle.std.specs.Prelude.{◌≡◌, ◌≤◌, ◌<◌, ◌++◌, [], All, length, IfOk, OnOk, if◌then◌else◌};
-ghost use Rattle.auc_sqn.specs.Number.{max_seq};
+ghost use Rattle.auc_subs.specs.Subscriber.{top_at};
 ghost use Rattle.auc_world.specs.Vectors.{AreOfRow, IsOfRow, IsReleasableLine, vector_at as vector_there, vectors_in, vector_in};
 ghost use Rattle.auc_world.specs.InnerVectors.{IsSourceOf};
 
@@ -16,16 +16,15 @@ fn vectors_of(set: &Setting, sub: u32) -> Vectors
     requires { sub < length set.now.rows }
     ensures { AreOfRow set.now.key set.now.rows sub result }
 {
-    prove!(sub < set.subs.len());
     let row = set.subs.row(sub);
-    Vectors::new(&row.secret, row.amf, set.rands.stream(sub))
+    Vectors::new(&row.secret, row.amf, row.bits, set.rands.stream(sub))
 }
 
 /// The vector of a subscriber's number for EAP-AKA, with the RAND of both.
 pub fn vector_at(set: &Setting, sub: u32, n: u64) -> Vector
     requires known { sub < length set.now.rows }
     requires first { 1 ≤ n }
-    requires last { n ≤ max_seq }
+    requires last { n ≤ top_at set.now.rows sub }
     ensures row { IsOfRow set.now.key set.now.rows sub n result }
 {
     vectors_of(set, sub).vector_of(n)

@@ -1,8 +1,8 @@
 //! How the subscribers' numbers stand at the end of a round.
 
-ghost use Rattle.std.specs.Prelude.{◌≡◌, ◌+◌, ◌≤◌, ◌<◌, ◌^◌, ℕ, All, Some, map, min, length, IfOk, slice_get, slice_index};
+ghost use Rattle.std.specs.Prelude.{◌≡◌, ◌+◌, ◌≤◌, ◌<◌, ◌^◌, ℕ, Some, length, IfOk, slice_get, slice_index};
 ghost use Rattle.std.specs.Option.{option_to_list};
-ghost use Rattle.auc_sqn.specs.Number.{max_seq};
+ghost use Rattle.auc_subs.specs.Subscriber.{top_at};
 ghost use Rattle.auc_world.specs.Transcript.{reopened as reopened_by};
 ghost use Rattle.auc_world.specs.declared.counting.Count.{Count};
 ghost use Rattle.auc_world.specs.Counts.{counted_closing, counted_closings};
@@ -10,17 +10,20 @@ ghost use Rattle.auc_world.specs.Counts.{counted_closing, counted_closings};
 use crate::counting::Count;
 use crate::record::Closing;
 use auc_edge::{Items, NoMemory};
-use auc_sqn::MAX_SEQ;
+use auc_sqn::top;
+use auc_subs::Subscribers;
 use std::alloc::Global;
 
-/// The words at which the next round opens the subscribers: no higher than their greatest number.
-pub fn reopened(alloc: Global, words: &[u64]) -> Result<Items<u64>, NoMemory>
-    ensures value { IfOk result (λ openings. openings ≡ reopened_by words.now) }
-    ensures bound { IfOk result (λ openings. All (λ word. word ≤ max_seq) openings) }
+/// The words at which the next round opens the subscribers: no higher than their greatest numbers.
+pub fn reopened(alloc: Global, subs: &Subscribers, words: &[u64]) -> Result<Items<u64>, NoMemory>
+    requires { length words.now ≡ length subs.now }
+    ensures value { IfOk result (λ openings. openings ≡ reopened_by subs.now words.now) }
+    ensures bound { IfOk result (λ openings. (sub : ℕ) → sub < length subs.now
+        → slice_index openings sub ≤ top_at subs.now sub) }
 {
     let mut openings = Items::new(alloc);
-    for word in words {
-        openings.push((*word).min(MAX_SEQ))?;
+    for sub in 0..subs.len() {
+        openings.push(top(subs.row(sub).bits).min(words[sub as usize]))?;
     }
     Ok(openings)
 }

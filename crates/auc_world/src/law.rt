@@ -16,7 +16,8 @@ pub fn jobs_give_after_all_lines()
     ensures { JobsGiveAfterAllLines }
 {}
 
-/// A restart opens each subscriber at no less than each number that was released for it.
+/// A restart opens each subscriber at no less than each number that was released for it. None of them may be above its
+/// greatest number.
 pub fn restart_opens_above_released_numbers()
     ensures { EachRestartOpensAboveReleased }
 {}

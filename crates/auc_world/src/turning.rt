@@ -246,6 +246,8 @@ fn turn_of(
     ensures inputs { IfOk result (λ t. t.inputs ≡ inputs_of_peer sub peer.new) }
     ensures sent { IfOk result (λ t. t.sent ≡ sent_by t.turn.step) }
     ensures subscription { subscription_of device.new ≡ subscription_of device.old }
+    ensures bits { device.new.usim.array.bits ≡ device.old.usim.array.bits }
+    ensures age { device.new.usim.array.age ≡ device.old.usim.array.age }
 {
     let turn = peer.on_bytes(alloc, rands, device, bytes)?;
     match copies_of(alloc, sub, peer, &turn.step) {
@@ -274,6 +276,8 @@ pub(crate) fn answer(
     ensures inputs { IfOk result (λ t. t.inputs ≡ inputs_of_peer sub peer.new) }
     ensures sent { IfOk result (λ t. t.sent ≡ sent_by t.turn.step) }
     ensures subscription { subscription_of device.new ≡ subscription_of device.old }
+    ensures bits { device.new.usim.array.bits ≡ device.old.usim.array.bits }
+    ensures age { device.new.usim.array.age ≡ device.old.usim.array.age }
     ensures peer { OnErr result (peer.new ≡ peer.old) }
     ensures device { OnErr result (device.new ≡ device.old) }
 {

@@ -1,9 +1,7 @@
 use Rattle.std.proofs.Common.{◌≡◌, List, ap, subst}
 use Rattle.std.specs.Prelude.{slice_get, Some}
-use Rattle.auc_subs.specs.Subscriber.{IsRow}
 use Rattle.auc_subs.specs.declared.row.Row.{Row}
 use Rattle.auc_world.specs.Setting.{Setting}
-use Rattle.auc_world.proofs.VectorLemmas.{all_at}
 use Rattle.auc_world.proofs.bytes.vectors_of.Goals as goal
 
 pub returns : goal.returns
@@ -12,7 +10,7 @@ returns c =
     let key : c.set.inside.rands.now ≡ c.args.set.now.key = ap (λ (set : Setting). set.key) c.set.view_is in
     record {
       row = c.row-row.result.now;
-      there = subst (λ (rows : List Row). slice_get rows c.args.sub ≡ Some c.row-row.result.now) rows c.row-row.ensures;
-      is_row = all_at IsRow c.set.inside.subs.now c.args.sub c.row-row.result.now c.len.ensures.subscribers.each c.row-row.ensures;
+      there = subst (λ (rows : List Row). slice_get rows c.args.sub ≡ Some c.row-row.result.now) rows c.row-row.ensures.place;
+      is_row = c.row-row.ensures.row;
       made = rw (← key, ← c.stream.ensures) c.new.ensures;
     }

@@ -30,7 +30,7 @@ returns-clause-answer c =
     (challenged c.args.set.now.rows inside.devices.items c.in-Some.place c.args.sub device _ c.args.rand c.args.autn c.challenge.result
     c.requires.subscribers there
     (ap (λ (w : WorldState). device_place c.args.set.now.rows w.net.devices c.args.sub) c.self.view_is ∙ sym c.in-Some.ensures)
-    (same_subscription device c.challenge.new.self c.challenge.ensures.secret) c.challenge.ensures.answer c.challenge.ensures.past)
+    (same_subscription device c.challenge.new.self c.challenge.ensures.secret) c.challenge.ensures.answer c.challenge.ensures.past c.challenge.ensures.bits c.challenge.ensures.age)
 
 pub returns-clause-net : goal.returns-clause-net
 returns-clause-net c =

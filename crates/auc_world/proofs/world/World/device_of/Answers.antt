@@ -14,4 +14,4 @@ returns c =
     let row = c.row.result.now in
     subst (λ (w : WorldState). c.copied.result ≡ device_place c.args.set.now.rows w.net.devices c.args.sub) c.self.view_is
     (c.copied.ensures ∙ c.get.ensures.value ∙ ap (λ (k : DeviceKey). get is_key c.self.inside.places k) c.key-key.ensures ∙ c.self.invariant.placed row.imsi
-    ∙ row_place c.args.set.now.rows _ c.args.sub row (subst (λ (set : Setting). slice_get set.rows c.args.sub ≡ Some row) c.set.view_is c.row.ensures))
+    ∙ row_place c.args.set.now.rows _ c.args.sub row (subst (λ (set : Setting). slice_get set.rows c.args.sub ≡ Some row) c.set.view_is c.row.ensures.place))

@@ -97,7 +97,7 @@ returns-clause-answered c =
     answers_now inside.packets.items (values inside.sessions) inside.released.items inside.homes.items inside.broken inside.devices.items c.args.place c.args.packet session c.index.result.now c.args.set.now
     c.index_mut-session.ensures.value here c.args.self.now c.self.view_is _ _
     (λ pasts. answers inside.packets.items (values inside.sessions) inside.released.items inside.homes.items inside.broken inside.devices.items c.args.place c.args.packet session c.index.result.now c.args.set.now
-    device c.answer.new.device c.answer.new.peer c.in_ok-taken.taken.turn c.as_slice-bytes.result.now there c.in_ok-taken.ensures.subscription c.as_slice-bytes.ensures step pasts
+    device c.answer.new.device c.answer.new.peer c.in_ok-taken.taken.turn c.as_slice-bytes.result.now there c.in_ok-taken.ensures.subscription c.in_ok-taken.ensures.bits c.in_ok-taken.ensures.age c.as_slice-bytes.ensures step pasts
     c.make_place.new.packets.items c.deref.result.now c.post_taken.new.packets.items (values (with_value_at inside.sessions c.args.place new)) c.judged-self-inside.result
     c.in_ok-taken.taken.inputs c.in_ok-taken.taken.sent (number_after c.make_place.new.packets.items c.in_ok-taken.taken.sent) c.keys_won-session.result
     c.in_ok-make_place.ensures.same (c.deref.ensures.value ∙ c.in_ok-make_place.ensures.same) c.in_ok-taken.ensures.inputs c.in_ok-taken.ensures.sent
