@@ -100,9 +100,9 @@ range-append a (suc m) n =
 
 -- vectors of numbers in a row, each with its own RAND
 vectors_by : (row : Row) (rand : ℕ → List ℕ) (a n : ℕ)
-    → vectors_of row.secret method.Aka row.amf [] a (map rand (range_with_len a n)) ≡ map (λ k. vector_of row.secret method.Aka row.amf [] k (rand k)) (range_with_len a n)
+    → vectors_of row.secret method.Aka row.amf [] row.bits a (map rand (range_with_len a n)) ≡ map (λ k. vector_of row.secret method.Aka row.amf [] row.bits k (rand k)) (range_with_len a n)
 vectors_by row rand a zero = refl
-vectors_by row rand a (suc n) = ap (λ l. vector_of row.secret method.Aka row.amf [] a (rand a) ∷ l) (vectors_by row rand (a + 1) n)
+vectors_by row rand a (suc n) = ap (λ l. vector_of row.secret method.Aka row.amf [] row.bits a (rand a) ∷ l) (vectors_by row rand (a + 1) n)
 
 flat_map-map : (g : Vector → List ℕ) (h : ℕ → Vector) (xs : List ℕ) → flat_map g (map h xs) ≡ flat_map (λ x. g (h x)) xs
 flat_map-map g h [] = refl
@@ -110,14 +110,14 @@ flat_map-map g h (x ∷ xs) = ap (λ l. g (h x) ++ l) (flat_map-map g h xs)
 
 -- a group of vectors more
 pub group_more : (key : List ℕ) (row : Row) (sub before count : ℕ) (fed : List ℕ) (rands : List (List ℕ)) (made : List Vector)
-    → rands ≡ map (rand_of key sub) (range_with_len (before + 1) count) → made ≡ vectors_of row.secret method.Aka row.amf [] (before + 1) rands
+    → rands ≡ map (rand_of key sub) (range_with_len (before + 1) count) → made ≡ vectors_of row.secret method.Aka row.amf [] row.bits (before + 1) rands
     → (fed ++ subscriber_bytes key row sub before) ++ flat_map vector_bytes made ≡ fed ++ subscriber_bytes key row sub (before + count)
 group_more key row sub before count fed rands made er em =
-    let vector : ℕ → Vector = λ n. vector_of row.secret method.Aka row.amf [] n (rand_of key sub n) in
+    let vector : ℕ → Vector = λ n. vector_of row.secret method.Aka row.amf [] row.bits n (rand_of key sub n) in
     let bytes : ℕ → List ℕ = λ n. vector_bytes (vector n) in
     let next : before + 1 ≡ 1 + before = omega arith in
     let group : flat_map vector_bytes made ≡ flat_map bytes (range_with_len (1 + before) count) =
-    ap (flat_map vector_bytes) (em ∙ ap (vectors_of row.secret method.Aka row.amf [] (before + 1)) er ∙ vectors_by row (rand_of key sub) (before + 1) count)
+    ap (flat_map vector_bytes) (em ∙ ap (vectors_of row.secret method.Aka row.amf [] row.bits (before + 1)) er ∙ vectors_by row (rand_of key sub) (before + 1) count)
     ∙ flat_map-map vector_bytes vector (range_with_len (before + 1) count) ∙ ap (λ a. flat_map bytes (range_with_len a count)) next in
     append_assoc fed (subscriber_bytes key row sub before) (flat_map vector_bytes made)
     ∙ ap (λ l. fed ++ (subscriber_bytes key row sub before ++ l)) group

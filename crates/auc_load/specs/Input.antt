@@ -1,5 +1,5 @@
 -- The input of a load: the key of the random bytes, the subscribers and the jobs, by the words' numbers.
-use Rattle.std.specs.Prelude.{ℕ, ◌+◌, ◌*◌, ◌%◌, ◌^◌, List, [], ◌∷◌, ◌++◌, map, replicate}
+use Rattle.std.specs.Prelude.{ℕ, ◌+◌, ◌*◌, ◌%◌, ◌^◌, List, [], ◌∷◌, ◌++◌, map, None, replicate}
 use Rattle.std.specs.Int.{w64, to_be_bytes}
 use Rattle.std.specs.List.{range_with_len}
 use Rattle.auc_lines.specs.declared.part.Line.{Line}
@@ -16,7 +16,8 @@ load_key key = replicate 24 0 ++ to_be_bytes w64 key
 abbrev pub secrets_stream : ℕ
 secrets_stream = 2 ^ 41
 
--- subscriber i: the IMSI is 00101 and i in ten digits; K and OPc are the 16 bytes at the places 8 i and 8 i + 4
+-- subscriber i: the IMSI is 00101 and i in ten digits; K and OPc are the 16 bytes at the places 8 i and 8 i + 4; the index has
+-- 5 bits, and there is no age limit
 abbrev pub row_at : List ℕ → ℕ → Row
 row_at key i = record {
   imsi = record { digits = 15; number = 101 * 10 ^ 10 + i };
@@ -24,6 +25,8 @@ row_at key i = record {
   amf = 128 ∷ 0 ∷ [];
   seq = 0;
   usim = 0;
+  bits = 5;
+  age = None;
 }
 
 -- the subscribers, from 0

@@ -34,7 +34,7 @@ vector_bytes v = v.rand ++ v.autn ++ v.xres ++ v.ck ++ v.ik
 -- the bytes of a subscriber's vectors of EAP-AKA, of the numbers from 1 to a count
 abbrev pub subscriber_bytes : List ℕ → Row → ℕ → ℕ → List ℕ
 subscriber_bytes key row sub count =
-    flat_map (λ n. vector_bytes (vector_of row.secret method.Aka row.amf [] n (rand_of key sub n))) (range_with_len 1 count)
+    flat_map (λ n. vector_bytes (vector_of row.secret method.Aka row.amf [] row.bits n (rand_of key sub n))) (range_with_len 1 count)
 
 -- the bytes of all vectors, by subscriber and number
 abbrev pub all_bytes : LoadWords → List ℕ

@@ -30,7 +30,7 @@ pub fn key_of(key: u64) -> [u8; 32]
 }
 
 /// The subscribers. Subscriber i, from 0, has the IMSI of 00101 and i in ten digits, the K and OPc of 16 random bytes
-/// each, the AMF 8000, and no number drawn or accepted.
+/// each, the AMF 8000, an index of 5 bits, no age limit, and no number drawn or accepted.
 pub fn subscribers(alloc: Global, load: &LoadWords) -> Result<Subscribers, NoMemory>
     requires { IsLoad load.now }
     ensures { IfOk result (λ subs. subs ≡ load_rows load.now) }
@@ -72,6 +72,8 @@ fn row(rands: &Rands, i: u32) -> Row
         amf: [0x80, 0],
         seq: 0,
         usim: 0,
+        bits: 5,
+        age: None,
     }
 }
 

@@ -5,7 +5,7 @@ ghost use Rattle.std.specs.List.{range_with_len};
 ghost use Rattle.sha2.specs.Sha256.{sha256};
 ghost use Rattle.sha2.specs.Hashers.{Holds256};
 ghost use Rattle.auc_random.specs.Random.{rand_of};
-ghost use Rattle.auc_sqn.specs.Number.{max_seq};
+ghost use Rattle.auc_sqn.specs.Number.{max_seq, most_bits, top_of};
 ghost use Rattle.auc_load.specs.Input.{load_rows};
 ghost use Rattle.auc_load.specs.Summary.{all_bytes, load_closings, load_text, subscriber_bytes, summary_line, vector_bytes};
 ghost use Rattle.auc_load.specs.Words.{IsLoad};
@@ -96,7 +96,8 @@ fn digest(load: &LoadWords, subs: &Subscribers, closings: &[Closing]) -> [u8; 32
 /// Feeds a subscriber's vectors of the numbers from 1 to the one at which it was closed, in groups, so that the memory is
 /// the same for any number.
 fn feed_subscriber(hasher: &mut Sha256, rands: &Rands, row: &Row, closing: &Closing)
-    requires { closing.now.last ≤ max_seq }
+    requires bits { row.now.bits ≤ most_bits }
+    requires last { closing.now.last ≤ top_of row.now.bits }
     ensures { (fed : List ℕ) → Holds256 hasher.old fed
         → Holds256 hasher.new (fed ++ subscriber_bytes rands.now row.now closing.now.sub closing.now.last) }
 {
@@ -111,8 +112,9 @@ fn feed_subscriber(hasher: &mut Sha256, rands: &Rands, row: &Row, closing: &Clos
 
 /// Feeds the vectors of `count` numbers after `before`, which are made together.
 fn feed_group(hasher: &mut Sha256, stream: &mut RandStream, row: &Row, before: u64, count: usize)
+    requires bits { row.now.bits ≤ most_bits }
     requires few { count ≤ 16 }
-    requires last { before + count ≤ max_seq }
+    requires last { before + count ≤ top_of row.now.bits }
     ensures kept { stream.new ≡ stream.old }
     ensures fed { (fed : List ℕ)
         → Holds256 hasher.old (fed ++ subscriber_bytes stream.old.key row.now stream.old.sub before)
@@ -126,6 +128,7 @@ fn feed_group(hasher: &mut Sha256, stream: &mut RandStream, row: &Row, before: u
         Method::Aka,
         row.amf,
         &[],
+        row.bits,
         before + 1,
         &rands[..count],
         made,
