@@ -248,7 +248,7 @@ sim_at set l lines gives =
 
 line_at : (set : Setting) (before : Before) (net : Net) (asked : Line) (lines : List LineRecord) (next : Net) → LineGives set before net asked lines next → AreAt lines
 line_at set before net (line.Draw sub count) lines next gives = draw_at set sub count lines gives.0
-line_at set before net (line.Sync sub seq bit count) lines next gives =
+line_at set before net (line.Sync sub report count) lines next gives =
     let did = gives.0 in
     subst AreAt (sym did.lines_are)
     (All-cons IsAtItsEnd (record_of.Sync sub did.answer) did.more tt (vectors_at set sub count did.answer did.more did.follows))

@@ -1,17 +1,20 @@
 -- The words of a line determine what is told of the line, and so does the text of lines.
-use Rattle.std.proofs.Common.{ℕ, ◌<◌, ◌≡◌, ◌∙◌, refl, sym, ap, Bool, true, false, ◌||◌, List, [], ◌∷◌, ◌++◌, map, drop, length, flat_map, if◌then◌else◌, codes, bytes_eq, Option, Some, None, Result, Ok, Err, arith}
+use Rattle.std.proofs.Common.{ℕ, ◌<◌, ◌≡◌, ◌∙◌, refl, sym, ap, Bool, true, false, ◌||◌, List, [], ◌∷◌, ◌++◌, map, drop, length, flat_map, if◌then◌else◌, codes, bytes_eq, slice_get, Option, Some, None, Result, Ok, Err, arith}
 use Rattle.std.specs.List.{AllByRecursion}
 use Rattle.std.proofs.lemmas.List.Concat.{flat_map-append}
 use Rattle.auc_edge.specs.Identity.{Identity}
 use Rattle.auc_lines.specs.declared.part.End.{End}
+use Rattle.auc_milenage.specs.Milenage.{auts}
 use Rattle.auc_peer.specs.declared.why.PeerWhy.{PeerWhy}
 use Rattle.auc_peer.specs.declared.why.PeerWhy.TheVariants as peer_why
+use Rattle.auc_random.specs.Random.{rand_of}
 use Rattle.auc_server.specs.declared.why.ServerWhy.{ServerWhy}
 use Rattle.auc_server.specs.declared.why.ServerWhy.TheVariants as server_why
 use Rattle.auc_sim.specs.declared.note.SimBecame.{SimBecame}
 use Rattle.auc_sim.specs.declared.note.SimBecame.TheVariants as became
 use Rattle.auc_sim.specs.declared.note.SimNote.{SimNote}
 use Rattle.auc_sim.specs.declared.note.SimNote.TheVariants as note
+use Rattle.auc_subs.specs.declared.row.Row.{Row}
 use Rattle.auc_vector.specs.declared.notes.CounterNote.{CounterNote}
 use Rattle.auc_vector.specs.declared.notes.CounterNote.TheVariants as counter
 use Rattle.auc_vector.specs.declared.notes.Notes.{Notes}
@@ -25,6 +28,7 @@ use Rattle.auc_vector.specs.declared.parts.Vector.{Vector as AuthVector}
 use Rattle.auc_vector.specs.declared.turn.Outcome.TheVariants as outcome
 use Rattle.auc_vector.specs.declared.turn.Step.{Step}
 use Rattle.auc_vector.specs.declared.turn.Step.TheVariants as step
+use Rattle.auc_world.specs.Event.{device_in, usim_in}
 use Rattle.auc_world.specs.Record.{IsBelow, subscriber_of}
 use Rattle.auc_world.specs.Setting.{Setting}
 use Rattle.auc_world.specs.Told.{told_line}
@@ -49,6 +53,7 @@ use Rattle.auc_world.specs.declared.record.GiveVerdict.{GiveVerdict}
 use Rattle.auc_world.specs.declared.record.GiveVerdict.TheVariants.{Accepted, Sync as SyncFailure, Absent}
 use Rattle.auc_world.specs.declared.record.Closing.{Closing}
 use Rattle.auc_world.specs.declared.record.SessionVerdict.{SessionVerdict}
+use Rattle.auc_print.specs.AutsText.{auts_after, auts_lines, give_auts, rand_delivered, row_at, usim_auts}
 use Rattle.auc_print.specs.EventText.{agree_word, came_lines, came_words, counter_words, event_words, notes_words, number_words, packet_lines, peer_words, resumed_words, resync_words, sent_words, server_words, step_lines, step_sent, step_words, usim_words, what_lines, what_sent, what_words}
 use Rattle.auc_print.specs.SimText.{became_lines, sim_lines}
 use Rattle.auc_print.specs.Text.{Line, RoundLine, JobLine, RecordLine, ClosedLine, SessionLine, HeldLine, BrokenLine, RestartLine, added_lines, broken_words, bytes_words, closing_words, further_lines, further_words, give_words, identities_of, line_text, line_words, record_words, session_words, shown_lines, spaced, sync_words}
@@ -65,7 +70,7 @@ use Rattle.auc_print.proofs.WordLemmas.{a_stop, agree_word_is, end_word_is, no_m
 abbrev pub LineFits : List Identity → Line → Type 0
 LineFits identities (RoundLine number) = Unit {0}
 LineFits identities (JobLine number) = Unit {0}
-LineFits identities (RecordLine answer) = IsBelow (length identities) (subscriber_of answer) × AnswerFits answer
+LineFits identities (RecordLine job answer) = IsBelow (length identities) (subscriber_of answer) × AnswerFits answer
 LineFits identities (ClosedLine closing) = closing.sub < length identities
 LineFits identities (SessionLine verdict) = Unit {0}
 LineFits identities HeldLine = Unit {0}
@@ -76,18 +81,18 @@ LineFits identities RestartLine = Unit {0}
 abbrev pub LineAt : Line → Type 0
 LineAt (RoundLine number) = Unit {0}
 LineAt (JobLine number) = Unit {0}
-LineAt (RecordLine answer) = IsAtItsEnd answer
+LineAt (RecordLine job answer) = IsAtItsEnd answer
 LineAt (ClosedLine closing) = Unit {0}
 LineAt (SessionLine verdict) = Unit {0}
 LineAt HeldLine = Unit {0}
 LineAt (BrokenLine job breach) = Unit {0}
 LineAt RestartLine = Unit {0}
 
--- what is told of a line
+-- what is told of a line; a record's line is told without the records beside it
 abbrev pub told_of : Line → Line
 told_of (RoundLine number) = RoundLine number
 told_of (JobLine number) = JobLine number
-told_of (RecordLine answer) = RecordLine (told_line answer)
+told_of (RecordLine job answer) = RecordLine [] (told_line answer)
 told_of (ClosedLine closing) = ClosedLine closing
 told_of (SessionLine verdict) = SessionLine verdict
 told_of HeldLine = HeldLine
@@ -225,7 +230,7 @@ answer_words_are identities (Event r) = event_words_are r.event (came_words r.re
 words_are : (identities : List Identity) (line : Line) → AreWords (line_words identities line)
 words_are identities (RoundLine number) = (word_from_test (codes "round") refl, (numeral_word number, tt))
 words_are identities (JobLine number) = (word_from_test (codes "job") refl, (numeral_word number, tt))
-words_are identities (RecordLine answer) = answer_words_are identities answer
+words_are identities (RecordLine job answer) = answer_words_are identities answer
 words_are identities (SessionLine verdict) =
     (word_from_test (codes "session") refl, (numeral_word verdict.session, (agree_word_is verdict.agree, tt)))
 words_are identities HeldLine = (word_from_test (codes "premise") refl, (word_from_test (codes "held") refl, tt))
@@ -258,7 +263,7 @@ words_are identities (ClosedLine closing) = (
 
 -- the words of the lines that a print adds after a line
 abbrev added : Setting → Bool → Line → List (List (List ℕ))
-added set full (RecordLine answer) = if full then added_lines set answer else []
+added set full (RecordLine job answer) = if full then added_lines set job answer else []
 added set full (RoundLine number) = []
 added set full (JobLine number) = []
 added set full (ClosedLine closing) = []
@@ -273,7 +278,7 @@ printed set full line = line_words (identities_of set.rows) line ∷ added set f
 
 -- a line's text is that of its printed lines
 text_is : (set : Setting) (full : Bool) (line : Line) → line_text set full line ≡ flat_map spaced (printed set full line)
-text_is set full (RecordLine answer) = refl
+text_is set full (RecordLine job answer) = refl
 text_is set full (RoundLine number) = refl
 text_is set full (JobLine number) = refl
 text_is set full (ClosedLine closing) = refl
@@ -293,7 +298,8 @@ texts_are set full (line ∷ lines) =
 
 -- the word at a place, and whether a first word is that of a line that a full print adds
 abbrev is_added : List ℕ → Bool
-is_added word = bytes_eq word (codes "bytes") || (bytes_eq word (codes "packet") || (bytes_eq word (codes "keys") || bytes_eq word (codes "seaf")))
+is_added word =
+    bytes_eq word (codes "bytes") || (bytes_eq word (codes "packet") || (bytes_eq word (codes "keys") || (bytes_eq word (codes "seaf") || bytes_eq word (codes "auts"))))
 
 -- lines of words that a full print adds
 abbrev AreAdded : List (List (List ℕ)) → Type 0
@@ -311,6 +317,32 @@ bytes_added (vector ∷ vectors) = (
   (word_from_test (codes "bytes") refl, (hex_word vector.rand, (hex_word vector.autn, (hex_word vector.xres, (hex_word vector.ck, (hex_word vector.ik, tt)))))),
   bytes_added vectors,
 )
+
+auts_are_added : (row : Option Row) (rand : Option (List ℕ)) (sqn_ms : List ℕ) → AreAdded (auts_lines row rand sqn_ms)
+auts_are_added None rand sqn_ms = tt
+auts_are_added (Some row) None sqn_ms = tt
+auts_are_added (Some row) (Some rand) sqn_ms =
+    (refl, (word_from_test (codes "auts") refl, (hex_word (auts row.secret.k row.secret.opc rand sqn_ms), (hex_word rand, tt))), tt)
+
+give_added : (row : Option Row) (rand : List ℕ) (verdict : GiveVerdict) → AreAdded (give_auts row rand verdict)
+give_added row rand Accepted = tt
+give_added row rand (SyncFailure sqn_ms) = auts_are_added row (Some rand) sqn_ms
+give_added row rand Absent = tt
+
+usim_added : (row : Option Row) (rand : Option (List ℕ)) (a : Option UsimNote) → AreAdded (usim_auts row rand a)
+usim_added row rand None = tt
+usim_added row rand (Some (usim.Accepted sqn)) = tt
+usim_added row rand (Some (usim.Sync sqn_ms)) = auts_are_added row rand sqn_ms
+usim_added row rand (Some usim.WrongMac) = tt
+
+auts_added : (set : Setting) (job : List LineRecord) (answer : LineRecord) → AreAdded (auts_after set job answer)
+auts_added set job (Vector sub n) = tt
+auts_added set job (Withheld sub n stop) = tt
+auts_added set job (Exhausted sub word) = tt
+auts_added set job (Sync sub verdict) = tt
+auts_added set job (Give sub n verdict) = give_added (slice_get set.rows sub) (rand_of set.key sub n) verdict
+auts_added set job (Further said) = tt
+auts_added set job (Event r) = usim_added (row_at set.rows (device_in r.result)) (rand_delivered job r.event) (usim_in r.result)
 
 packet_added : (packet : Option ℕ) (bytes : List ℕ) → AreAdded (packet_lines packet bytes)
 packet_added None bytes = tt
@@ -365,9 +397,10 @@ shown_added (Further said) = further_added said
 shown_added (Event r) = came_added r.result
 
 all_added : (set : Setting) (full : Bool) (line : Line) → AreAdded (added set full line)
-all_added set true (RecordLine answer) =
-    added_append (map bytes_words (vector_in set answer)) (shown_lines answer) (bytes_added (vector_in set answer)) (shown_added answer)
-all_added set false (RecordLine answer) = tt
+all_added set true (RecordLine job answer) =
+    added_append (map bytes_words (vector_in set answer)) (auts_after set job answer ++ shown_lines answer) (bytes_added (vector_in set answer))
+    (added_append (auts_after set job answer) (shown_lines answer) (auts_added set job answer) (shown_added answer))
+all_added set false (RecordLine job answer) = tt
 all_added set full (RoundLine number) = tt
 all_added set full (JobLine number) = tt
 all_added set full (ClosedLine closing) = tt
@@ -425,13 +458,13 @@ own_of_words identities (SessionLine verdict) rest = refl
 own_of_words identities HeldLine rest = refl
 own_of_words identities (BrokenLine job breach) rest = refl
 own_of_words identities RestartLine rest = refl
-own_of_words identities (RecordLine (Vector sub n)) rest = refl
-own_of_words identities (RecordLine (Withheld sub n stop)) rest = refl
-own_of_words identities (RecordLine (Exhausted sub word)) rest = refl
-own_of_words identities (RecordLine (Sync sub verdict)) rest = refl
-own_of_words identities (RecordLine (Give sub n verdict)) rest = refl
-own_of_words identities (RecordLine (Further said)) rest = own_of_further identities said rest
-own_of_words identities (RecordLine (Event r)) rest = own_of_event r.event (came_words r.result) rest
+own_of_words identities (RecordLine job (Vector sub n)) rest = refl
+own_of_words identities (RecordLine job (Withheld sub n stop)) rest = refl
+own_of_words identities (RecordLine job (Exhausted sub word)) rest = refl
+own_of_words identities (RecordLine job (Sync sub verdict)) rest = refl
+own_of_words identities (RecordLine job (Give sub n verdict)) rest = refl
+own_of_words identities (RecordLine job (Further said)) rest = own_of_further identities said rest
+own_of_words identities (RecordLine job (Event r)) rest = own_of_event r.event (came_words r.result) rest
 
 -- without what a full print adds, only the lines themselves are left of their printed lines
 own_of_lines : (set : Setting) (full : Bool) (lines : List Line)
@@ -521,7 +554,7 @@ kind_of (RoundLine number) = 0
 kind_of (JobLine number) = 1
 kind_of (ClosedLine closing) = 2
 kind_of RestartLine = 3
-kind_of (RecordLine answer) = 4
+kind_of (RecordLine job answer) = 4
 kind_of HeldLine = 5
 kind_of (BrokenLine job breach) = 6
 kind_of (SessionLine verdict) = 7
@@ -556,13 +589,13 @@ kind_is identities (SessionLine verdict) =
 kind_is identities HeldLine = refl
 kind_is identities (BrokenLine job breach) = refl
 kind_is identities RestartLine = refl
-kind_is identities (RecordLine (Vector sub n)) = refl
-kind_is identities (RecordLine (Withheld sub n stop)) = refl
-kind_is identities (RecordLine (Exhausted sub word)) = refl
-kind_is identities (RecordLine (Sync sub verdict)) = refl
-kind_is identities (RecordLine (Give sub n verdict)) = refl
-kind_is identities (RecordLine (Further said)) = kind_of_further identities said
-kind_is identities (RecordLine (Event r)) = kind_of_event r.event (came_words r.result) (in_came r.result)
+kind_is identities (RecordLine job (Vector sub n)) = refl
+kind_is identities (RecordLine job (Withheld sub n stop)) = refl
+kind_is identities (RecordLine job (Exhausted sub word)) = refl
+kind_is identities (RecordLine job (Sync sub verdict)) = refl
+kind_is identities (RecordLine job (Give sub n verdict)) = refl
+kind_is identities (RecordLine job (Further said)) = kind_of_further identities said
+kind_is identities (RecordLine job (Event r)) = kind_of_event r.event (came_words r.result) (in_came r.result)
 
 -- whether a word is the first of a line on what follows from a vector, for sites, or for a session of EAP-SIM
 abbrev is_further : List ℕ → Bool
@@ -682,7 +715,7 @@ give_injective a b p e =
 
 -- what is told of a job's record is determined by its words
 answer_injective : (identities : List Identity) (a b : LineRecord) → AreIdentities identities
-    → LineFits identities (RecordLine a) → IsAtItsEnd a → IsAtItsEnd b
+    → LineFits identities (RecordLine [] a) → IsAtItsEnd a → IsAtItsEnd b
     → record_words identities a ≡ record_words identities b → told_line a ≡ told_line b
 answer_injective identities (Vector s m) (Vector t n) are p x y e =
     let sub : s ≡ t = imsi_injective identities s t are p.0 (ap (λ ws. word_at ws 1) e) in
@@ -760,7 +793,7 @@ line_injective : (identities : List Identity) (l m : Line) → AreIdentities ide
     → line_words identities l ≡ line_words identities m → told_of l ≡ told_of m
 line_injective identities (RoundLine m) (RoundLine n) are p x y e = ap RoundLine (numeral_injective m n (ap (λ ws. word_at ws 1) e))
 line_injective identities (JobLine m) (JobLine n) are p x y e = ap JobLine (numeral_injective m n (ap (λ ws. word_at ws 1) e))
-line_injective identities (RecordLine a) (RecordLine b) are p x y e = ap RecordLine (answer_injective identities a b are p x y e)
+line_injective identities (RecordLine j a) (RecordLine k b) are p x y e = ap (RecordLine []) (answer_injective identities a b are p x y e)
 line_injective identities (ClosedLine a) (ClosedLine b) are p x y e = ap ClosedLine (closing_injective identities a b are p e)
 line_injective identities (SessionLine a) (SessionLine b) are p x y e = ap SessionLine (verdict_injective a b e)
 line_injective identities HeldLine HeldLine are p x y e = refl

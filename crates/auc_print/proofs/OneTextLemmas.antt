@@ -33,7 +33,7 @@ text_of_lines set full (part ∷ records) =
 
 -- what holds of each record, of each closing and of the other lines holds of each line of a round
 record LineRule (P : Line → Type 0) (Q : LineRecord → Type 0) (R : Closing → Type 0) : Type 0 where
-  record_line : (answer : LineRecord) → Q answer → P (RecordLine answer)
+  record_line : (job : List LineRecord) (answer : LineRecord) → Q answer → P (RecordLine job answer)
   closed_line : (closing : Closing) → R closing → P (ClosedLine closing)
   round_line : (number : ℕ) → P (RoundLine number)
   job_line : (number : ℕ) → P (JobLine number)
@@ -47,7 +47,8 @@ jobs_all P Q R number [] rule all = All-nil P
 jobs_all P Q R number (job ∷ jobs) rule all =
     let here : All Q job = All-head (All Q) job jobs all in
     All-append P (job_lines number job) (jobs_lines (number + 1) jobs)
-    (All-cons P (JobLine number) (map RecordLine job) (rule.job_line number) (All-map P RecordLine job (λ k d lt. rule.record_line _ (here k d lt))))
+    (All-cons P (JobLine number) (map (RecordLine job) job) (rule.job_line number)
+    (All-map P (RecordLine job) job (λ k d lt. rule.record_line job _ (here k d lt))))
     (jobs_all P Q R (number + 1) jobs rule (All-tail (All Q) job jobs all))
 
 round_all : (P : Line → Type 0) (Q : LineRecord → Type 0) (R : Closing → Type 0) (round : RoundRecord) → LineRule P Q R → All (All Q) round.jobs
@@ -73,7 +74,7 @@ IsPrinted identities answer = IsBelow (length identities) (subscriber_of answer)
 
 fit_rule : (identities : List Identity) → LineRule (LineFits identities) (IsPrinted identities) (λ closing. closing.sub < length identities)
 fit_rule identities = record {
-  record_line = λ answer is. is;
+  record_line = λ job answer is. is;
   closed_line = λ closing is. is;
   round_line = λ number. tt;
   job_line = λ number. tt;
@@ -114,7 +115,7 @@ premise_at (premise.Broken job breach) = All-cons LineAt (BrokenLine job breach)
 
 at_rule : LineRule LineAt IsAtItsEnd (λ closing. Unit {0})
 at_rule = record {
-  record_line = λ answer is. is;
+  record_line = λ job answer is. is;
   closed_line = λ closing is. tt;
   round_line = λ number. tt;
   job_line = λ number. tt;

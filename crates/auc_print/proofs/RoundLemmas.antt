@@ -1,4 +1,4 @@
--- The lines of parts determine the parts: a job's records end at a line of another kind, and so do the jobs and the closings.
+-- The lines of parts determine what is told of the parts: a job's records end at a line of another kind, and so do the jobs and the closings.
 use Rattle.std.proofs.Common.{ℕ, ◌+◌, ◌≤◌, ◌≡◌, ◌∙◌, refl, sym, ap, subst, List, [], ◌∷◌, ◌++◌, map, flat_map, append_assoc, arith}
 use Rattle.auc_world.specs.declared.record.LineRecord.{LineRecord}
 use Rattle.auc_world.specs.declared.record.Closing.{Closing}
@@ -9,13 +9,28 @@ use Rattle.auc_world.specs.declared.record.Premise.TheVariants as premise
 use Rattle.auc_world.specs.declared.record.RoundRecord.{RoundRecord}
 use Rattle.auc_world.specs.declared.record.SessionVerdict.{SessionVerdict}
 use Rattle.auc_world.specs.Told.{told, told_job, told_line, told_part}
-use Rattle.auc_print.specs.Text.{Line, RoundLine, JobLine, RecordLine, ClosedLine, SessionLine, HeldLine, BrokenLine, RestartLine, end_lines, jobs_lines, part_lines, premise_lines, round_lines}
+use Rattle.auc_print.specs.Text.{Line, RoundLine, JobLine, RecordLine, ClosedLine, SessionLine, HeldLine, BrokenLine, RestartLine, end_lines, jobs_lines, part_lines, premise_lines}
 use Rattle.auc_print.proofs.LineLemmas.{told_of}
+
+-- the lines of parts as they are told: those of records without the records beside them
+abbrev bare : LineRecord → Line
+bare answer = RecordLine [] answer
+
+abbrev bare_jobs : ℕ → List (List LineRecord) → List Line
+bare_jobs number [] = []
+bare_jobs number (job ∷ jobs) = JobLine number ∷ (map bare job ++ bare_jobs (number + 1) jobs)
+
+abbrev bare_round : RoundRecord → List Line
+bare_round round = RoundLine round.number ∷ (bare_jobs 1 round.jobs ++ end_lines round)
+
+abbrev bare_part : PartRecord → List Line
+bare_part (Round round) = bare_round round
+bare_part Restart = RestartLine ∷ []
 
 -- the rank of a kind of line, the innermost first: a record of a job, a job, a closing, a session, the premise, a round or a
 -- restart
 abbrev rank : Line → ℕ
-rank (RecordLine answer) = 0
+rank (RecordLine job answer) = 0
 rank (JobLine number) = 1
 rank (ClosedLine closing) = 2
 rank (SessionLine verdict) = 3
@@ -46,8 +61,8 @@ tagged_cut tag level level_is same (x ∷ xs) (y ∷ ys) r s p q e =
     ((cc), rest.1)
 
 -- the records of a job end where the next job, the closings or the next part begin
-records_cut : (xs ys : List LineRecord) (r s : List Line) → Begins 1 r → Begins 1 s → map RecordLine xs ++ r ≡ map RecordLine ys ++ s → (xs ≡ ys) × (r ≡ s)
-records_cut = tagged_cut RecordLine 0 (λ x. refl) (λ x y e. cc)
+records_cut : (xs ys : List LineRecord) (r s : List Line) → Begins 1 r → Begins 1 s → map bare xs ++ r ≡ map bare ys ++ s → (xs ≡ ys) × (r ≡ s)
+records_cut = tagged_cut bare 0 (λ x. refl) (λ x y e. cc)
 
 -- the closings end where the sessions, the premise or the next part begin
 closings_cut : (xs ys : List Closing) (r s : List Line) → Begins 3 r → Begins 3 s → map ClosedLine xs ++ r ≡ map ClosedLine ys ++ s → (xs ≡ ys) × (r ≡ s)
@@ -76,30 +91,30 @@ premise_cut (premise.Broken i a) (premise.Broken j b) r s x y e =
     ((cc), rest)
 
 -- what comes after a job doesn't begin with a record
-jobs_begin : (number : ℕ) (jobs : List (List LineRecord)) (r : List Line) → Begins 2 r → Begins 1 (jobs_lines number jobs ++ r)
+jobs_begin : (number : ℕ) (jobs : List (List LineRecord)) (r : List Line) → Begins 2 r → Begins 1 (bare_jobs number jobs ++ r)
 jobs_begin number [] [] b = tt
 jobs_begin number [] (line ∷ r) b = omega arith
 jobs_begin number (job ∷ jobs) r b = omega arith
 
 -- the jobs end where the closings or the next part begin
 jobs_cut : (number : ℕ) (js ks : List (List LineRecord)) (r s : List Line) → Begins 2 r → Begins 2 s
-    → jobs_lines number js ++ r ≡ jobs_lines number ks ++ s → (js ≡ ks) × (r ≡ s)
+    → bare_jobs number js ++ r ≡ bare_jobs number ks ++ s → (js ≡ ks) × (r ≡ s)
 jobs_cut number [] [] r s p q e = (refl, e)
 jobs_cut number [] (k ∷ ks) r s p q e = let begins : 2 ≤ 1 = subst (Begins 2) e p in absurd (omega arith)
 jobs_cut number (j ∷ js) [] r s p q e = let begins : 2 ≤ 1 = subst (Begins 2) (sym e) q in absurd (omega arith)
 jobs_cut number (j ∷ js) (k ∷ ks) r s p q e =
-    let tails : (map RecordLine j ++ jobs_lines (number + 1) js) ++ r ≡ (map RecordLine k ++ jobs_lines (number + 1) ks) ++ s = cc in
-    let found : (j ≡ k) × (jobs_lines (number + 1) js ++ r ≡ jobs_lines (number + 1) ks ++ s)
+    let tails : (map bare j ++ bare_jobs (number + 1) js) ++ r ≡ (map bare k ++ bare_jobs (number + 1) ks) ++ s = cc in
+    let found : (j ≡ k) × (bare_jobs (number + 1) js ++ r ≡ bare_jobs (number + 1) ks ++ s)
     = records_cut j k _ _ (jobs_begin (number + 1) js r p) (jobs_begin (number + 1) ks s q)
-    (sym (append_assoc (map RecordLine j) (jobs_lines (number + 1) js) r) ∙ tails
-    ∙ append_assoc (map RecordLine k) (jobs_lines (number + 1) ks) s) in
+    (sym (append_assoc (map bare j) (bare_jobs (number + 1) js) r) ∙ tails
+    ∙ append_assoc (map bare k) (bare_jobs (number + 1) ks) s) in
     let rest : (js ≡ ks) × (r ≡ s) = jobs_cut (number + 1) js ks r s p q found.1 in
     let head : j ≡ k = found.0 in
     let tail : js ≡ ks = rest.0 in
     ((cc), rest.1)
 
 -- what comes after a round begins with a round or a restart
-parts_begin : (parts : List PartRecord) → Begins 5 (flat_map part_lines parts)
+parts_begin : (parts : List PartRecord) → Begins 5 (flat_map bare_part parts)
 parts_begin [] = tt
 parts_begin (Round round ∷ parts) = omega arith
 parts_begin (Restart ∷ parts) = omega arith
@@ -133,10 +148,10 @@ round_is a b number jobs closings sessions held =
     ∙ ap (λ p. make b.number b.jobs b.closings b.sessions p) held
 
 -- the lines of a round in pieces, with what comes after it
-pieces : (round : RoundRecord) (r : List Line) → (jobs_lines 1 round.jobs ++ end_lines round) ++ r
-    ≡ jobs_lines 1 round.jobs ++ (map ClosedLine round.closings ++ (map SessionLine round.sessions ++ (premise_lines round.premise ++ r)))
+pieces : (round : RoundRecord) (r : List Line) → (bare_jobs 1 round.jobs ++ end_lines round) ++ r
+    ≡ bare_jobs 1 round.jobs ++ (map ClosedLine round.closings ++ (map SessionLine round.sessions ++ (premise_lines round.premise ++ r)))
 pieces round r =
-    let jobs : List Line = jobs_lines 1 round.jobs in
+    let jobs : List Line = bare_jobs 1 round.jobs in
     let closed : List Line = map ClosedLine round.closings in
     let judged : List Line = map SessionLine round.sessions in
     let last : List Line = premise_lines round.premise in
@@ -144,43 +159,43 @@ pieces round r =
     (append_assoc closed (judged ++ last) r ∙ ap (λ t. closed ++ t) (append_assoc judged last r))
 
 -- what comes after each piece of a round
-ends : (round : RoundRecord) (parts : List PartRecord) → Begins 4 (premise_lines round.premise ++ flat_map part_lines parts)
+ends : (round : RoundRecord) (parts : List PartRecord) → Begins 4 (premise_lines round.premise ++ flat_map bare_part parts)
 ends round parts = premise_begins round.premise _ (parts_begin parts)
 
-after_closings : (round : RoundRecord) (parts : List PartRecord) → Begins 3 (map SessionLine round.sessions ++ (premise_lines round.premise ++ flat_map part_lines parts))
+after_closings : (round : RoundRecord) (parts : List PartRecord) → Begins 3 (map SessionLine round.sessions ++ (premise_lines round.premise ++ flat_map bare_part parts))
 after_closings round parts = sessions_begin round.sessions _ (ends round parts)
 
 after_jobs : (round : RoundRecord) (parts : List PartRecord)
-    → Begins 2 (map ClosedLine round.closings ++ (map SessionLine round.sessions ++ (premise_lines round.premise ++ flat_map part_lines parts)))
+    → Begins 2 (map ClosedLine round.closings ++ (map SessionLine round.sessions ++ (premise_lines round.premise ++ flat_map bare_part parts)))
 after_jobs round parts = closings_begin round.closings _ (after_closings round parts)
 
 -- rounds with the same lines are the same, and so is what comes after them
-round_cut : (a b : RoundRecord) (parts others : List PartRecord) → round_lines a ++ flat_map part_lines parts ≡ round_lines b ++ flat_map part_lines others
-    → (a ≡ b) × (flat_map part_lines parts ≡ flat_map part_lines others)
+round_cut : (a b : RoundRecord) (parts others : List PartRecord) → bare_round a ++ flat_map bare_part parts ≡ bare_round b ++ flat_map bare_part others
+    → (a ≡ b) × (flat_map bare_part parts ≡ flat_map bare_part others)
 round_cut a b parts others e =
     let heads : RoundLine a.number ≡ RoundLine b.number = cc in
     let number : a.number ≡ b.number = cc in
-    let tails : (jobs_lines 1 a.jobs ++ end_lines a) ++ flat_map part_lines parts ≡ (jobs_lines 1 b.jobs ++ end_lines b) ++ flat_map part_lines others = cc in
+    let tails : (bare_jobs 1 a.jobs ++ end_lines a) ++ flat_map bare_part parts ≡ (bare_jobs 1 b.jobs ++ end_lines b) ++ flat_map bare_part others = cc in
     let jobs = jobs_cut 1 a.jobs b.jobs _ _ (after_jobs a parts) (after_jobs b others)
-    (sym (pieces a (flat_map part_lines parts)) ∙ tails ∙ pieces b (flat_map part_lines others)) in
+    (sym (pieces a (flat_map bare_part parts)) ∙ tails ∙ pieces b (flat_map bare_part others)) in
     let closings = closings_cut a.closings b.closings _ _ (after_closings a parts) (after_closings b others) jobs.1 in
     let sessions = sessions_cut a.sessions b.sessions _ _ (ends a parts) (ends b others) closings.1 in
     let held = premise_cut a.premise b.premise _ _ (parts_begin parts) (parts_begin others) sessions.1 in
     (round_is a b number jobs.0 closings.0 sessions.0 held.0, held.1)
 
 -- parts with the same lines are the same
-pub parts_injective : (parts others : List PartRecord) → flat_map part_lines parts ≡ flat_map part_lines others → parts ≡ others
+pub parts_injective : (parts others : List PartRecord) → flat_map bare_part parts ≡ flat_map bare_part others → parts ≡ others
 parts_injective [] [] e = refl
 parts_injective [] (Round b ∷ others) e = absurd (cc)
 parts_injective [] (Restart ∷ others) e = absurd (cc)
 parts_injective (Round a ∷ parts) [] e = absurd (cc)
 parts_injective (Restart ∷ parts) [] e = absurd (cc)
 parts_injective (Restart ∷ parts) (Restart ∷ others) e =
-    let tails : flat_map part_lines parts ≡ flat_map part_lines others = cc in ap (λ more. Restart ∷ more) (parts_injective parts others tails)
+    let tails : flat_map bare_part parts ≡ flat_map bare_part others = cc in ap (λ more. Restart ∷ more) (parts_injective parts others tails)
 parts_injective (Round a ∷ parts) (Restart ∷ others) e = let heads : RoundLine a.number ≡ RestartLine = cc in absurd (cc)
 parts_injective (Restart ∷ parts) (Round b ∷ others) e = let heads : RestartLine ≡ RoundLine b.number = cc in absurd (cc)
 parts_injective (Round a ∷ parts) (Round b ∷ others) e =
-    let found : (a ≡ b) × (flat_map part_lines parts ≡ flat_map part_lines others) = round_cut a b parts others e in
+    let found : (a ≡ b) × (flat_map bare_part parts ≡ flat_map bare_part others) = round_cut a b parts others e in
     let round : a ≡ b = found.0 in
     let rest : parts ≡ others = parts_injective parts others found.1 in
     (cc)
@@ -191,16 +206,16 @@ map_append : {A B : Type 0} (f : A → B) (xs ys : List A) → map f (xs ++ ys) 
 map_append f [] ys = refl
 map_append f (x ∷ xs) ys = ap (λ t. f x ∷ t) (map_append f xs ys)
 
-told_records : (job : List LineRecord) → map told_of (map RecordLine job) ≡ map RecordLine (told_job job)
-told_records [] = refl
-told_records (answer ∷ job) = ap (λ t. RecordLine (told_line answer) ∷ t) (told_records job)
+told_records : (all job : List LineRecord) → map told_of (map (RecordLine all) job) ≡ map bare (told_job job)
+told_records all [] = refl
+told_records all (answer ∷ job) = ap (λ t. bare (told_line answer) ∷ t) (told_records all job)
 
-told_jobs : (number : ℕ) (jobs : List (List LineRecord)) → map told_of (jobs_lines number jobs) ≡ jobs_lines number (map told_job jobs)
+told_jobs : (number : ℕ) (jobs : List (List LineRecord)) → map told_of (jobs_lines number jobs) ≡ bare_jobs number (map told_job jobs)
 told_jobs number [] = refl
 told_jobs number (job ∷ jobs) =
     ap (λ t. JobLine number ∷ t)
-    (map_append told_of (map RecordLine job) (jobs_lines (number + 1) jobs) ∙ ap (λ t. t ++ map told_of (jobs_lines (number + 1) jobs)) (told_records job)
-    ∙ ap (λ t. map RecordLine (told_job job) ++ t) (told_jobs (number + 1) jobs))
+    (map_append told_of (map (RecordLine job) job) (jobs_lines (number + 1) jobs) ∙ ap (λ t. t ++ map told_of (jobs_lines (number + 1) jobs)) (told_records job job)
+    ∙ ap (λ t. map bare (told_job job) ++ t) (told_jobs (number + 1) jobs))
 
 told_closings : (closings : List Closing) → map told_of (map ClosedLine closings) ≡ map ClosedLine closings
 told_closings [] = refl
@@ -224,16 +239,16 @@ told_end round =
     ∙ ap (λ t. t ++ map told_of (premise_lines round.premise)) (told_sessions round.sessions)
     ∙ ap (λ t. map SessionLine round.sessions ++ t) (told_premise round.premise))
 
-told_part_lines : (part : PartRecord) → map told_of (part_lines part) ≡ part_lines (told_part part)
+told_part_lines : (part : PartRecord) → map told_of (part_lines part) ≡ bare_part (told_part part)
 told_part_lines Restart = refl
 told_part_lines (Round round) =
     ap (λ t. RoundLine round.number ∷ t)
     (map_append told_of (jobs_lines 1 round.jobs) (end_lines round) ∙ ap (λ t. t ++ map told_of (end_lines round)) (told_jobs 1 round.jobs)
-    ∙ ap (λ t. jobs_lines 1 (map told_job round.jobs) ++ t) (told_end round))
+    ∙ ap (λ t. bare_jobs 1 (map told_job round.jobs) ++ t) (told_end round))
 
--- what is told of the lines of parts are the lines of what is told of them
-pub told_lines : (parts : List PartRecord) → map told_of (flat_map part_lines parts) ≡ flat_map part_lines (told parts)
+-- what is told of the lines of parts are the lines, as they are told, of what is told of the parts
+pub told_lines : (parts : List PartRecord) → map told_of (flat_map part_lines parts) ≡ flat_map bare_part (told parts)
 told_lines [] = refl
 told_lines (part ∷ parts) =
     map_append told_of (part_lines part) (flat_map part_lines parts) ∙ ap (λ t. t ++ map told_of (flat_map part_lines parts)) (told_part_lines part)
-    ∙ ap (λ t. part_lines (told_part part) ++ t) (told_lines parts)
+    ∙ ap (λ t. bare_part (told_part part) ++ t) (told_lines parts)

@@ -18,7 +18,7 @@ use Rattle.auc_world.specs.declared.record.Premise.{Premise}
 use Rattle.auc_world.specs.declared.record.Premise.TheVariants as premise
 use Rattle.auc_world.specs.declared.record.RoundRecord.{RoundRecord}
 use Rattle.auc_world.specs.declared.record.SessionVerdict.{SessionVerdict}
-use Rattle.auc_edge.specs.Identity.{Identity}
+use Rattle.auc_print.specs.AutsText.{auts_after}
 use Rattle.auc_print.specs.Inner.{IsFrontOf, answer_text, answers_text, bytes_text, job_text, left_after, left_for, lines_text, premise_text, shown_after, shown_for}
 use Rattle.auc_print.specs.Numeral.{numeral}
 use Rattle.auc_print.specs.Text.{Line, RoundLine, JobLine, RecordLine, ClosedLine, SessionLine, BrokenLine, broken_words, bytes_words, closing_words, end_lines, identities_of, job_lines, jobs_lines, line_text, premise_lines, record_words, round_text, session_words, shown_lines, spaced}
@@ -104,71 +104,74 @@ abbrev AreNamed : Setting → List LineRecord → Type 0
 AreNamed set job = All (λ answer. IsBelow (length set.rows) (subscriber_of answer)) job
 
 -- in a brief print nothing follows a record's line
-brief_answers : (set : Setting) (job : List LineRecord)
-    → answers_text (identities_of set.rows) false job [] ≡ flat_map (line_text set false) (map RecordLine job)
-brief_answers set [] = refl
-brief_answers set (answer ∷ job) =
+brief_answers : (set : Setting) (job answers : List LineRecord)
+    → answers_text set false job answers [] ≡ flat_map (line_text set false) (map (RecordLine job) answers)
+brief_answers set job [] = refl
+brief_answers set job (answer ∷ answers) =
     let own : List ℕ = spaced (record_words (identities_of set.rows) answer) in
-    ap (λ vectors. (own ++ (bytes_text vectors ++ [])) ++ answers_text (identities_of set.rows) false job (left_after answer [])) (brief_shown answer)
-    ∙ ap (λ vectors. line_text set false (RecordLine answer) ++ answers_text (identities_of set.rows) false job vectors) (brief_left answer)
-    ∙ ap (λ rest. line_text set false (RecordLine answer) ++ rest) (brief_answers set job)
+    ap (λ vectors. (own ++ (bytes_text vectors ++ [])) ++ answers_text set false job answers (left_after answer [])) (brief_shown answer)
+    ∙ ap (λ vectors. line_text set false (RecordLine job answer) ++ answers_text set false job answers vectors) (brief_left answer)
+    ∙ ap (λ rest. line_text set false (RecordLine job answer) ++ rest) (brief_answers set job answers)
 
--- in a full print the bytes of the vector that a record releases follow its line, and then what else is shown of it
-full_answers : (set : Setting) (job : List LineRecord) → AreNamed set job
-    → answers_text (identities_of set.rows) true job (vectors_in set job) ≡ flat_map (line_text set true) (map RecordLine job)
-full_answers set [] named = refl
-full_answers set (answer ∷ job) named =
-    let here = All-head (λ line. IsBelow (length set.rows) (subscriber_of line)) answer job named in
-    let there : AreNamed set job = All-tail (λ line. IsBelow (length set.rows) (subscriber_of line)) answer job named in
+-- in a full print the bytes of the vector that a record releases follow its line, then AUTS, and then what else is shown of it
+full_answers : (set : Setting) (job answers : List LineRecord) → AreNamed set answers
+    → answers_text set true job answers (vectors_in set answers) ≡ flat_map (line_text set true) (map (RecordLine job) answers)
+full_answers set job [] named = refl
+full_answers set job (answer ∷ answers) named =
+    let here = All-head (λ line. IsBelow (length set.rows) (subscriber_of line)) answer answers named in
+    let there : AreNamed set answers = All-tail (λ line. IsBelow (length set.rows) (subscriber_of line)) answer answers named in
     let own : List ℕ = spaced (record_words (identities_of set.rows) answer) in
-    let more : List AuthVector = vectors_in set job in
-    ap (λ vectors. (own ++ (bytes_text vectors ++ lines_text (shown_lines answer)))
-    ++ answers_text (identities_of set.rows) true job (left_after answer (vector_in set answer ++ more))) (full_shown set answer more here)
-    ∙ ap (λ vectors. (own ++ (bytes_text (vector_in set answer) ++ lines_text (shown_lines answer))) ++ answers_text (identities_of set.rows) true job vectors)
+    let more : List AuthVector = vectors_in set answers in
+    let failed : List (List (List ℕ)) = auts_after set job answer in
+    let last : List (List (List ℕ)) = shown_lines answer in
+    ap (λ vectors. (own ++ (bytes_text vectors ++ (lines_text failed ++ lines_text last)))
+    ++ answers_text set true job answers (left_after answer (vector_in set answer ++ more))) (full_shown set answer more here)
+    ∙ ap (λ vectors. (own ++ (bytes_text (vector_in set answer) ++ (lines_text failed ++ lines_text last))) ++ answers_text set true job answers vectors)
     (full_left set answer more here)
-    ∙ ap (λ t. (own ++ t) ++ answers_text (identities_of set.rows) true job more)
-    (sym (flat_map-append spaced (map bytes_words (vector_in set answer)) (shown_lines answer)))
-    ∙ ap (λ rest. line_text set true (RecordLine answer) ++ rest) (full_answers set job there)
+    ∙ ap (λ t. (own ++ (bytes_text (vector_in set answer) ++ t)) ++ answers_text set true job answers more) (sym (flat_map-append spaced failed last))
+    ∙ ap (λ t. (own ++ t) ++ answers_text set true job answers more)
+    (sym (flat_map-append spaced (map bytes_words (vector_in set answer)) (failed ++ last)))
+    ∙ ap (λ rest. line_text set true (RecordLine job answer) ++ rest) (full_answers set job answers there)
 
 -- a job's text with the vectors that a print shows is that of its lines
 pub job_text_is : (set : Setting) (full : Bool) (number : ℕ) (job : List LineRecord) → AreNamed set job
-    → job_text (identities_of set.rows) full number job (if full then vectors_in set job else []) ≡ flat_map (line_text set full) (job_lines number job)
+    → job_text set full number job (if full then vectors_in set job else []) ≡ flat_map (line_text set full) (job_lines number job)
 job_text_is set full number job named =
-    ap (λ own. own ++ answers_text (identities_of set.rows) full job (if full then vectors_in set job else []))
+    ap (λ own. own ++ answers_text set full job job (if full then vectors_in set job else []))
     (sym (append-nil (spaced (codes "job" ∷ numeral number ∷ []))))
     ∙ ap (λ rest. line_text set full (JobLine number) ++ rest) (answers_are full)
   where
-    answers_are : (print : Bool) → answers_text (identities_of set.rows) print job (if print then vectors_in set job else [])
-        ≡ flat_map (line_text set print) (map RecordLine job)
-    answers_are true = full_answers set job named
-    answers_are false = brief_answers set job
+    answers_are : (print : Bool) → answers_text set print job job (if print then vectors_in set job else [])
+        ≡ flat_map (line_text set print) (map (RecordLine job) job)
+    answers_are true = full_answers set job job named
+    answers_are false = brief_answers set job job
 
 -- the pieces that are appended for a job are its text
-pub job_printed : (identities : List Identity) (full : Bool) (number : ℕ) (job : List LineRecord) (vectors : List AuthVector) (out a b : List ℕ)
-    → a ≡ out ++ spaced (codes "job" ∷ numeral number ∷ []) → b ≡ a ++ answers_text identities full job vectors
-    → b ≡ out ++ job_text identities full number job vectors
-job_printed identities full number job vectors out a b e f =
-    f ∙ ap (λ x. x ++ answers_text identities full job vectors) e
-    ∙ append_assoc out (spaced (codes "job" ∷ numeral number ∷ [])) (answers_text identities full job vectors)
+pub job_printed : (set : Setting) (full : Bool) (number : ℕ) (job : List LineRecord) (vectors : List AuthVector) (out a b : List ℕ)
+    → a ≡ out ++ spaced (codes "job" ∷ numeral number ∷ []) → b ≡ a ++ answers_text set full job job vectors
+    → b ≡ out ++ job_text set full number job vectors
+job_printed set full number job vectors out a b e f =
+    f ∙ ap (λ x. x ++ answers_text set full job job vectors) e
+    ∙ append_assoc out (spaced (codes "job" ∷ numeral number ∷ [])) (answers_text set full job job vectors)
 
 -- the text so far with that of the job at a place goes on with the lines of the jobs after it
-pub jobs_step : (set : Setting) (full : Bool) (rows : List Row) (jobs : List (List LineRecord)) (vectors : List (List AuthVector)) (place : ℕ)
+pub jobs_step : (set : Setting) (full : Bool) (jobs : List (List LineRecord)) (vectors : List (List AuthVector)) (place : ℕ)
     (item job : List LineRecord) (own : List AuthVector) (out next : List ℕ)
-    → rows ≡ set.rows → All (AreNamed set) jobs
+    → All (AreNamed set) jobs
     → vectors ≡ (if full then map (vectors_in set) jobs else []) → place < length jobs → item ≡ get_or jobs place item → job ≡ item
     → own ≡ (if full then slice_index_or vectors place [] else [])
-    → next ≡ out ++ job_text (identities_of rows) full (place + 1) job own
+    → next ≡ out ++ job_text set full (place + 1) job own
     → next ++ flat_map (line_text set full) (jobs_lines (place + 1 + 1) (drop (place + 1) jobs))
     ≡ out ++ flat_map (line_text set full) (jobs_lines (place + 1) (drop place jobs))
-jobs_step set full rows jobs vectors place item job own out next same named vectors_are within item_is job_is own_is printed =
+jobs_step set full jobs vectors place item job own out next named vectors_are within item_is job_is own_is printed =
     let text : List Line → List ℕ = λ lines. flat_map (line_text set full) lines in
     let after : List Line = jobs_lines (place + 1 + 1) (drop (place + 1) jobs) in
     let here : List LineRecord = get_or jobs place item in
     let shown : own ≡ (if full then vectors_in set here else []) = shown_is full vectors_are own_is in
     let job_printed : next ≡ out ++ text (job_lines (place + 1) here)
-    = printed ∙ ap (λ r. out ++ job_text (identities_of r) full (place + 1) job own) same
-    ∙ ap (λ j. out ++ job_text (identities_of set.rows) full (place + 1) j own) (job_is ∙ item_is)
-    ∙ ap (λ vs. out ++ job_text (identities_of set.rows) full (place + 1) here vs) shown
+    = printed
+    ∙ ap (λ j. out ++ job_text set full (place + 1) j own) (job_is ∙ item_is)
+    ∙ ap (λ vs. out ++ job_text set full (place + 1) here vs) shown
     ∙ ap (λ t. out ++ t) (job_text_is set full (place + 1) here (named place item within)) in
     ap (λ t. t ++ text after) job_printed ∙ append_assoc out (text (job_lines (place + 1) here)) (text after)
     ∙ ap (λ t. out ++ t) (sym (flat_map-append (line_text set full) (job_lines (place + 1) here) after))
@@ -268,14 +271,14 @@ all_more P xs i x within is before here =
     subst (All P) (sym (take_more xs i x within)) (All-append P (take i xs) (get_or xs i x ∷ []) before (All-cons P (get_or xs i x) [] (subst P is here) (All-nil P)))
 
 -- the text so far with that of a record goes on with the records after it
-pub answers_step : (identities : List Identity) (full : Bool) (job : List LineRecord) (place : ℕ) (answer : LineRecord) (left after : List AuthVector)
-    (out next : List ℕ) → place < length job → answer ≡ get_or job place answer → next ≡ out ++ answer_text identities full answer left
+pub answers_step : (set : Setting) (full : Bool) (job : List LineRecord) (place : ℕ) (answer : LineRecord) (left after : List AuthVector)
+    (out next : List ℕ) → place < length job → answer ≡ get_or job place answer → next ≡ out ++ answer_text set full job answer left
     → after ≡ left_after answer left
-    → next ++ answers_text identities full (drop (place + 1) job) after ≡ out ++ answers_text identities full (drop place job) left
-answers_step identities full job place answer left after out next within is printed after_is =
+    → next ++ answers_text set full job (drop (place + 1) job) after ≡ out ++ answers_text set full job (drop place job) left
+answers_step set full job place answer left after out next within is printed after_is =
     let more : List LineRecord = drop (place + 1) job in
-    ap (λ x. x ++ answers_text identities full more after) printed
-    ∙ append_assoc out (answer_text identities full answer left) (answers_text identities full more after)
-    ∙ ap (λ vectors. out ++ (answer_text identities full answer left ++ answers_text identities full more vectors)) after_is
-    ∙ ap (λ first. out ++ answers_text identities full (first ∷ more) left) is
-    ∙ ap (λ lines. out ++ answers_text identities full lines left) (sym (drop_more job place answer within))
+    ap (λ x. x ++ answers_text set full job more after) printed
+    ∙ append_assoc out (answer_text set full job answer left) (answers_text set full job more after)
+    ∙ ap (λ vectors. out ++ (answer_text set full job answer left ++ answers_text set full job more vectors)) after_is
+    ∙ ap (λ first. out ++ answers_text set full job (first ∷ more) left) is
+    ∙ ap (λ lines. out ++ answers_text set full job lines left) (sym (drop_more job place answer within))

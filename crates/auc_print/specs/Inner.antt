@@ -1,12 +1,12 @@
 -- Inner facts: what only private contracts of this crate cite.
-use Rattle.std.specs.Prelude.{ℕ, ◌≡◌, Bool, List, [], ◌∷◌, ◌++◌, map, take, drop, flat_map, if◌then◌else◌, Option, Some, None, codes}
+use Rattle.std.specs.Prelude.{ℕ, ◌≡◌, Bool, true, false, List, [], ◌∷◌, ◌++◌, map, take, drop, flat_map, Option, Some, None, codes}
 use Rattle.hex.specs.Hex.{encode_lower}
-use Rattle.auc_edge.specs.Identity.{Identity}
 use Rattle.auc_vector.specs.declared.turn.Outcome.TheVariants as outcome
 use Rattle.auc_vector.specs.declared.turn.Step.{Step}
 use Rattle.auc_vector.specs.declared.turn.Step.TheVariants as step
 use Rattle.auc_vector.specs.declared.parts.Vector.{Vector as AuthVector}
 use Rattle.auc_world.specs.Event.{event_vector}
+use Rattle.auc_world.specs.Setting.{Setting}
 use Rattle.auc_world.specs.declared.event.NoteStep.{NoteStep}
 use Rattle.auc_world.specs.declared.event.NoteStep.TheVariants as did
 use Rattle.auc_world.specs.declared.record.LineRecord.{LineRecord}
@@ -15,9 +15,10 @@ use Rattle.auc_world.specs.declared.record.Premise.{Premise}
 use Rattle.auc_world.specs.declared.record.Premise.TheVariants as premise
 use Rattle.auc_print.specs.declared.word.Word.{Word}
 use Rattle.auc_print.specs.declared.word.Word.TheVariants as words
+use Rattle.auc_print.specs.AutsText.{auts_after}
 use Rattle.auc_print.specs.EventText.{peer_words, reason_word, server_words}
 use Rattle.auc_print.specs.Numeral.{numeral}
-use Rattle.auc_print.specs.Text.{broken_words, bytes_words, record_words, shown_lines, spaced}
+use Rattle.auc_print.specs.Text.{broken_words, bytes_words, identities_of, record_words, shown_lines, spaced}
 
 -- a text begins with a front
 pub record IsFrontOf (front text : List ℕ) : Type 0 where
@@ -110,20 +111,25 @@ left_after (Give sub n verdict) vectors = vectors
 left_after (Further said) vectors = vectors
 left_after (Event r) vectors = left_for (event_vector r.result) vectors
 
--- the text of a record, with some vectors left to be shown
-abbrev pub answer_text : List Identity → Bool → LineRecord → List AuthVector → List ℕ
-answer_text identities full answer vectors =
-    spaced (record_words identities answer) ++ (bytes_text (shown_after answer vectors) ++ lines_text (if full then shown_lines answer else []))
+-- the text of what else a full print adds after a record of a job
+abbrev pub more_text : Setting → Bool → List LineRecord → LineRecord → List ℕ
+more_text set true job answer = lines_text (auts_after set job answer) ++ lines_text (shown_lines answer)
+more_text set false job answer = []
 
--- the text of a job's records, with the vectors that its lines show
-abbrev pub answers_text : List Identity → Bool → List LineRecord → List AuthVector → List ℕ
-answers_text identities full [] vectors = []
-answers_text identities full (answer ∷ job) vectors =
-    answer_text identities full answer vectors ++ answers_text identities full job (left_after answer vectors)
+-- the text of a record of a job with these records, with some vectors left to be shown
+abbrev pub answer_text : Setting → Bool → List LineRecord → LineRecord → List AuthVector → List ℕ
+answer_text set full job answer vectors =
+    spaced (record_words (identities_of set.rows) answer) ++ (bytes_text (shown_after answer vectors) ++ more_text set full job answer)
+
+-- the text of some of a job's records, with the vectors that their lines show
+abbrev pub answers_text : Setting → Bool → List LineRecord → List LineRecord → List AuthVector → List ℕ
+answers_text set full job [] vectors = []
+answers_text set full job (answer ∷ answers) vectors =
+    answer_text set full job answer vectors ++ answers_text set full job answers (left_after answer vectors)
 
 -- the text of a job, with the vectors that its lines show
-abbrev pub job_text : List Identity → Bool → ℕ → List LineRecord → List AuthVector → List ℕ
-job_text identities full number job vectors = spaced (codes "job" ∷ numeral number ∷ []) ++ answers_text identities full job vectors
+abbrev pub job_text : Setting → Bool → ℕ → List LineRecord → List AuthVector → List ℕ
+job_text set full number job vectors = spaced (codes "job" ∷ numeral number ∷ []) ++ answers_text set full job job vectors
 
 -- the text of a premise
 abbrev pub premise_text : Premise → List ℕ

@@ -1,3 +1,4 @@
+pub mod AutsText
 pub mod EventText
 pub mod Inner
 pub mod Numeral

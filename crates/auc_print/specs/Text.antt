@@ -24,17 +24,18 @@ use Rattle.auc_world.specs.declared.record.RoundRecord.{RoundRecord}
 use Rattle.auc_world.specs.declared.record.SessionVerdict.{SessionVerdict}
 use Rattle.auc_world.specs.Setting.{Setting}
 use Rattle.auc_world.specs.Vectors.{vector_in}
+use Rattle.auc_print.specs.AutsText.{auts_after}
 use Rattle.auc_print.specs.EventText.{agree_word, came_lines, came_words, end_word, event_words, stop_word}
 use Rattle.auc_print.specs.Numeral.{numeral}
 use Rattle.auc_print.specs.SimText.{sim_lines, sim_words}
 use Rattle.auc_print.specs.SitesText.{sites_words}
 
--- a line: the beginning of a round or of a job with its number, the record of a job's line, a closing, the verdict on a
--- session, the premise of equal keys, a restart
+-- a line: the beginning of a round or of a job with its number, the record of a job's line with all records of the job, a
+-- closing, the verdict on a session, the premise of equal keys, a restart
 pub data Line : Type 0 where
   RoundLine : (number : ℕ) → Line
   JobLine : (number : ℕ) → Line
-  RecordLine : (answer : LineRecord) → Line
+  RecordLine : (job : List LineRecord) → (answer : LineRecord) → Line
   ClosedLine : (closing : Closing) → Line
   SessionLine : (verdict : SessionVerdict) → Line
   HeldLine : Line
@@ -43,7 +44,7 @@ pub data Line : Type 0 where
 
 -- a job's lines: its number, then its records
 abbrev pub job_lines : ℕ → List LineRecord → List Line
-job_lines number job = JobLine number ∷ map RecordLine job
+job_lines number job = JobLine number ∷ map (RecordLine job) job
 
 -- the lines of jobs that are numbered from `number` on
 abbrev pub jobs_lines : ℕ → List (List LineRecord) → List Line
@@ -134,7 +135,7 @@ broken_words job breach =
 abbrev pub line_words : List Identity → Line → List (List ℕ)
 line_words identities (RoundLine number) = codes "round" ∷ numeral number ∷ []
 line_words identities (JobLine number) = codes "job" ∷ numeral number ∷ []
-line_words identities (RecordLine answer) = record_words identities answer
+line_words identities (RecordLine job answer) = record_words identities answer
 line_words identities (ClosedLine closing) = closing_words identities closing
 line_words identities (SessionLine verdict) = session_words verdict
 line_words identities HeldLine = codes "premise" ∷ codes "held" ∷ []
@@ -170,8 +171,8 @@ further_lines (Fiveg sub outcome) = fiveg_lines outcome
 further_lines (Sites sub note) = []
 further_lines (Sim sub note) = sim_lines note
 
--- the lines that a full print adds after a record's line, besides the bytes of a vector: K_SEAF of a 5G authentication, or
--- the packet and the keys of an event or of a session of EAP-SIM
+-- the lines that a full print adds after a record's line, besides the bytes of a vector and an AUTS: K_SEAF of a 5G
+-- authentication, or the packet and the keys of an event or of a session of EAP-SIM
 abbrev pub shown_lines : LineRecord → List (List (List ℕ))
 shown_lines (Vector sub n) = []
 shown_lines (Withheld sub n stop) = []
@@ -181,13 +182,14 @@ shown_lines (Give sub n verdict) = []
 shown_lines (Further said) = further_lines said
 shown_lines (Event r) = came_lines r.result
 
--- all of them: the bytes of the vector that the record releases come first
-abbrev pub added_lines : Setting → LineRecord → List (List (List ℕ))
-added_lines set answer = map bytes_words (vector_in set answer) ++ shown_lines answer
+-- all of them, after a record of a job with these records: the bytes of the vector that it releases come first, or AUTS of a
+-- synchronisation failure
+abbrev pub added_lines : Setting → List LineRecord → LineRecord → List (List (List ℕ))
+added_lines set job answer = map bytes_words (vector_in set answer) ++ (auts_after set job answer ++ shown_lines answer)
 
 -- what a full print adds after a line
 abbrev pub full_text : Setting → Bool → Line → List ℕ
-full_text set full (RecordLine answer) = flat_map spaced (if full then added_lines set answer else [])
+full_text set full (RecordLine job answer) = flat_map spaced (if full then added_lines set job answer else [])
 full_text set full line = []
 
 -- the text of a line

@@ -1,4 +1,4 @@
-//! The lines that a full print adds after a record's, besides the bytes of a vector.
+//! The lines that a full print adds after a record's, besides the bytes of a vector and an AUTS.
 
 ghost use Rattle.std.specs.Prelude.{◌≡◌, ◌++◌, OnOk};
 ghost use Rattle.auc_print.specs.EventText.{came_lines, keys_words, packet_lines, step_lines, step_sent, what_lines, what_sent};
@@ -13,8 +13,8 @@ use auc_hmac::KeySet;
 use auc_vector::{Outcome, Step};
 use auc_world::{LineRecord, Note, NoteStep, WorldRefusal};
 
-/// Appends the lines that a full print adds after a record's, besides the bytes of a vector: K_SEAF of a confirmed 5G
-/// authentication, or the packet that was sent or made in an event or a session of EAP-SIM, and the keys of its Success.
+/// Appends the lines that a full print adds after a record's, besides the bytes of a vector and an AUTS: K_SEAF of a confirmed
+/// 5G authentication, or the packet that was sent or made in an event or a session of EAP-SIM, and the keys of its Success.
 pub fn print_added(answer: &LineRecord, out: &mut Octets) -> Result<(), NoMemory>
     ensures printed { OnOk result (out.new ≡ out.old ++ lines_text (shown_lines answer.now)) }
     ensures grows { IsFrontOf out.old out.new }
@@ -60,7 +60,7 @@ pub fn print_packet(packet: Option<u32>, bytes: &[u8], out: &mut Octets) -> Resu
 }
 
 /// The bytes that a step sent or made, if it did.
-fn bytes_of_step(step: &NoteStep) -> &[u8]
+pub fn bytes_of_step(step: &NoteStep) -> &[u8]
     ensures { result.now ≡ step_sent step.now }
 {
     match step {

@@ -8,11 +8,11 @@ ghost use Rattle.auc_print.specs.OneText.{AnswerFits, RoundFits};
 ghost use Rattle.auc_print.specs.Text.{identities_of, jobs_lines, line_text, restart_text, round_text};
 
 use crate::added::print_added;
+use crate::auts::print_auts;
 use crate::line::{print_closings, print_first, print_premise, print_record, print_sessions};
 use crate::word::Word;
 use crate::writer::print_line;
 use auc_edge::{NoMemory, Octets};
-use auc_subs::Subscribers;
 use auc_vector::Vector;
 use auc_world::{JobRecord, JobVectors, LineRecord, RoundRecord, Setting};
 
@@ -25,7 +25,7 @@ pub fn print_restart(out: &mut Octets) -> Result<(), NoMemory>
 }
 
 /// Appends the text of a round: its own line, the lines of its jobs, numbered from 1, those of its closings and its
-/// sessions, and that of the premise of equal keys. In a full print the lines of a vector's bytes, a packet and keys
+/// sessions, and that of the premise of equal keys. In a full print the lines of a vector's bytes, an AUTS, a packet and keys
 /// follow the line that they belong to; `vectors` has the vectors that each job's lines released, and in a brief print it
 /// is empty. Each subscriber that the round names is a row. Each SQN, K_ASME, HXRES* and changed byte that is printed
 /// consists of bytes. If memory runs out, `out` stays as it was.
@@ -96,7 +96,7 @@ fn print_jobs(
     for (place, job) in jobs.iter().enumerate() {
         print_line(b"job", &[Word::Number(place as u64 + 1)], out)?;
         let own = vectors_of(vectors, place, full);
-        print_answers(job.as_slice(), own, full, set.subs, out)?;
+        print_answers(job.as_slice(), own, set, full, out)?;
     }
     Ok(())
 }
@@ -114,44 +114,46 @@ fn vectors_of(vectors: &[JobVectors], place: usize, full: bool) -> &[Vector]
 fn print_answers(
     job: &[LineRecord],
     vectors: &[Vector],
+    set: &Setting,
     full: bool,
-    subs: &Subscribers,
     out: &mut Octets,
 ) -> Result<(), NoMemory>
-    requires { All (λ answer. IsBelow (length subs.now) (subscriber_of answer)) job.now }
+    requires { All (λ answer. IsBelow (length set.now.rows) (subscriber_of answer)) job.now }
 
     ensures printed { OnOk result (out.new ≡ out.old
-        ++ answers_text (identities_of subs.now) full job.now vectors.now) }
+        ++ answers_text set.now full job.now job.now vectors.now) }
     ensures grows { IsFrontOf out.old out.new }
     ensures fits { OnOk result (All AnswerFits job.now) }
 {
     let mut left = vectors;
     for answer in job {
-        print_answer(answer, left, full, subs, out)?;
+        print_answer(answer, job, left, set, full, out)?;
         left = after(answer, left);
     }
     Ok(())
 }
 
-/// Appends the line of a job's record. If it releases a vector and vectors are left, the line of the first
-/// one's bytes follows; in a full print, so do those of K_SEAF or of an event's packet and keys.
+/// Appends the line of a record of a job. If it releases a vector and vectors are left, the line of the first
+/// one's bytes follows; in a full print, so do those of AUTS, of K_SEAF or of an event's packet and keys.
 fn print_answer(
     answer: &LineRecord,
+    job: &[LineRecord],
     vectors: &[Vector],
+    set: &Setting,
     full: bool,
-    subs: &Subscribers,
     out: &mut Octets,
 ) -> Result<(), NoMemory>
-    requires { IsBelow (length subs.now) (subscriber_of answer.now) }
+    requires { IsBelow (length set.now.rows) (subscriber_of answer.now) }
 
     ensures printed { OnOk result
-        (out.new ≡ out.old ++ answer_text (identities_of subs.now) full answer.now vectors.now) }
+        (out.new ≡ out.old ++ answer_text set.now full job.now answer.now vectors.now) }
     ensures grows { IsFrontOf out.old out.new }
     ensures fits { OnOk result (AnswerFits answer.now) }
 {
-    print_record(answer, subs, out)?;
+    print_record(answer, set.subs, out)?;
     print_shown(answer, vectors, out)?;
     if full {
+        print_auts(answer, job, set, out)?;
         print_added(answer, out)
     } else {
         Ok(())

@@ -2,7 +2,6 @@
 use Rattle.std.proofs.Common.{◌∙◌, subst, All, arith}
 use Rattle.std.proofs.lemmas.List.{take_all}
 use Rattle.auc_print.specs.OneText.{AnswerFits}
-use Rattle.auc_print.specs.Text.{identities_of}
 use Rattle.auc_print.proofs.TextLemmas.{all_more, answers_step, front_more}
 use Rattle.auc_print.proofs.round.print_answers.Goals as goal
 
@@ -10,7 +9,7 @@ pub loop-answer-preserved : goal.loop-answer-preserved
 loop-answer-preserved c =
     let l = c.loop-answer in
     record {
-      printed = answers_step (identities_of c.args.subs.now) c.args.full c.args.job.now l.answer-index _ l.left.now _ l.out _ (omega arith) c.answer-item.is
+      printed = answers_step c.args.set.now c.args.full c.args.job.now l.answer-index _ l.left.now _ l.out _ (omega arith) c.answer-item.is
           c.in_ok-print_answer.ensures.printed c.after-left.ensures ∙ l.invariant.printed;
       grows = front_more _ _ _ l.invariant.grows c.in_ok-print_answer.ensures.grows;
       fits = all_more AnswerFits c.args.job.now l.answer-index _ (omega arith) c.answer-item.is l.invariant.fits c.in_ok-print_answer.ensures.fits;
