@@ -65,7 +65,7 @@ parts_tell laws set stop at (part.Round jobs ∷ parts) (record_of.Round round �
     let one = jobs_one laws set at.early at.early at.kept [] [] jobs round.jobs round.jobs serves.lawful.nets first serves.lawful.given gives refl in
     let is = serves.lawful.premise ∙ ap (λ (ns : List Net). premise_from 1 (map job_sessions ns)) one.1 in (
       (λ none. to_unbroken 1 first (subst HasNoBreach is none), λ all. subst HasNoBreach (sym is) (from_unbroken 1 first all)),
-      parts_tell laws set stop (after_round at round serves.words serves.lawful.nets) parts records end nets
+      parts_tell laws set stop (after_round set.rows at round serves.words serves.lawful.nets) parts records end nets
           (subst (λ (c : Course). Leads set stop c parts records end) serves.leads rest)
           (subst (λ (ns : List Net). AreNetsAfter set (at.early ++ all_lines round.jobs) (kept_by_jobs at.kept ns) parts records nets) (sym one.1) more),
     )

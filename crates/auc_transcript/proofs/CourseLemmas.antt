@@ -1,7 +1,6 @@
 -- From part to part: a transcript gets one more part, and limits that rise from round to round are limits that a
 -- restart may have.
-use Rattle.std.proofs.Common.{◌≡◌, ℕ, ◌+◌, ◌<◌, ◌≤◌, ◌⊎◌, min, max, List, [], ◌∷◌, ◌++◌, Option, None, length, get_or, All, refl, sym, ◌∙◌, ap, subst, arith, inl, inr, append_assoc, append-nil}
-use Rattle.std.proofs.Math.ListN.{length-map}
+use Rattle.std.proofs.Common.{◌≡◌, ℕ, ◌+◌, ◌<◌, ◌≤◌, ◌⊎◌, max, List, [], ◌∷◌, ◌++◌, Option, None, length, get_or, All, refl, sym, ◌∙◌, ap, subst, arith, inl, inr, append_assoc, append-nil}
 use Rattle.std.proofs.lemmas.List.Concat.{flat_map-append}
 use Rattle.std.proofs.lemmas.List.Elements.{All-nil, All-append, All-weaker}
 use Rattle.auc_edge.specs.declared.stop.Stop.{Stop}
@@ -16,7 +15,7 @@ use Rattle.auc_world.specs.Lines.{numbers_of, released_by, all_lines}
 use Rattle.auc_world.specs.Setting.{Setting}
 use Rattle.auc_world.specs.Limits.{greater, Raises}
 use Rattle.auc_world.specs.Transcript.{Course, Leads, ServesPart, after_restart, after_round, beginning, stop_before, lines_of}
-use Rattle.auc_world.proofs.Facts.{get_or-greater, length-opened}
+use Rattle.auc_world.proofs.Facts.{get_or-greater, length-opened, length-reopened}
 
 -- ---- longer transcripts
 
@@ -142,7 +141,6 @@ parts_risen set stop reserved at (part ∷ parts) [] end sizes risen leads = abs
 parts_risen set stop reserved at (Round jobs ∷ parts) (record_of.Round round ∷ records) end sizes risen (next, serves, rest) =
     let words = serves.words in
     let more = subst (λ (c : Course). Leads set stop c parts records end) serves.leads rest in
-    let many = length-map words (λ (word : ℕ). min word max_seq) in
     let same = serves.lawful.sizes in
     let here : HaveRisen set.rows reserved (greater words at.highs) at.limits = record {
       step = risen.step;
@@ -150,7 +148,7 @@ parts_risen set stop reserved at (Round jobs ∷ parts) (record_of.Round round �
           let low = risen.near sub inside in
           let greatest = get_or-greater words at.highs sub (omega (arith, same, sizes, inside)) in omega (arith, low, greatest);
     } in
-    parts_risen set stop reserved (after_round at round words serves.lawful.nets) parts records end (omega (arith, many, same, sizes)) here more
+    parts_risen set stop reserved (after_round set.rows at round words serves.lawful.nets) parts records end (length-reopened set.rows words) here more
 parts_risen set stop reserved at (Round jobs ∷ parts) (record_of.Restart ∷ records) end sizes risen (next, serves, rest) = absurd serves
 parts_risen set stop reserved at (Restart ∷ parts) (record_of.Round round ∷ records) end sizes risen (next, serves, rest) = absurd serves
 parts_risen set stop reserved at (Restart ∷ parts) (record_of.Restart ∷ records) end sizes risen (next, restarts, rest) =

@@ -206,7 +206,7 @@ module _ (set : Setting) (b : Before) (m : Method) (sub place : ℕ) (are : AreS
           let turn = peer_turn set device keeps d.session told in
           inr (record {
             noted = ap (λ (t : Bool). if t then turn.1.notes.usim else None) mine ∙ sym (ap (λ (n : Notes). n.usim) tells) ∙ e;
-            six = turn_six set.key device keeps d.session.peer told.seen (past_before b is.row d.session.sub) told.notes.usim told.inner sqn
+            six = turn_six set.key device is.row keeps d.session.peer told.seen (past_before b is.row d.session.sub) told.notes.usim told.inner sqn
                 (subst (λ (s : Secret). IsBlock s.k) (sym secret) row.key) (subst (λ (s : Secret). IsBlock s.opc) (sym secret) row.operator) received is.answers (ap (λ (n : Notes). n.usim) tells) e;
           })
       by false other = inl (elsewhere (differ other))

@@ -49,7 +49,8 @@ use Rattle.auc_transcript.proofs.WalkLemmas.{job_has_secrets}
 -- the origin of a context is the value of an SQN that the subscriber's USIM accepted in some lines
 pub record IsFrom (sub : ℕ) (lines : List LineRecord) (origin : ℕ) : Type 0 where
   pub sqn : List ℕ
-  pub there : Contains (accepted sub lines) sqn
+  -- whatever its index length is, since sessions tell SQNs
+  pub there : (bits : ℕ) → Contains (accepted bits sub lines) sqn
   pub six : length sqn ≡ 6
   pub is : origin ≡ origin_of sqn
 
@@ -57,7 +58,9 @@ more_lines : (sub : ℕ) (lines more : List LineRecord) (origins : List ℕ) →
 more_lines sub lines more origins all =
     All-weaker (IsFrom sub lines) (IsFrom sub (lines ++ more)) (λ origin from. record {
       sqn = from.sqn;
-      there = subst (λ (l : List (List ℕ)). Contains l from.sqn) (sym (accepted-append sub lines more)) (Contains-append_left (accepted sub lines) (accepted sub more) from.sqn from.there);
+      there = λ bits.
+          subst (λ (l : List (List ℕ)). Contains l from.sqn) (sym (accepted-append bits sub lines more))
+          (Contains-append_left (accepted bits sub lines) (accepted bits sub more) from.sqn (from.there bits));
       six = from.six;
       is = from.is;
     }) origins all
@@ -74,7 +77,7 @@ record Moves (m : Method) (sub place : ℕ) (w v : Net) (origins : List ℕ) (gi
 
 module _ (set : Setting) (b : Before) (m : Method) (sub place : ℕ) (w : Net) (e : Event) (told : Told) (origins : List ℕ) (given : List (List ℕ))
     (earlier : All (IsFrom sub (all_before b)) origins) (accepts : Accepts m sub place w (happened set w e told) told (came set w e told))
-    (fresh : (sqn : List ℕ) → Reaches sub (came set w e told) sqn → (x : List ℕ) → Contains (accepted sub (all_before b)) x → length x ≡ 6 → origin_of x ≢ origin_of sqn) where
+    (fresh : (sqn : List ℕ) → Reaches sub (came set w e told) sqn → (x : List ℕ) → ((bits : ℕ) → Contains (accepted bits sub (all_before b)) x) → length x ≡ 6 → origin_of x ≢ origin_of sqn) where
   abbrev line : LineRecord
   line = record_of.Event (record { event = e; result = came set w e told })
 
@@ -89,11 +92,12 @@ module _ (set : Setting) (b : Before) (m : Method) (sub place : ℕ) (w : Net) (
 
   origin_from : (c : Context) (sqn : List ℕ) → Reaches sub (came set w e told) sqn → c.origin ≡ origin_of sqn → IsFrom sub (all_before b ++ line ∷ []) c.origin
   origin_from c sqn reaches origin =
-      let own : accepted sub (line ∷ []) ≡ sqn ∷ [] = ap (λ (n : Option UsimNote). sqn_accepted n ++ []) reaches.noted in
       record {
         sqn = sqn;
-        there = subst (λ (l : List (List ℕ)). Contains l sqn) (sym (accepted-append sub (all_before b) (line ∷ []) ∙ ap (λ (l : List (List ℕ)). accepted sub (all_before b) ++ l) own))
-            (Contains-append_right (accepted sub (all_before b)) (sqn ∷ []) sqn (zero, omega arith, refl));
+        there = λ bits.
+            let own : accepted bits sub (line ∷ []) ≡ sqn ∷ [] = ap (λ (n : Option UsimNote). sqn_accepted n ++ []) reaches.noted in
+            subst (λ (l : List (List ℕ)). Contains l sqn) (sym (accepted-append bits sub (all_before b) (line ∷ []) ∙ ap (λ (l : List (List ℕ)). accepted bits sub (all_before b) ++ l) own))
+            (Contains-append_right (accepted bits sub (all_before b)) (sqn ∷ []) sqn (zero, omega arith, refl));
         six = reaches.six;
         is = origin;
       }
@@ -193,7 +197,7 @@ module _ (law : EachEventMovesDevicesOnce) (set : Setting) (are : AreSubscribers
       moves_on set b m sub place w e told st.origins st.given st.from accepts
       (λ sqn reaches x there six.
       let f = served.fresh sub sqn reaches.noted in
-      fresh_origin f.row.usim (accepted sub (all_before b)) sqn x f.fresh reaches.six there six)
+      fresh_origin f.row.bits f.row.age f.row.usim (accepted f.row.bits sub (all_before b)) sqn x f.fresh reaches.six (there f.row.bits) six)
       moves.move moves.is_allowed moves.places moves.used
 
   after_event : (b : Before) (w next : Net) (e : Event) (lines : List LineRecord) → EventGives set b w e lines next → DeviceStands set start m sub place earlier b w

@@ -29,10 +29,11 @@ use Rattle.auc_peer.specs.declared.why.PeerWhy.TheVariants as why
 use Rattle.auc_reauth.specs.Device.{Keeps}
 use Rattle.auc_server.specs.Server.{ServerEnd}
 use Rattle.auc_server.specs.declared.options.ServerOptions.{ServerOptions}
-use Rattle.auc_sqn.specs.Number.{ind_of, max_seq, seq_of}
+use Rattle.auc_sqn.specs.Number.{ind_of, seq_of}
 use Rattle.auc_sqn.specs.Past.{Past, verdict_of}
 use Rattle.auc_sqn.specs.declared.verdict.Verdict.{Verdict}
-use Rattle.auc_sqn.specs.declared.verdict.Verdict.TheVariants.{Fresh, Old, Far}
+use Rattle.auc_sqn.specs.declared.verdict.Verdict.TheVariants.{Fresh, Old, Far, Aged}
+use Rattle.auc_subs.specs.Subscriber.{top_at}
 use Rattle.auc_subs.specs.declared.row.Row.{Row}
 use Rattle.auc_usim.specs.Usim.{FollowsVerdict, IsAnswer, acceptance, mac_in, sqn_in, verdict_on, xmac}
 use Rattle.auc_usim.specs.declared.answer.Answer.TheVariants as answer
@@ -45,9 +46,8 @@ use Rattle.auc_vector.specs.declared.notes.UsimNote.TheVariants as usim
 use Rattle.auc_vector.specs.declared.turn.Turn.{Turn}
 use Rattle.auc_world.specs.Came.{Came, TellsNotes, asked_sub, asking_at, asking_in, asking_of, by_network, came, came_at_peer, came_at_server, came_changed, came_delivered, came_given_up, came_in, came_opened, came_repeated, came_started, presented_at, presented_by, presented_in, server_came_to_give_up, session_of}
 use Rattle.auc_world.specs.Event.{asked_in, device_in, number_in, usim_in}
-use Rattle.auc_world.specs.Given.{Before, CentreAnswers, IsCentreAsked, IsNumberAnswer, IsUsimAsked, NumberFollows, UsimNotes, past_before, past_of}
+use Rattle.auc_world.specs.Given.{Before, CentreAnswers, IsCentreAsked, IsNumberAnswer, IsUsimAsked, NumberFollows, UsimNotes, past_before, past_by}
 use Rattle.auc_world.specs.Happened.{Delivery, Told, changed_in, delivery_in, peer_turn, server_turn}
-use Rattle.auc_world.specs.Lines.{accepted}
 use Rattle.auc_world.specs.Net.{Net, device_place, keeps_at, packet_at, session_place}
 use Rattle.auc_world.specs.Setting.{Setting}
 use Rattle.auc_world.specs.declared.event.Event.{Event}
@@ -61,22 +61,23 @@ use Rattle.auc_transcript.proofs.ChangeLemmas.{change_holds}
 abbrev pub all_before : Before → List LineRecord
 all_before place = place.early ++ place.beside ++ place.own
 
--- a drawn number is one that a vector may have, and the word of a spent subscriber is none that one may still have
-abbrev pub IsNoteServed : Option NumberNote → Type 0
-IsNoteServed None = Unit {0}
-IsNoteServed (Some (number.Drew n)) = n ≤ max_seq
-IsNoteServed (Some (number.Exhausted word)) = max_seq ≤ word
-IsNoteServed (Some (number.Withheld n stop)) = Unit {0}
+-- a drawn number is one that a vector of a subscriber with this greatest number may have, and the word of a spent one is none that
+-- one may still have
+abbrev pub IsNoteServed : ℕ → Option NumberNote → Type 0
+IsNoteServed top None = Unit {0}
+IsNoteServed top (Some (number.Drew n)) = n ≤ top
+IsNoteServed top (Some (number.Exhausted word)) = top ≤ word
+IsNoteServed top (Some (number.Withheld n stop)) = Unit {0}
 
 -- an SQN is fresh for a subscriber's USIM, by all that it accepted before
 pub record IsFreshFor (set : Setting) (before : List LineRecord) (sub : ℕ) (sqn : List ℕ) : Type 0 where
   pub row : Row
   pub there : slice_get set.rows sub ≡ Some row
-  pub fresh : verdict_of (past_of row.usim (accepted sub before)) (seq_of sqn) (ind_of sqn) ≡ Fresh
+  pub fresh : verdict_of row.age (past_by row sub before) (seq_of row.bits sqn) (ind_of row.bits sqn) ≡ Fresh
 
 -- what an event came to: what the centre answered, and that the USIM accepts fresh SQNs alone
 pub record IsEventServed (set : Setting) (before : List LineRecord) (result : Came) : Type 0 where
-  pub numbers : (sub : ℕ) → IsNoteServed (if is_that sub (asked_in result) then number_in result else None)
+  pub numbers : (sub : ℕ) → IsNoteServed (top_at set.rows sub) (if is_that sub (asked_in result) then number_in result else None)
   pub fresh : (sub : ℕ) (sqn : List ℕ) → (if is_that sub (device_in result) then usim_in result else None) ≡ Some (usim.Accepted sqn)
       → IsFreshFor set before sub sqn
 
@@ -87,35 +88,37 @@ no_note sqn e = cc
 
 silent_served : (set : Setting) (before : List LineRecord) (result : Came) → asked_in result ≡ None → device_in result ≡ None → IsEventServed set before result
 silent_served set before result no_sub no_device = record {
-  numbers = λ sub. subst (λ (o : Option ℕ). IsNoteServed (if is_that sub o then number_in result else None)) (sym no_sub) tt;
+  numbers = λ sub. subst (λ (o : Option ℕ). IsNoteServed (top_at set.rows sub) (if is_that sub o then number_in result else None)) (sym no_sub) tt;
   fresh = λ sub sqn is. absurd (no_note sqn (ap (λ (o : Option ℕ). if is_that sub o then usim_in result else None) (sym no_device) ∙ is));
 }
 
 -- ---- the centre's answer
 
-number_served : (note : Option NumberNote) → IsNumberAnswer note → IsNoteServed note
-number_served None is = tt
-number_served (Some (number.Drew n)) is = is.1
-number_served (Some (number.Exhausted word)) is = is
-number_served (Some (number.Withheld n stop)) is = tt
+number_served : (set : Setting) (sub : ℕ) (note : Option NumberNote) → IsNumberAnswer set sub note → IsNoteServed (top_at set.rows sub) note
+number_served set sub None is = tt
+number_served set sub (Some (number.Drew n)) is = is.1
+number_served set sub (Some (number.Exhausted word)) is = is
+number_served set sub (Some (number.Withheld n stop)) is = tt
 
-following_served : (r : Resynchronisation) (note : Option NumberNote) → NumberFollows r note → IsNoteServed note
-following_served (found.Moved seen seq_ms) drew is = number_served drew is
-following_served (found.InRange seen seq_ms) drew is = number_served drew is
-following_served (found.Beyond seen seq_ms) drew is = subst IsNoteServed (sym is) tt
+following_served : (set : Setting) (sub : ℕ) (r : Resynchronisation) (note : Option NumberNote) → NumberFollows set sub r note → IsNoteServed (top_at set.rows sub) note
+following_served set sub (found.Moved seen seq_ms) drew is = number_served set sub drew is
+following_served set sub (found.InRange seen seq_ms) drew is = number_served set sub drew is
+following_served set sub (found.Beyond seen seq_ms) drew is = subst (IsNoteServed (top_at set.rows sub)) (sym is) tt
 
-answer_served : (reported : Option ℕ) (notes : Notes) → CentreAnswers reported notes → IsNoteServed notes.number
-answer_served None notes is = number_served notes.number is
-answer_served (Some seq_ms) notes (seen, noted, follows) = following_served (resynchronise_of seen seq_ms) notes.number follows
+answer_served : (set : Setting) (sub : ℕ) (reported : Option ℕ) (notes : Notes) → CentreAnswers set sub reported notes → IsNoteServed (top_at set.rows sub) notes.number
+answer_served set sub None notes is = number_served set sub notes.number is
+answer_served set sub (Some seq_ms) notes (seen, noted, follows) = following_served set sub (resynchronise_of seen seq_ms) notes.number follows
 
 asked_served : (set : Setting) (request : Option Asking) (told notes : Notes) (sub : ℕ) → told ≡ notes → IsCentreAsked set request told
-    → IsNoteServed (if is_that sub (asked_sub request) then notes.number else None)
+    → IsNoteServed (top_at set.rows sub) (if is_that sub (asked_sub request) then notes.number else None)
 asked_served set None told notes sub same centre = tt
-asked_served set (Some request) told notes sub same centre = by (request.sub == sub)
+asked_served set (Some request) told notes sub same centre = by (request.sub == sub) refl
   where
-    by : (b : Bool) → IsNoteServed (if b then notes.number else None)
-    by true = subst (λ (n : Notes). IsNoteServed n.number) same (answer_served request.reported told centre.answers)
-    by false = tt
+    by : (b : Bool) → (request.sub == sub) ≡ b → IsNoteServed (top_at set.rows sub) (if b then notes.number else None)
+    by true mine =
+        subst (λ (k : ℕ). IsNoteServed (top_at set.rows k) notes.number) (eqb-true request.sub sub mine)
+        (subst (λ (n : Notes). IsNoteServed (top_at set.rows request.sub) n.number) same (answer_served set request.sub request.reported told centre.answers))
+    by false mine = tt
 
 server_served : (set : Setting) (place : Before) (w : Net) (told : Told) (o : Option ServerEnd) → TellsNotes told (came_at_server set w told o)
     → IsCentreAsked set (asking_at set w told o) told.notes → IsEventServed set (all_before place) (came_at_server set w told o)
@@ -136,21 +139,23 @@ unfolding acceptance
 no_failure s rand autn auts sqn e = cc
 
 -- a USIM accepts a fresh SQN alone
-accepts_fresh : (s : Secret) (past : Past) (rand autn : List ℕ) → IsAnswer s past rand autn (acceptance s rand autn) → verdict_on s past rand autn ≡ Fresh
-accepts_fresh s past rand autn is =
-    by (bytes_eq (mac_in autn) (xmac s rand autn)) refl
-  where
-    follows : (v : Verdict) → FollowsVerdict s past rand autn v (acceptance s rand autn) → v ≡ Fresh
-    follows Fresh same = refl
-    follows (Old entry) (sqn_ms, highest, same) = absurd (no_failure s rand autn _ sqn_ms same)
-    follows (Far greatest) (sqn_ms, highest, same) = absurd (no_failure s rand autn _ sqn_ms same)
+module _ (s : Secret) (bits : ℕ) (age : Option ℕ) (past : Past) (rand autn : List ℕ) where
+  accepts_fresh : IsAnswer s bits age past rand autn (acceptance s rand autn) → verdict_on s bits age past rand autn ≡ Fresh
+  accepts_fresh is =
+      by (bytes_eq (mac_in autn) (xmac s rand autn)) refl
+    where
+      follows : (v : Verdict) → FollowsVerdict s bits past rand autn v (acceptance s rand autn) → v ≡ Fresh
+      follows Fresh same = refl
+      follows (Old entry) (sqn_ms, highest, same) = absurd (no_failure s rand autn _ sqn_ms same)
+      follows (Far greatest) (sqn_ms, highest, same) = absurd (no_failure s rand autn _ sqn_ms same)
+      follows (Aged greatest) (sqn_ms, highest, same) = absurd (no_failure s rand autn _ sqn_ms same)
 
-    apart : bytes_eq (mac_in autn) (xmac s rand autn) ≡ false → mac_in autn ≢ xmac s rand autn
-    apart differ same = let alike = (bytes_eq-Decides (mac_in autn) (xmac s rand autn)).1 same in let bad : ⊥ = cc in bad
+      apart : bytes_eq (mac_in autn) (xmac s rand autn) ≡ false → mac_in autn ≢ xmac s rand autn
+      apart differ same = let alike = (bytes_eq-Decides (mac_in autn) (xmac s rand autn)).1 same in let bad : ⊥ = cc in bad
 
-    by : (b : Bool) → bytes_eq (mac_in autn) (xmac s rand autn) ≡ b → verdict_on s past rand autn ≡ Fresh
-    by true same = follows (verdict_on s past rand autn) (is.right_mac ((bytes_eq-Decides (mac_in autn) (xmac s rand autn)).0 same))
-    by false differ = absurd (not_accepted s rand autn (is.wrong_mac (apart differ)))
+      by : (b : Bool) → bytes_eq (mac_in autn) (xmac s rand autn) ≡ b → verdict_on s bits age past rand autn ≡ Fresh
+      by true same = follows (verdict_on s bits age past rand autn) (is.right_mac ((bytes_eq-Decides (mac_in autn) (xmac s rand autn)).0 same))
+      by false differ = absurd (not_accepted s rand autn (is.wrong_mac (apart differ)))
 
 -- the note of two turns, of which a test picks one
 picked_note : (b : Bool) (x y : Peer × Turn PeerWhy) (n : Option UsimNote) → x.1.notes.usim ≡ n → y.1.notes.usim ≡ n → (cond b x y).1.notes.usim ≡ n
@@ -188,25 +193,25 @@ no_wrong : (x : Option UsimNote) (sqn : List ℕ) → Some usim.WrongMac ≡ x �
 no_wrong x sqn e f = cc
 
 -- an SQN that a turn notes as accepted is fresh by the USIM's past
-turn_fresh : (key : List ℕ) (s : Subscription) (keeps : Keeps) (p : Peer) (seen : Seen) (r : PeerRow) (past : Past) (n : Option UsimNote) (inner : Decrypted) (sqn : List ℕ)
-    → UsimNotes s.secret past (asked r) n → n ≡ (peer_does key s keeps p seen r n inner).1.notes.usim → (peer_does key s keeps p seen r n inner).1.notes.usim ≡ Some (usim.Accepted sqn)
-    → verdict_of past (seq_of sqn) (ind_of sqn) ≡ Fresh
-turn_fresh key s keeps p seen (row.Ignore cause) past n inner sqn is same accepts = absurd (no_asking n _ sqn is same accepts)
-turn_fresh key s keeps p seen row.Again past n inner sqn is same accepts = absurd (no_asking n _ sqn is same accepts)
-turn_fresh key s keeps p seen row.First past n inner sqn is same accepts = absurd (no_asking n _ sqn is same accepts)
-turn_fresh key s keeps p seen (row.Identity kind) past n inner sqn is same accepts = absurd (no_asking n _ sqn is same accepts)
-turn_fresh key s keeps p seen (row.Client cause) past n inner sqn is same accepts = absurd (no_asking n _ sqn is same accepts)
-turn_fresh key s keeps p seen (row.Reject cause) past n inner sqn is same accepts = absurd (no_asking n _ sqn is same accepts)
-turn_fresh key s keeps p seen (row.Notified code) past n inner sqn is same accepts = absurd (no_asking n _ sqn is same accepts)
-turn_fresh key s keeps p seen (row.Challenged c) past None inner sqn is same accepts = absurd is
-turn_fresh key s keeps p seen (row.Challenged c) past (Some (usim.Accepted m)) inner sqn is same accepts =
-    subst (λ (x : List ℕ). verdict_of past (seq_of x) (ind_of x) ≡ Fresh) (one_sqn _ (sqn_in s.secret c.rand c.autn) sqn (challenged_note key s keeps p seen c m inner) accepts)
-    (accepts_fresh s.secret past c.rand c.autn is)
-turn_fresh key s keeps p seen (row.Challenged c) past (Some (usim.Sync m)) inner sqn is same accepts = absurd (no_sync _ m sqn same accepts)
-turn_fresh key s keeps p seen (row.Challenged c) past (Some usim.WrongMac) inner sqn is same accepts = absurd (no_wrong _ sqn same accepts)
-turn_fresh key s keeps p seen row.Reauthentication past n inner sqn is same accepts = absurd (no_asking n _ sqn is same accepts)
-turn_fresh key s keeps p seen row.Success past n inner sqn is same accepts = absurd (no_asking n _ sqn is same accepts)
-turn_fresh key s keeps p seen (row.Failure cause) past n inner sqn is same accepts = absurd (no_asking n _ sqn is same accepts)
+turn_fresh : (key : List ℕ) (s : Subscription) (home : Row) (keeps : Keeps) (p : Peer) (seen : Seen) (r : PeerRow) (past : Past) (n : Option UsimNote) (inner : Decrypted) (sqn : List ℕ)
+    → UsimNotes s.secret home past (asked r) n → n ≡ (peer_does key s keeps p seen r n inner).1.notes.usim → (peer_does key s keeps p seen r n inner).1.notes.usim ≡ Some (usim.Accepted sqn)
+    → verdict_of home.age past (seq_of home.bits sqn) (ind_of home.bits sqn) ≡ Fresh
+turn_fresh key s home keeps p seen (row.Ignore cause) past n inner sqn is same accepts = absurd (no_asking n _ sqn is same accepts)
+turn_fresh key s home keeps p seen row.Again past n inner sqn is same accepts = absurd (no_asking n _ sqn is same accepts)
+turn_fresh key s home keeps p seen row.First past n inner sqn is same accepts = absurd (no_asking n _ sqn is same accepts)
+turn_fresh key s home keeps p seen (row.Identity kind) past n inner sqn is same accepts = absurd (no_asking n _ sqn is same accepts)
+turn_fresh key s home keeps p seen (row.Client cause) past n inner sqn is same accepts = absurd (no_asking n _ sqn is same accepts)
+turn_fresh key s home keeps p seen (row.Reject cause) past n inner sqn is same accepts = absurd (no_asking n _ sqn is same accepts)
+turn_fresh key s home keeps p seen (row.Notified code) past n inner sqn is same accepts = absurd (no_asking n _ sqn is same accepts)
+turn_fresh key s home keeps p seen (row.Challenged c) past None inner sqn is same accepts = absurd is
+turn_fresh key s home keeps p seen (row.Challenged c) past (Some (usim.Accepted m)) inner sqn is same accepts =
+    subst (λ (x : List ℕ). verdict_of home.age past (seq_of home.bits x) (ind_of home.bits x) ≡ Fresh) (one_sqn _ (sqn_in s.secret c.rand c.autn) sqn (challenged_note key s keeps p seen c m inner) accepts)
+    (accepts_fresh s.secret home.bits home.age past c.rand c.autn is)
+turn_fresh key s home keeps p seen (row.Challenged c) past (Some (usim.Sync m)) inner sqn is same accepts = absurd (no_sync _ m sqn same accepts)
+turn_fresh key s home keeps p seen (row.Challenged c) past (Some usim.WrongMac) inner sqn is same accepts = absurd (no_wrong _ sqn same accepts)
+turn_fresh key s home keeps p seen row.Reauthentication past n inner sqn is same accepts = absurd (no_asking n _ sqn is same accepts)
+turn_fresh key s home keeps p seen row.Success past n inner sqn is same accepts = absurd (no_asking n _ sqn is same accepts)
+turn_fresh key s home keeps p seen (row.Failure cause) past n inner sqn is same accepts = absurd (no_asking n _ sqn is same accepts)
 
 peer_served : (set : Setting) (place : Before) (w : Net) (d : Delivery) (told : Told) (o : Option Subscription) → TellsNotes told (came_at_peer set w d told o)
     → IsUsimAsked set place (presented_at w d told o) told → IsEventServed set (all_before place) (came_at_peer set w d told o)
@@ -223,7 +228,7 @@ peer_served set place w d told (Some device) tells is = record {
     here sqn accepts = record {
       row = is.row;
       there = is.there;
-      fresh = turn_fresh set.key device (keeps_at w d.session.device) d.session.peer told.seen (peer_row d.session.peer told.seen) (past_before place is.row d.session.sub) told.notes.usim told.inner sqn
+      fresh = turn_fresh set.key device is.row (keeps_at w d.session.device) d.session.peer told.seen (peer_row d.session.peer told.seen) (past_before place is.row d.session.sub) told.notes.usim told.inner sqn
           is.answers (ap (λ (n : Notes). n.usim) tells) accepts;
     }
 

@@ -1,6 +1,7 @@
 -- Transcripts of one subscriber, by hand: their stretches, where periods end, which places numbers have, and what the
--- USIM answers by what it accepted. The USIM is opened at 0, and nothing was reserved.
-use Rattle.std.proofs.Common.{◌≡◌, ℕ, zero, suc, ◌+◌, ◌-◌, ◌%◌, ◌<◌, ◌≤◌, ◌⊎◌, true, false, List, [], ◌∷◌, ◌++◌, map, get_or, max, All, refl, arith, inl, inr}
+-- USIM answers by what it accepted. The USIM is opened at 0, and nothing was reserved. Where nothing else is said, its index has 5
+-- bits, and it has no age limit.
+use Rattle.std.proofs.Common.{◌≡◌, ℕ, zero, suc, ◌+◌, ◌-◌, ◌%◌, ◌<◌, ◌≤◌, ◌⊎◌, true, false, Some, None, List, [], ◌∷◌, ◌++◌, map, get_or, max, All, refl, arith, inl, inr}
 use Rattle.std.proofs.lemmas.List.Elements.{All-nil}
 use Rattle.auc_history.specs.declared.entry.Entry.{Entry}
 use Rattle.auc_history.specs.declared.entry.Entry.TheVariants.{Drawn, Moved, Look}
@@ -8,7 +9,7 @@ use Rattle.auc_history.specs.History.{numbers_after}
 use Rattle.auc_sqn.specs.Number.{max_seq, sqn_bytes}
 use Rattle.auc_sqn.specs.Past.{numbers_to, opening_past, verdict_of, zeros}
 use Rattle.auc_sqn.specs.declared.verdict.Verdict.{Verdict}
-use Rattle.auc_sqn.specs.declared.verdict.Verdict.TheVariants.{Fresh, Old}
+use Rattle.auc_sqn.specs.declared.verdict.Verdict.TheVariants.{Fresh, Old, Aged}
 use Rattle.auc_subs.specs.declared.row.Row.{Row}
 use Rattle.auc_world.specs.declared.record.GiveVerdict.TheVariants as given
 use Rattle.auc_world.specs.declared.record.LineRecord.{LineRecord}
@@ -46,7 +47,7 @@ accepts n = Give 0 n given.Accepted ∷ []
 
 -- the USIM's verdict on the SQN of a number, after some lines
 abbrev answer_after : List LineRecord → ℕ → Verdict
-answer_after before n = verdict_of (past_of 0 (accepted 0 before)) n (n % 32)
+answer_after before n = verdict_of None (past_of 5 0 (accepted 5 0 before)) n (n % 32)
 
 -- ---- five numbers, a restart that opens at 64, five numbers
 
@@ -93,8 +94,8 @@ moved_past_second : answer_after (accepts 98) 66 ≡ Old 98
 unfolding opening_past numbers_to zeros
 moved_past_second = refl
 
-moved_past_fails : FailsByPlace (stretches_of 0 moved_past) (accepted 0 (accepts 98)) 66
-moved_past_fails = record { other = 98; within = omega arith; was_accepted = (0, omega arith, refl); one_period = refl; turns = 1; later = refl }
+moved_past_fails : FailsByPlace 5 None (stretches_of 0 moved_past) (accepted 5 0 (accepts 98)) 66
+moved_past_fails = record { other = 98; within = omega arith; was_accepted = (0, omega arith, refl); one_period = refl; stale = inl (1, refl) }
 
 moved_past_place : place_of (stretches_of 0 moved_past) 98 ≡ 34
 moved_past_place = refl
@@ -139,8 +140,8 @@ moved_twice_second : answer_after (accepts 522) 490 ≡ Old 522
 unfolding opening_past numbers_to zeros
 moved_twice_second = refl
 
-moved_twice_fails : FailsByPlace (stretches_of 0 moved_twice) (accepted 0 (accepts 522)) 490
-moved_twice_fails = record { other = 522; within = omega arith; was_accepted = (0, omega arith, refl); one_period = refl; turns = 1; later = refl }
+moved_twice_fails : FailsByPlace 5 None (stretches_of 0 moved_twice) (accepted 5 0 (accepts 522)) 490
+moved_twice_fails = record { other = 522; within = omega arith; was_accepted = (0, omega arith, refl); one_period = refl; stale = inl (1, refl) }
 
 -- ---- two restarts: forty numbers, a restart that opens at 64, two numbers, a restart that opens at 128, forty numbers
 
@@ -155,8 +156,8 @@ restarted_twice_first : answer_after (accepts 33) 1 ≡ Old 33
 unfolding opening_past numbers_to zeros
 restarted_twice_first = refl
 
-restarted_twice_fails : FailsByPlace (stretches_of 0 restarted_twice) (accepted 0 (accepts 33)) 1
-restarted_twice_fails = record { other = 33; within = omega arith; was_accepted = (0, omega arith, refl); one_period = refl; turns = 1; later = refl }
+restarted_twice_fails : FailsByPlace 5 None (stretches_of 0 restarted_twice) (accepted 5 0 (accepts 33)) 1
+restarted_twice_fails = record { other = 33; within = omega arith; was_accepted = (0, omega arith, refl); one_period = refl; stale = inl (1, refl) }
 
 -- 65 has their IND; it is of the second period, and its place there is 1
 restarted_twice_second : answer_after (accepts 33) 65 ≡ Fresh
@@ -178,8 +179,8 @@ restarted_twice_last : answer_after (accepts 33 ++ accepts 65 ++ accepts 161) 12
 unfolding opening_past numbers_to zeros
 restarted_twice_last = refl
 
-restarted_twice_fails_again : FailsByPlace (stretches_of 0 restarted_twice) (accepted 0 (accepts 33 ++ accepts 65 ++ accepts 161)) 129
-restarted_twice_fails_again = record { other = 161; within = omega arith; was_accepted = (2, omega arith, refl); one_period = refl; turns = 1; later = refl }
+restarted_twice_fails_again : FailsByPlace 5 None (stretches_of 0 restarted_twice) (accepted 5 0 (accepts 33 ++ accepts 65 ++ accepts 161)) 129
+restarted_twice_fails_again = record { other = 161; within = omega arith; was_accepted = (2, omega arith, refl); one_period = refl; stale = inl (1, refl) }
 
 -- 161 is of a later period than 65, so 65 isn't in reach any more
 restarted_twice_ends_again : is_later (stretches_of 0 restarted_twice) 65 161 ≡ true
@@ -221,18 +222,53 @@ moved_and_restarted_second : answer_after (accepts 2 ++ accepts 101 ++ accepts 1
 unfolding opening_past numbers_to zeros
 moved_and_restarted_second = refl
 
-moved_and_restarted_fails : FailsByPlace (stretches_of 0 moved_and_restarted) (accepted 0 (accepts 2 ++ accepts 101 ++ accepts 199)) 167
-moved_and_restarted_fails = record { other = 199; within = omega arith; was_accepted = (2, omega arith, refl); one_period = refl; turns = 1; later = refl }
+moved_and_restarted_fails : FailsByPlace 5 None (stretches_of 0 moved_and_restarted) (accepted 5 0 (accepts 2 ++ accepts 101 ++ accepts 199)) 167
+moved_and_restarted_fails = record { other = 199; within = omega arith; was_accepted = (2, omega arith, refl); one_period = refl; stale = inl (1, refl) }
 
 -- 198 is 31 places after 167, and so it doesn't make 167 fail
 moved_and_restarted_other : answer_after (accepts 198) 167 ≡ Fresh
 unfolding opening_past numbers_to zeros
 moved_and_restarted_other = refl
 
+-- ---- four numbers, and an age limit of 3
+
+abbrev drawn_once : List PartRecord
+drawn_once = round_of 1 (vectors 0 4) ∷ []
+
+-- the verdict with this age limit
+abbrev answer_of_age : List LineRecord → ℕ → Verdict
+answer_of_age before n = verdict_of (Some 3) (past_of 5 0 (accepted 5 0 before)) n (n % 32)
+
+-- 4 is three places after 1
+aged_first : answer_of_age (accepts 4) 1 ≡ Aged 4
+unfolding opening_past numbers_to zeros
+aged_first = refl
+
+aged_fails : FailsByPlace 5 (Some 3) (stretches_of 0 drawn_once) (accepted 5 0 (accepts 4)) 1
+aged_fails = record { other = 4; within = omega arith; was_accepted = (0, omega arith, refl); one_period = refl; stale = inr (omega arith) }
+
+-- and two places after 2
+aged_other : answer_of_age (accepts 4) 2 ≡ Fresh
+unfolding opening_past numbers_to zeros
+aged_other = refl
+
+-- ---- two numbers, and an index of no bits
+
+abbrev answer_of_none : List LineRecord → ℕ → Verdict
+answer_of_none before n = verdict_of None (past_of 0 0 (accepted 0 0 before)) n (n % 1)
+
+-- each number has the one IND, so 1 is old after 2
+none_first : answer_of_none (accepts 2) 1 ≡ Old 2
+unfolding opening_past numbers_to zeros
+none_first = refl
+
+none_fails : FailsByPlace 0 None (stretches_of 0 drawn_once) (accepted 0 0 (accepts 2)) 1
+none_fails = record { other = 2; within = omega arith; was_accepted = (0, omega arith, refl); one_period = refl; stale = inl (1, refl) }
+
 -- ---- marks
 
--- the second number above the greatest has the SQN of 1: the number that fails another by its place is no mark
-mark_has_a_lesser_sqn : sqn_bytes (max_seq + 2) ≡ sqn_bytes 1
+-- the second number above the greatest has the SQN of 1, if an index has 5 bits: the number that fails another by its place is no mark
+mark_has_a_lesser_sqn : sqn_bytes 5 (max_seq + 2) ≡ sqn_bytes 5 1
 mark_has_a_lesser_sqn = refl
 
 -- ---- stretches of rounds with several jobs, and of a restart at the end

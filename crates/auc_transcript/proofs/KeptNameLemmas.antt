@@ -1,4 +1,4 @@
--- For plain sessions: each name that a device keeps has 33 bytes, through events, jobs and rounds.
+-- For plain sessions: each name that a device keeps has at most 255 bytes, through events, jobs and rounds.
 use Rattle.std.proofs.Common.{◌≡◌, ℕ, List, [], ◌∷◌, ◌++◌, length, map, flat_map, All, Option, Some, None, slice_get, refl, sym, ◌∙◌, subst, arith}
 use Rattle.std.proofs.lemmas.List.{length-set, length-append}
 use Rattle.std.proofs.lemmas.List.Elements.{All-append, All-cons, All-head, All-nil, All-push, All-set, All-tail}
@@ -46,7 +46,7 @@ all_at P xs i x all there = subst P (get_or_from_slice_get xs i x x there) (all 
 
 -- ---- a network
 
--- each device has a place for what it keeps, and each name there, or of a peer, has 33 bytes
+-- each device has a place for what it keeps, and each name there, or of a peer, has at most 255 bytes
 pub record KeepsNames (w : Net) : Type 0 where
   pub stores : All AreNames w.stores
   pub peers : All (λ s. HasNames s.peer) w.sessions

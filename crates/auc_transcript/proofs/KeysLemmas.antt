@@ -12,8 +12,7 @@ use Rattle.auc_lines.specs.declared.part.Part.{Part}
 use Rattle.auc_lines.specs.declared.part.Part.TheVariants as part
 use Rattle.auc_released.specs.declared.numbers.Number.{Number}
 use Rattle.auc_server.specs.declared.server.Resumed.{Resumed}
-use Rattle.auc_sqn.specs.Number.{max_seq}
-use Rattle.auc_subs.specs.Subscriber.{AreSubscribers}
+use Rattle.auc_subs.specs.Subscriber.{AreSubscribers, top_at}
 use Rattle.auc_world.proofs.Facts.{AgainOf, AllLaws, HoldsOf, IsDrawn, IsKnown, IsOfJob, Laws, agreed, counted_once, job_runs, number_counts, of_sub, one_challenge_is_of_one_number, peer_success_is_drawn, peer_success_is_resumed, server_success_is_drawn, server_success_is_resumed}
 use Rattle.auc_world.specs.Agreement.{AreOfOne, AreOfOneChallenge, AreReleasedOnce, IsRealm, PeerWon, ServerWon}
 use Rattle.auc_world.specs.Given.{JobsGive}
@@ -202,20 +201,20 @@ counted : (released : List Number) (sub n : ℕ) → Contains released (record {
 counted released sub n (k, inside, at) =
     subst (λ (x : Number). 1 ≤ times x.n (of_sub x.sub released)) at (number_counts released k (record { sub = sub; n = n }) inside)
 
--- each number of the lines is one that a vector may have, and is released once
+-- each number of the lines is one that a vector of its subscriber may have, and is released once
 record AreOnce (set : Setting) (lines : List LineRecord) : Type 0 where
   once : (sub : ℕ) → sub < length set.rows → (n : ℕ) → times n (numbers_of sub lines) ≤ 1
-  within : (sub : ℕ) → All (λ n. n ≤ max_seq) (numbers_of sub lines)
+  within : (sub : ℕ) → All (λ n. n ≤ top_at set.rows sub) (numbers_of sub lines)
 
 -- so a job releases each once
-job_releases_once : (set : Setting) (net : Net) (lines : List LineRecord) → AreOnce set lines → IsOfJob set net lines → AreReleasedOnce net.released
+job_releases_once : (set : Setting) (net : Net) (lines : List LineRecord) → AreOnce set lines → IsOfJob set net lines → AreReleasedOnce set.rows net.released
 job_releases_once set net lines are is = record {
   once = counted_once net.released (IsKnown set) is.known (λ x known. let few = is.counts x.sub x.n in let one = are.once x.sub known x.n in omega (arith, few, one));
   numbers = λ k d inside.
       let x = get_or net.released k d in
       let some = number_counts net.released k d inside in
       let more = is.counts x.sub x.n in
-      All-times (λ n. n ≤ max_seq) x.n (numbers_of x.sub lines) (are.within x.sub) (omega (arith, some, more));
+      All-times (λ n. n ≤ top_at set.rows x.sub) x.n (numbers_of x.sub lines) (are.within x.sub) (omega (arith, some, more));
 }
 
 -- ---- the law

@@ -13,6 +13,7 @@ use Rattle.auc_lines.specs.declared.part.Line.{Line}
 use Rattle.auc_lines.specs.declared.part.Line.TheVariants as line
 use Rattle.auc_lines.specs.declared.part.SessionLine.{SessionLine}
 use Rattle.auc_lines.specs.declared.sites.SiteEvent.{SiteEvent}
+use Rattle.auc_lines.specs.declared.part.Report.{Report}
 use Rattle.auc_random.specs.Random.{rand_of}
 use Rattle.auc_request.specs.Request.{is_separated}
 use Rattle.auc_sim.specs.declared.note.SimNote.{SimNote}
@@ -20,7 +21,7 @@ use Rattle.auc_sites.specs.Network.{Network, Turn, after_event}
 use Rattle.auc_sites.specs.Run.{judgement_in}
 use Rattle.auc_sites.specs.declared.master.Judged.{Judged}
 use Rattle.auc_sites.specs.declared.master.Judged.TheVariants as judged
-use Rattle.auc_sqn.specs.Number.{max_seq}
+use Rattle.auc_subs.specs.Subscriber.{top_at}
 use Rattle.auc_subs.specs.declared.row.Row.{Row}
 use Rattle.auc_vector.specs.declared.parts.Vector.{Vector as AuthVector}
 use Rattle.auc_world.specs.Given.{AuthenticatesIf, Before, DrawGives, EpsGives, EventGives, FivegFollows, FivegGives, GiveGives, IsGiven, IsReleasable, LineGives, OneGives, SyncGives, VectorsFollow, behind, device_of_row, hxres_lines, is_released, judged_lines, kasme_line, outcome_of, past_before, turned}
@@ -60,9 +61,9 @@ behind_on place front rest = ap (λ (own : List LineRecord). record { early = pl
 abbrev pub IsKnown : Setting → Before → LineRecord → Type 0
 IsKnown set place (Vector s n) = IsReleasable set s n
 IsKnown set place (Withheld s n stop) = Unit {0}
-IsKnown set place (Exhausted s word) = max_seq ≤ word
+IsKnown set place (Exhausted s word) = top_at set.rows s ≤ word
 IsKnown set place (Sync s answer) = Unit {0}
-IsKnown set place (Give s n answer) = (row : Row) × (slice_get set.rows s ≡ Some row) × IsGiven (is_released place s n) (past_before place row s) n answer
+IsKnown set place (Give s n answer) = (row : Row) × (slice_get set.rows s ≡ Some row) × IsGiven row (is_released place s n) (past_before place row s) n answer
 IsKnown set place (Further said) = Unit {0}
 IsKnown set place (Event r) = ⊥
 
@@ -104,7 +105,8 @@ one_known set place sub Follows (Vector s n ∷ lines) known (same, is, more) = 
   subst (λ (t : ℕ). AreKnown set (behind place (Vector t n ∷ [])) lines) (sym same) (known n lines more),
 )
 one_known set place sub Follows (Withheld s n stop ∷ lines) known (same, first, last, none) = (tt, none_known set (behind place (Withheld s n stop ∷ [])) lines none)
-one_known set place sub Follows (Exhausted s word ∷ lines) known (same, spent, none) = (spent, none_known set (behind place (Exhausted s word ∷ [])) lines none)
+one_known set place sub Follows (Exhausted s word ∷ lines) known (same, spent, none) =
+    (subst (λ (t : ℕ). top_at set.rows t ≤ word) (sym same) spent, none_known set (behind place (Exhausted s word ∷ [])) lines none)
 one_known set place sub Follows (Sync s answer ∷ lines) known gives = absurd gives
 one_known set place sub Follows (Give s n answer ∷ lines) known gives = absurd gives
 one_known set place sub Follows (Further said ∷ lines) known gives = absurd gives
@@ -123,8 +125,8 @@ follows_known set place sub count (verdict.InRange seen seq_ms) lines gives = dr
 follows_known set place sub count (verdict.Beyond seen seq_ms) lines none = none_known set place lines none
 follows_known set place sub count verdict.WrongMac lines none = none_known set place lines none
 
-sync_known : (set : Setting) (place : Before) (sub seq : ℕ) (bit : Option ℕ) (count : ℕ) (lines : List LineRecord) → SyncGives set sub seq bit count lines → AreKnown set place lines
-sync_known set place sub seq bit count lines gives =
+sync_known : (set : Setting) (place : Before) (sub : ℕ) (report : Report) (count : ℕ) (lines : List LineRecord) → SyncGives set sub report count lines → AreKnown set place lines
+sync_known set place sub report count lines gives =
     subst (AreKnown set place) (sym gives.lines_are)
     (tt, follows_known set (behind place (Sync sub gives.answer ∷ [])) sub count gives.answer gives.more gives.follows)
 
@@ -241,8 +243,8 @@ module _ (P : Line → Type 0) (quiet : (l : Line) → IsQuiet l → P l) (happe
   pub by_kind : (l : Line) → P l
   by_kind (line.Draw sub count) =
       quiet _ (record { opens = λ session. refl; gives = λ set place w next lines g. (draw_known set place sub count lines g.0, g.1) })
-  by_kind (line.Sync sub seq bit count) =
-      quiet _ (record { opens = λ session. refl; gives = λ set place w next lines g. (sync_known set place sub seq bit count lines g.0, g.1) })
+  by_kind (line.Sync sub report count) =
+      quiet _ (record { opens = λ session. refl; gives = λ set place w next lines g. (sync_known set place sub report count lines g.0, g.1) })
   by_kind (line.Give sub n) =
       quiet _ (record { opens = λ session. refl; gives = λ set place w next lines g. (give_known set place sub n lines g.0, g.1) })
   by_kind (line.Eps sub snid) =

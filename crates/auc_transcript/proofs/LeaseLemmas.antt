@@ -249,7 +249,7 @@ module _ (law : EachNumberIsHandedOutOnce) (set : Setting) where
 
   line_hands : (sub : ℕ) (before : Before) (net next : Net) (l : Line) (lines : List LineRecord) → LineGives set before net l lines next → IsRising (numbers_of sub lines) → Hands sub lines
   line_hands sub before net next (line.Draw who count) lines (gives, same) rising = silent_hands sub lines (draw_silent set who count sub lines gives)
-  line_hands sub before net next (line.Sync who seq bit count) lines (gives, same) rising =
+  line_hands sub before net next (line.Sync who report count) lines (gives, same) rising =
       silent_hands sub lines
       (subst (All (IsSilent sub)) (sym gives.lines_are)
       (All-cons (IsSilent sub) (Sync who gives.answer) gives.more refl (follows_silent sub set who count gives.answer gives.more gives.follows)))

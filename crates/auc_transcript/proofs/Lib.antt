@@ -12,8 +12,8 @@ mod PlaceLemmas
 mod PositionLemmas
 mod VectorLemmas
 mod AboveLemmas
-mod AcceptedLemmas
 mod FailureLemmas
+mod AcceptedLemmas
 mod SingleLemmas
 mod GenuineLemmas
 mod RestartLemmas
@@ -49,6 +49,7 @@ mod PlainLemmas
 mod ResumedLemmas
 mod Examples
 mod WitnessLemmas
+mod AgeWitnessLemmas
 mod OwnWitnessLemmas
 mod JobFoldLemmas
 mod PutBackLemmas

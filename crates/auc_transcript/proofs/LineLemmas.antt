@@ -11,7 +11,7 @@ use Rattle.auc_history.specs.declared.entry.Entry.TheVariants.{Drawn}
 use Rattle.auc_history.specs.History.{drawn, drawn_by}
 use Rattle.auc_history.specs.Split.{times}
 use Rattle.auc_history.proofs.Facts.{times-cons, times-append, times_at}
-use Rattle.auc_sqn.specs.Number.{max_seq, sqn_bytes}
+use Rattle.auc_sqn.specs.Number.{most_bits, sqn_bytes, top_of}
 use Rattle.auc_sqn.proofs.Facts.{each_number_has_its_own_sqn}
 use Rattle.auc_vector.specs.declared.notes.NumberNote.{NumberNote}
 use Rattle.auc_vector.specs.declared.notes.NumberNote.TheVariants as number
@@ -128,16 +128,17 @@ times-numbers-append n sub xs ys = ap (times n) (flat_map-append (released_by su
 -- ---- SQNs
 
 -- the SQN of a number of a list is one of the list's SQNs
-pub Contains-sqns : (n : ℕ) (numbers : List ℕ) → 1 ≤ times n numbers → Contains (map sqn_bytes numbers) (sqn_bytes n)
-Contains-sqns n numbers there =
+pub Contains-sqns : (bits n : ℕ) (numbers : List ℕ) → 1 ≤ times n numbers → Contains (map (sqn_bytes bits) numbers) (sqn_bytes bits n)
+Contains-sqns bits n numbers there =
     let (k, inside, at) = Contains-from_times n numbers there in
-    let size = length-map numbers sqn_bytes in (k, omega (arith, size, inside), get_or-map sqn_bytes numbers k n ∙ ap sqn_bytes at)
+    let size = length-map numbers (sqn_bytes bits) in (k, omega (arith, size, inside), get_or-map (sqn_bytes bits) numbers k n ∙ ap (sqn_bytes bits) at)
 
 -- a number stands in a list if its SQN is one of the list's, and all are numbers that vectors may have
-pub times-from_sqns : (n : ℕ) (numbers : List ℕ) → n ≤ max_seq → All (λ m. m ≤ max_seq) numbers → Contains (map sqn_bytes numbers) (sqn_bytes n) → 1 ≤ times n numbers
-times-from_sqns n numbers within all (k, k<n, at) =
-    let size = length-map numbers sqn_bytes in
+pub times-from_sqns : (bits n : ℕ) (numbers : List ℕ) → bits ≤ most_bits → n ≤ top_of bits → All (λ m. m ≤ top_of bits) numbers → Contains (map (sqn_bytes bits) numbers) (sqn_bytes bits n)
+    → 1 ≤ times n numbers
+times-from_sqns bits n numbers few within all (k, k<n, at) =
+    let size = length-map numbers (sqn_bytes bits) in
     let inside : k < length numbers = omega (arith, size, k<n) in
-    let sqns = sym (get_or-map sqn_bytes numbers k n) ∙ at in
-    let same = each_number_has_its_own_sqn (get_or numbers k n) n (all k n inside) within sqns in
+    let sqns = sym (get_or-map (sqn_bytes bits) numbers k n) ∙ at in
+    let same = each_number_has_its_own_sqn bits (get_or numbers k n) n few (all k n inside) within sqns in
     subst (λ (m : ℕ). 1 ≤ times m numbers) same (times_at numbers k n inside)

@@ -1,12 +1,14 @@
--- For plain sessions: each name that a peer is given or a device keeps, a pseudonym or the identity of a context, has 33 bytes.
-use Rattle.std.proofs.Common.{◌≡◌, ℕ, ◌==◌, nat_le, ◌+◌, not, Bool, true, false, cond, List, [], length, Option, Some, None, refl, sym, subst}
+-- For plain sessions: each name that a peer is given or a device keeps, a pseudonym or the identity of a context, has at most
+-- 255 bytes.
+use Rattle.std.proofs.Common.{◌≡◌, ℕ, ◌==◌, leb, nat_le, ◌+◌, not, Bool, true, false, cond, List, [], length, Option, Some, None, refl, sym, subst}
 use Rattle.std.specs.Prelude.{if◌then◌else◌}
 use Rattle.std.specs.Str.{bytes_eq}
-use Rattle.std.proofs.lemmas.Bool.{eqb-true}
+use Rattle.std.proofs.lemmas.Bool.{and_parts, leb-true}
 use Rattle.auc_hmac.specs.declared.keys.KeySet.{KeySet}
 use Rattle.auc_hmac.specs.declared.keys.Master.{Master}
 use Rattle.auc_hmac.specs.declared.method.Method.{Method}
 use Rattle.auc_hmac.specs.declared.method.Method.TheVariants as method
+use Rattle.auc_ident.specs.Name.{is_kept}
 use Rattle.auc_ident.specs.Permanent.{username}
 use Rattle.auc_packet.specs.Messages.{is_missing}
 use Rattle.auc_packet.specs.Received.{Seen, is_sealed}
@@ -45,13 +47,13 @@ use Rattle.auc_world.specs.Plain.{IsContext, IsPseudonym}
 
 -- ---- what a peer is given
 
--- a name that is read among attributes has 33 bytes
+-- a name that is read among attributes has at most 255 bytes
 read_one : (value : Option (List ℕ)) → IsPseudonym (next_name value)
 read_one None = tt
-read_one (Some text) = by (length (username text) == 33) refl
+read_one (Some text) = by (is_kept (username text)) refl
   where
-    by : (b : Bool) → (length (username text) == 33) ≡ b → IsPseudonym (if b then Some (username text) else None)
-    by true is = eqb-true (length (username text)) 33 is
+    by : (b : Bool) → is_kept (username text) ≡ b → IsPseudonym (if b then Some (username text) else None)
+    by true is = leb-true (length (username text)) 255 (and_parts (leb 1 (length (username text))) (leb (length (username text)) 255) is).1
     by false is = tt
 
 -- so have those of what was decrypted
@@ -171,7 +173,7 @@ row_named key s keeps p seen (row.Failure cause) n inner own is = own
 
 -- ---- what a device keeps
 
--- each pseudonym of a device has 33 bytes, and so has the identity of each context
+-- each pseudonym of a device has at most 255 bytes, and so has the identity of each context
 abbrev pub AreNames : Keeps → Type 0
 AreNames keeps = (m : Method) → IsPseudonym (entry m keeps.pseudonyms) × IsContext (entry m keeps.contexts)
 

@@ -7,6 +7,7 @@ use Rattle.auc_lines.specs.Sim.{SimValue}
 use Rattle.auc_lines.specs.Sites.{SitesValue}
 use Rattle.auc_lines.specs.declared.part.FivegLine.{FivegLine}
 use Rattle.auc_lines.specs.declared.sites.SiteEvent.{SiteEvent}
+use Rattle.auc_lines.specs.declared.part.Report.{Report}
 use Rattle.auc_random.specs.Random.{rand_of}
 use Rattle.auc_request.specs.Request.{is_separated}
 use Rattle.auc_sim.specs.Session.{SimRuns}
@@ -132,9 +133,9 @@ sync_verdicts s t a b e = cc
 give_verdicts : (s t m n : ℕ) (a b : GiveVerdict) → Give s m a ≡ Give t n b → a ≡ b
 give_verdicts s t m n a b e = cc
 
-pub sync_one : (set : Setting) (sub seq : ℕ) (bit : Option ℕ) (count : ℕ) (xs ys rest others : List LineRecord) → SyncGives set sub seq bit count xs → SyncGives set sub seq bit count ys
+pub sync_one : (set : Setting) (sub : ℕ) (report : Report) (count : ℕ) (xs ys rest others : List LineRecord) → SyncGives set sub report count xs → SyncGives set sub report count ys
     → told_job (xs ++ rest) ≡ told_job (ys ++ others) → xs ≡ ys
-sync_one set sub seq bit count xs ys rest others gives gave same =
+sync_one set sub report count xs ys rest others gives gave same =
     let a = gives.answer in
     let b = gave.answer in
     let cut : Sync sub a ∷ told_job (gives.more ++ rest) ≡ Sync sub b ∷ told_job (gave.more ++ others) =

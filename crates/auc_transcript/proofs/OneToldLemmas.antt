@@ -106,8 +106,8 @@ line_one : Laws → (set : Setting) (before also_before : Before) (net next also
     → LineGives set before net l xs next → LineGives set also_before net l ys also_next → told_job (xs ++ rest) ≡ told_job (ys ++ others) → AreOne xs ys rest others next also_next
 line_one laws set before also_before net next also_next (line.Draw sub count) xs ys rest others (gives, is) (gave, was) same =
     quiet_one net next also_next xs ys rest others (draw_one set sub count xs ys rest others gives gave same) is was same
-line_one laws set before also_before net next also_next (line.Sync sub seq bit count) xs ys rest others (gives, is) (gave, was) same =
-    quiet_one net next also_next xs ys rest others (sync_one set sub seq bit count xs ys rest others gives gave same) is was same
+line_one laws set before also_before net next also_next (line.Sync sub report count) xs ys rest others (gives, is) (gave, was) same =
+    quiet_one net next also_next xs ys rest others (sync_one set sub report count xs ys rest others gives gave same) is was same
 line_one laws set before also_before net next also_next (line.Give sub n) xs ys rest others (gives, is) (gave, was) same =
     quiet_one net next also_next xs ys rest others
     (answered_one sub n (λ answer. []) xs ys rest others gives.answer gave.answer gives.lines_are gave.lines_are same) is was same

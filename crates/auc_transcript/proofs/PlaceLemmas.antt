@@ -4,7 +4,6 @@ use Rattle.std.specs.Prelude.{if◌then◌else◌, count_by}
 use Rattle.std.proofs.lemmas.Bool.{cond-true, cond-false}
 use Rattle.std.proofs.lemmas.Bool.Decides.{nat_tests}
 use Rattle.std.proofs.lemmas.List.Sums.{sum_by-cons, length-filter}
-use Rattle.auc_sqn.specs.Number.{max_seq}
 use Rattle.auc_history.specs.declared.entry.Entry.{Entry}
 use Rattle.auc_history.specs.declared.entry.Entry.TheVariants.{Drawn, Moved, Look}
 use Rattle.auc_history.specs.History.{numbers_after, covered, drawn}
@@ -136,16 +135,16 @@ range_counts : (n low high : ℕ) → low < n → n ≤ high → ◌≡◌ {A = 
 range_counts n low high = grind (arith, nat_tests)
 
 -- a drawn number is in the range
-drawn_in_range : (low high : ℕ) (entries : List Entry) (n : ℕ) → CoversRange low high entries → n ≤ max_seq → 1 ≤ times n (drawn entries) → (low < n) × (n ≤ high)
-drawn_in_range low high entries n covers within there =
+drawn_in_range : (top low high : ℕ) (entries : List Entry) (n : ℕ) → CoversRange top low high entries → n ≤ top → 1 ≤ times n (drawn entries) → (low < n) × (n ≤ high)
+drawn_in_range top low high entries n covers within there =
     let more = times-drawn n entries in let once = covers.once n within in in_range n low high (omega (arith, there, more, once))
 
 -- between two drawn numbers with no move between each is drawn once
-drawn_between : (low high : ℕ) (entries : List Entry) (m k n : ℕ) → CoversRange low high entries → n ≤ max_seq → 1 ≤ times m (drawn entries) → 1 ≤ times n (drawn entries)
+drawn_between : (top low high : ℕ) (entries : List Entry) (m k n : ℕ) → CoversRange top low high entries → n ≤ top → 1 ≤ times m (drawn entries) → 1 ≤ times n (drawn entries)
     → is_moved entries m n ≡ false → m < k → k ≤ n → times k (drawn entries) ≡ 1
-drawn_between low high entries m k n covers within first last none above below =
-    let (m_low, m_high) = drawn_in_range low high entries m covers (omega arith) first in
-    let (n_low, n_high) = drawn_in_range low high entries n covers within last in
+drawn_between top low high entries m k n covers within first last none above below =
+    let (m_low, m_high) = drawn_in_range top low high entries m covers (omega arith) first in
+    let (n_low, n_high) = drawn_in_range top low high entries n covers within last in
     let m_once = covers.once m (omega arith) ∙ range_counts m low high m_low m_high in
     let k_once = covers.once k (omega arith) ∙ range_counts k low high (omega arith) (omega arith) in
     let both = covers_both entries m k n above below none in
@@ -153,11 +152,11 @@ drawn_between low high entries m k n covers within first last none above below =
     omega (arith, m_once, k_once, both, most, first)
 
 -- two drawn numbers of a stretch with no move between are as far apart as their places
-place_apart : (low high : ℕ) (entries : List Entry) (m n : ℕ) → CoversRange low high entries → m ≤ n → n ≤ max_seq
+place_apart : (top low high : ℕ) (entries : List Entry) (m n : ℕ) → CoversRange top low high entries → m ≤ n → n ≤ top
     → 1 ≤ times m (drawn entries) → 1 ≤ times n (drawn entries) → is_moved entries m n ≡ false → place_in entries n ≡ place_in entries m + (n - m)
-place_apart low high entries m n covers up within first last none =
+place_apart top low high entries m n covers up within first last none =
     let to : m + (n - m) ≡ n = omega arith in
-    let rises = place_rises entries m (n - m) (rw to none) (λ k above below. drawn_between low high entries m k n covers within first last none above (omega arith)) in
+    let rises = place_rises entries m (n - m) (rw to none) (λ k above below. drawn_between top low high entries m k n covers within first last none above (omega arith)) in
     ap (place_in entries) (sym to) ∙ rises
 
 -- ---- stretches
@@ -171,13 +170,13 @@ not_later_step true false false moved rest apart none more = more
 not_later_step false later here moved rest apart none more = more
 
 -- no number is of a later period than one that it isn't above
-pub not_later_down : (stretches : List (List Entry)) (m n : ℕ) → AreStretches stretches → m ≤ max_seq → n ≤ m → is_later stretches m n ≡ false
-not_later_down [] m n are within down = refl
-not_later_down (entries ∷ more) m n (covers, apart, are) within down =
+pub not_later_down : (top : ℕ) (stretches : List (List Entry)) (m n : ℕ) → AreStretches top stretches → m ≤ top → n ≤ m → is_later stretches m n ≡ false
+not_later_down top [] m n are within down = refl
+not_later_down top (entries ∷ more) m n (covers, apart, are) within down =
     not_later_step (is_in m (drawn entries)) (is_in n (drawn (all_entries more))) (is_in n (drawn entries)) (is_moved entries m n) (is_later more m n)
     (λ first later.
     let up = apart.above m n within (omega arith) (times-from_is_in m (drawn entries) first) (times-from_is_in n (drawn (all_entries more)) later) in omega arith)
-    (not_moved_down entries m n down) (not_later_down more m n are within down)
+    (not_moved_down entries m n down) (not_later_down top more m n are within down)
 
 -- if the second of two numbers of a stretch is of no later period, no move is between them
 same_stretch : (first later here moved rest : Bool) → first ≡ true → here ≡ true → ((first && (later || (here && moved))) || rest) ≡ false → moved ≡ false
@@ -204,23 +203,23 @@ drawn_more n entries more there none =
     few (suc here) later all cut there none = absurd (none (omega arith))
 
 -- places of two numbers, by whether the first stretch drew each
-apart_cases : (entries : List Entry) (more : List (List Entry)) (low high m n : ℕ) → CoversRange low high entries → AreAbove (drawn entries) more → m ≤ n → n ≤ max_seq
+apart_cases : (top : ℕ) (entries : List Entry) (more : List (List Entry)) (low high m n : ℕ) → CoversRange top low high entries → AreAbove top (drawn entries) more → m ≤ n → n ≤ top
     → 1 ≤ times m (drawn (all_entries (entries ∷ more))) → 1 ≤ times n (drawn (all_entries (entries ∷ more))) → is_later (entries ∷ more) m n ≡ false
     → (1 ≤ times m (drawn (all_entries more)) → 1 ≤ times n (drawn (all_entries more)) → is_later more m n ≡ false → place_of more n ≡ place_of more m + (n - m))
     → (a b : Bool) → is_in m (drawn entries) ≡ a → is_in n (drawn entries) ≡ b → place_of (entries ∷ more) n ≡ place_of (entries ∷ more) m + (n - m)
-apart_cases entries more low high m n covers apart up within first last none rest true true is_m is_n =
+apart_cases top entries more low high m n covers apart up within first last none rest true true is_m is_n =
     let moved = same_stretch (is_in m (drawn entries)) (is_in n (drawn (all_entries more))) (is_in n (drawn entries)) (is_moved entries m n) (is_later more m n) is_m is_n none in
-    let here = place_apart low high entries m n covers up within (times-from_is_in m (drawn entries) is_m) (times-from_is_in n (drawn entries) is_n) moved in
+    let here = place_apart top low high entries m n covers up within (times-from_is_in m (drawn entries) is_m) (times-from_is_in n (drawn entries) is_n) moved in
     let place_m = cond-true (is_in m (drawn entries)) (place_in entries m) (place_of more m) is_m in
     let place_n = cond-true (is_in n (drawn entries)) (place_in entries n) (place_of more n) is_n in
     omega (arith, here, place_m, place_n)
-apart_cases entries more low high m n covers apart up within first last none rest true false is_m is_n =
+apart_cases top entries more low high m n covers apart up within first last none rest true false is_m is_n =
     let there = is_in-from_times n (drawn (all_entries more)) (drawn_more n entries more last is_n) in
     let not_there = not_in_later (is_in m (drawn entries)) (is_in n (drawn (all_entries more))) (is_in n (drawn entries)) (is_moved entries m n) (is_later more m n) is_m none in
     absurd (let no : ⊥ = cc in no)
-apart_cases entries more low high m n covers apart up within first last none rest false true is_m is_n =
+apart_cases top entries more low high m n covers apart up within first last none rest false true is_m is_n =
     let down = apart.above n m within (omega arith) (times-from_is_in n (drawn entries) is_n) (drawn_more m entries more first is_m) in absurd (omega arith)
-apart_cases entries more low high m n covers apart up within first last none rest false false is_m is_n =
+apart_cases top entries more low high m n covers apart up within first last none rest false false is_m is_n =
     let there = rest (drawn_more m entries more first is_m) (drawn_more n entries more last is_n)
     (later_rest (is_in m (drawn entries) && (is_in n (drawn (all_entries more)) || (is_in n (drawn entries) && is_moved entries m n))) (is_later more m n) none) in
     let place_m = cond-false (is_in m (drawn entries)) (place_in entries m) (place_of more m) is_m in
@@ -228,10 +227,10 @@ apart_cases entries more low high m n covers apart up within first last none res
     omega (arith, there, place_m, place_n)
 
 -- two drawn numbers of one period are as far apart as their places
-pub places_apart : (stretches : List (List Entry)) (m n : ℕ) → AreStretches stretches → m ≤ n → n ≤ max_seq
+pub places_apart : (top : ℕ) (stretches : List (List Entry)) (m n : ℕ) → AreStretches top stretches → m ≤ n → n ≤ top
     → 1 ≤ times m (drawn (all_entries stretches)) → 1 ≤ times n (drawn (all_entries stretches)) → is_later stretches m n ≡ false
     → place_of stretches n ≡ place_of stretches m + (n - m)
-places_apart [] m n are up within first last none = absurd (omega (arith, first))
-places_apart (entries ∷ more) m n ((low, high, covers), apart, are) up within first last none =
-    apart_cases entries more low high m n covers apart up within first last none (λ m_there n_there none. places_apart more m n are up within m_there n_there none)
+places_apart top [] m n are up within first last none = absurd (omega (arith, first))
+places_apart top (entries ∷ more) m n ((low, high, covers), apart, are) up within first last none =
+    apart_cases top entries more low high m n covers apart up within first last none (λ m_there n_there none. places_apart top more m n are up within m_there n_there none)
     (is_in m (drawn entries)) (is_in n (drawn entries)) refl refl

@@ -23,7 +23,7 @@ use Rattle.auc_world.specs.Event.{asked_in, number_in, number_released, resync_i
 use Rattle.auc_world.specs.Given.{Before, EventGives, JobGives, JobsGive, PlainGives, RelayGives, behind, packet_of}
 use Rattle.auc_world.specs.Lines.{all_lines}
 use Rattle.auc_world.specs.Net.{Net, other as other_end}
-use Rattle.auc_world.specs.Plain.{EachPlainSessionSucceeds, IsAskedFor, Succeeds, TellChallenge, TellNoCause, came_of, counter_accepted, counter_resumed, is_refused, is_too_far, results, sqn_reported}
+use Rattle.auc_world.specs.Plain.{EachPlainSessionSucceeds, IsAskedFor, Succeeds, TellChallenge, TellNoCause, came_of, counter_accepted, counter_resumed, is_refused, is_unresolved, results, sqn_reported}
 use Rattle.auc_world.specs.Sessions.{job_sessions, verdict_on}
 use Rattle.auc_world.specs.Start.{Kept, kept_by_jobs, start_of}
 use Rattle.auc_world.specs.Transcript.{Course, Leads, after_restart, after_round, beginning}
@@ -107,7 +107,7 @@ some_tell sub syncs front own back none also all =
     record {
       own = within (λ c. IsAskedFor sub (asked_in c)) all.own;
       given = within (λ c. is_refused (number_in c) ≡ false) all.given;
-      near = within (λ c. is_too_far (resync_in c) ≡ false) all.near;
+      resolved = within (λ c. is_unresolved (resync_in c) ≡ false) all.resolved;
       once = omega (arith, once, long, more);
       challenge = challenge_told front own back none also all.challenge;
     }
@@ -242,7 +242,7 @@ parts_agree laws set stop at (part.Round jobs ∷ parts) (record_of.Round round 
     let verdicts = serves.lawful.sessions in (
       jobs_succeed laws set at.early at.kept [] jobs round.jobs first round.sessions are realm named sized
           (λ v is. Contains-permutation _ round.sessions v verdicts.same (subst (λ (ns : List Net). Contains (verdicts_of ns) v) (sym one.1) is)) gives,
-      parts_agree laws set stop (after_round at round serves.words serves.lawful.nets) parts records end nets are realm
+      parts_agree laws set stop (after_round set.rows at round serves.words serves.lawful.nets) parts records end nets are realm
           (round_named set at.early at.kept jobs round.jobs serves.lawful.nets named serves.lawful.given)
           (round_sized set at.early at.kept jobs round.jobs serves.lawful.nets sized serves.lawful.given) (subst (λ (c : Course). Leads set stop c parts records end) serves.leads rest)
           (subst (λ (ns : List Net). AreNetsAfter set (at.early ++ all_lines round.jobs) (kept_by_jobs at.kept ns) parts records nets) (sym one.1) more),

@@ -1,5 +1,5 @@
 -- For the law of vectors that sessions present: the USIM answers such a vector by its past, as it answers one that is given.
-use Rattle.std.proofs.Common.{◌≡◌, ℕ, zero, suc, ◌%◌, ◌≤◌, ◌==◌, Bool, true, false, List, Option, Some, None, refl, sym, ap, ◌∙◌, subst}
+use Rattle.std.proofs.Common.{◌≡◌, ℕ, zero, suc, ◌≤◌, ◌==◌, Bool, true, false, List, Option, Some, None, refl, sym, ap, ◌∙◌, subst}
 use Rattle.std.specs.Prelude.{if◌then◌else◌, slice_get}
 use Rattle.std.specs.Option.{option_map}
 use Rattle.std.proofs.lemmas.Bool.{eqb-true}
@@ -14,10 +14,10 @@ use Rattle.auc_peer.specs.Rows.{peer_row}
 use Rattle.auc_peer.specs.Subscription.{Subscription}
 use Rattle.auc_peer.specs.Turn.{asked}
 use Rattle.auc_peer.specs.declared.peer.Challenge.{Challenge}
-use Rattle.auc_sqn.specs.Number.{ind_of, max_seq, seq_of, sqn_bytes}
+use Rattle.auc_sqn.specs.Number.{ind_of, seq_of, sqn_bytes, top_of}
 use Rattle.auc_sqn.specs.Past.{Past, IsSqnMs, verdict_of}
 use Rattle.auc_sqn.specs.declared.verdict.Verdict.{Verdict}
-use Rattle.auc_sqn.specs.declared.verdict.Verdict.TheVariants.{Fresh, Old, Far}
+use Rattle.auc_sqn.specs.declared.verdict.Verdict.TheVariants.{Fresh, Old, Far, Aged}
 use Rattle.auc_sqn.proofs.Facts.{ind_of-sqn_bytes, seq_of-sqn_bytes}
 use Rattle.auc_subs.specs.Subscriber.{IsRow}
 use Rattle.auc_subs.specs.declared.row.Row.{Row}
@@ -30,7 +30,7 @@ use Rattle.auc_vector.specs.declared.notes.UsimNote.TheVariants as usim
 use Rattle.auc_vector.proofs.Facts.{autn_carries, autn_has_its_mac}
 use Rattle.auc_world.specs.Came.{AreReceived, Came, TellsNotes, bytes_named, came, came_at_peer, came_delivered, presented_at, presented_by, presented_in, received_at, received_by}
 use Rattle.auc_world.specs.Event.{device_in, usim_for, usim_in}
-use Rattle.auc_world.specs.Given.{Before, IsUsimAsked, UsimAnswers, UsimNotes, past_before}
+use Rattle.auc_world.specs.Given.{Before, IsUsimAsked, UsimAnswers, UsimNotes, past_before, verdict_by}
 use Rattle.auc_world.specs.Happened.{Delivery, Told, delivery_at, delivery_of, peer_turn}
 use Rattle.auc_world.specs.Net.{Net, keeps_at, packet_at, session_place}
 use Rattle.auc_world.specs.Setting.{Setting}
@@ -70,46 +70,48 @@ one_failure : (a b m n : List ℕ) → answer.SyncFailure a m ≡ answer.SyncFai
 one_failure a b m n e = cc
 
 -- the answer to a right MAC, by the verdict
-failure_given : (s : Secret) (past : Past) (c : Challenge) (note : UsimNote) (sqn_ms : List ℕ) → IsSqnMs past sqn_ms
-    → answer_noted s c note ≡ answer.SyncFailure (auts s.k s.opc c.rand sqn_ms) sqn_ms → (m : List ℕ) × IsSqnMs past m × (given_of note ≡ given.Sync m)
-failure_given s past c (usim.Accepted sqn) sqn_ms is same = absurd (not_failed s c.rand c.autn (auts s.k s.opc c.rand sqn_ms) sqn_ms (sym same))
-failure_given s past c (usim.Sync m) sqn_ms is same =
+failure_given : (s : Secret) (bits : ℕ) (past : Past) (c : Challenge) (note : UsimNote) (sqn_ms : List ℕ) → IsSqnMs bits past sqn_ms
+    → answer_noted s c note ≡ answer.SyncFailure (auts s.k s.opc c.rand sqn_ms) sqn_ms → (m : List ℕ) × IsSqnMs bits past m × (given_of note ≡ given.Sync m)
+failure_given s bits past c (usim.Accepted sqn) sqn_ms is same = absurd (not_failed s c.rand c.autn (auts s.k s.opc c.rand sqn_ms) sqn_ms (sym same))
+failure_given s bits past c (usim.Sync m) sqn_ms is same =
     (sqn_ms, is, ap given.Sync (one_failure (auts s.k s.opc c.rand m) (auts s.k s.opc c.rand sqn_ms) m sqn_ms same))
-failure_given s past c usim.WrongMac sqn_ms is same = absurd (no_wrong (auts s.k s.opc c.rand sqn_ms) sqn_ms same)
+failure_given s bits past c usim.WrongMac sqn_ms is same = absurd (no_wrong (auts s.k s.opc c.rand sqn_ms) sqn_ms same)
 
-follows_given : (s : Secret) (past : Past) (c : Challenge) (note : UsimNote) (v : Verdict) → FollowsVerdict s past c.rand c.autn v (answer_noted s c note) → UsimAnswers v past (given_of note)
-follows_given s past c (usim.Accepted sqn) Fresh same = refl
-follows_given s past c (usim.Sync m) Fresh same = absurd (not_failed s c.rand c.autn (auts s.k s.opc c.rand m) m same)
-follows_given s past c usim.WrongMac Fresh same = absurd (not_wrong s c.rand c.autn same)
-follows_given s past c note (Old entry) (sqn_ms, is, same) = failure_given s past c note sqn_ms is same
-follows_given s past c note (Far greatest) (sqn_ms, is, same) = failure_given s past c note sqn_ms is same
-
--- a USIM finds in a vector of its own row the MAC that it expects, and the SQN of the vector's number
-finds_mac : (r : Row) (n : ℕ) (rand : List ℕ) → IsRow r
-    → mac_in (autn_of r.secret.k r.secret.opc rand r.amf n) ≡ xmac r.secret rand (autn_of r.secret.k r.secret.opc rand r.amf n)
-unfolding xmac sqn_in sqn_found
-finds_mac r n rand is = autn_has_its_mac r.secret.k r.secret.opc rand r.amf n is.key is.operator is.management
-
-finds_sqn : (r : Row) (n : ℕ) (rand : List ℕ) → IsRow r → sqn_in r.secret rand (autn_of r.secret.k r.secret.opc rand r.amf n) ≡ sqn_bytes n
-unfolding sqn_in sqn_found
-finds_sqn r n rand is = autn_carries r.secret.k r.secret.opc rand r.amf n is.key is.operator
+follows_given : (s : Secret) (bits : ℕ) (past : Past) (c : Challenge) (note : UsimNote) (v : Verdict) → FollowsVerdict s bits past c.rand c.autn v (answer_noted s c note)
+    → UsimAnswers bits v past (given_of note)
+follows_given s bits past c (usim.Accepted sqn) Fresh same = refl
+follows_given s bits past c (usim.Sync m) Fresh same = absurd (not_failed s c.rand c.autn (auts s.k s.opc c.rand m) m same)
+follows_given s bits past c usim.WrongMac Fresh same = absurd (not_wrong s c.rand c.autn same)
+follows_given s bits past c note (Old entry) (sqn_ms, is, same) = failure_given s bits past c note sqn_ms is same
+follows_given s bits past c note (Far greatest) (sqn_ms, is, same) = failure_given s bits past c note sqn_ms is same
+follows_given s bits past c note (Aged greatest) (sqn_ms, is, same) = failure_given s bits past c note sqn_ms is same
 
 -- RAND and AUTN of the vector of a row
 abbrev pub vector_challenge : Row → ℕ → List ℕ → Challenge
-vector_challenge r n rand = record { rand = rand; autn = autn_of r.secret.k r.secret.opc rand r.amf n }
+vector_challenge r n rand = record { rand = rand; autn = autn_of r.secret.k r.secret.opc rand r.amf r.bits n }
+
+-- a USIM finds in a vector of its own row the MAC that it expects, and the SQN of the vector's number
+finds_mac : (r : Row) (n : ℕ) (rand : List ℕ) → IsRow r → mac_in (vector_challenge r n rand).autn ≡ xmac r.secret rand (vector_challenge r n rand).autn
+unfolding xmac sqn_in sqn_found
+finds_mac r n rand is = autn_has_its_mac r.secret.k r.secret.opc rand r.amf r.bits n is.key is.operator is.management
+
+finds_sqn : (r : Row) (n : ℕ) (rand : List ℕ) → IsRow r → sqn_in r.secret rand (vector_challenge r n rand).autn ≡ sqn_bytes r.bits n
+unfolding sqn_in sqn_found
+finds_sqn r n rand is = autn_carries r.secret.k r.secret.opc rand r.amf r.bits n is.key is.operator
 
 -- so it answers as it answers the vector that is given
-pub vector_given : (r : Row) (past : Past) (n : ℕ) (rand : List ℕ) (note : UsimNote) → IsRow r → n ≤ max_seq
-    → IsAnswer r.secret past rand (autn_of r.secret.k r.secret.opc rand r.amf n) (answer_noted r.secret (vector_challenge r n rand) note)
-    → UsimAnswers (verdict_of past n (n % 32)) past (given_of note)
+pub vector_given : (r : Row) (past : Past) (n : ℕ) (rand : List ℕ) (note : UsimNote) → IsRow r → n ≤ top_of r.bits
+    → IsAnswer r.secret r.bits r.age past rand (vector_challenge r n rand).autn (answer_noted r.secret (vector_challenge r n rand) note)
+    → UsimAnswers r.bits (verdict_by r past n) past (given_of note)
 vector_given r past n rand note is within answers =
-    let autn = autn_of r.secret.k r.secret.opc rand r.amf n in
+    let autn = (vector_challenge r n rand).autn in
     let sqn = finds_sqn r n rand is in
-    let verdict : verdict_on r.secret past rand autn ≡ verdict_of past n (n % 32) =
-    ap (λ (b : List ℕ). verdict_of past (seq_of b) (ind_of b)) sqn
-    ∙ ap (λ (seq : ℕ). verdict_of past seq (ind_of (sqn_bytes n))) (seq_of-sqn_bytes n within) ∙ ap (λ (ind : ℕ). verdict_of past n ind) (ind_of-sqn_bytes n within) in
-    subst (λ (v : Verdict). UsimAnswers v past (given_of note)) verdict
-    (follows_given r.secret past (vector_challenge r n rand) note (verdict_on r.secret past rand autn) (answers.right_mac (finds_mac r n rand is)))
+    let verdict : verdict_on r.secret r.bits r.age past rand autn ≡ verdict_by r past n =
+    ap (λ (b : List ℕ). verdict_of r.age past (seq_of r.bits b) (ind_of r.bits b)) sqn
+    ∙ ap (λ (seq : ℕ). verdict_of r.age past seq (ind_of r.bits (sqn_bytes r.bits n))) (seq_of-sqn_bytes r.bits n is.few within)
+    ∙ ap (λ (ind : ℕ). verdict_of r.age past n ind) (ind_of-sqn_bytes r.bits n is.few within) in
+    subst (λ (v : Verdict). UsimAnswers r.bits v past (given_of note)) verdict
+    (follows_given r.secret r.bits past (vector_challenge r n rand) note (verdict_on r.secret r.bits r.age past rand autn) (answers.right_mac (finds_mac r n rand is)))
 
 -- ---- what a delivery hands the USIM
 
@@ -122,7 +124,7 @@ pub record IsHanded (set : Setting) (place : Before) (sub : ℕ) (bytes : List �
   pub of_bytes : seen.bytes ≡ bytes
   pub challenge : Challenge
   pub is_read : IsReadIn seen.reading challenge
-  pub answers : IsAnswer row.secret (past_before place row sub) challenge.rand challenge.autn (answer_noted row.secret challenge note)
+  pub answers : IsAnswer row.secret row.bits row.age (past_before place row sub) challenge.rand challenge.autn (answer_noted row.secret challenge note)
 
 -- what the USIM of a subscriber answered
 abbrev usim_of : ℕ → Came → Option UsimNote
@@ -132,11 +134,11 @@ no_note : (note : UsimNote) → ◌≡◌ {A = Option UsimNote} None (Some note)
 no_note note e = cc
 
 -- the challenge that the USIM answered
-asked_and_answered : (s : Secret) (past : Past) (c : Option Challenge) (n : Option UsimNote) (note : UsimNote) → n ≡ Some note → UsimNotes s past c n
-    → (challenge : Challenge) × (c ≡ Some challenge) × IsAnswer s past challenge.rand challenge.autn (answer_noted s challenge note)
-asked_and_answered s past None n note is none = absurd (no_note note (sym none ∙ is))
-asked_and_answered s past (Some c) None note is none = absurd none
-asked_and_answered s past (Some c) (Some m) note is answers = (c, refl, subst (λ (x : UsimNote). IsAnswer s past c.rand c.autn (answer_noted s c x)) (one m note is) answers)
+asked_and_answered : (s : Secret) (home : Row) (past : Past) (c : Option Challenge) (n : Option UsimNote) (note : UsimNote) → n ≡ Some note → UsimNotes s home past c n
+    → (challenge : Challenge) × (c ≡ Some challenge) × IsAnswer s home.bits home.age past challenge.rand challenge.autn (answer_noted s challenge note)
+asked_and_answered s home past None n note is none = absurd (no_note note (sym none ∙ is))
+asked_and_answered s home past (Some c) None note is none = absurd none
+asked_and_answered s home past (Some c) (Some m) note is answers = (c, refl, subst (λ (x : UsimNote). IsAnswer s home.bits home.age past c.rand c.autn (answer_noted s c x)) (one m note is) answers)
   where
     one : (a b : UsimNote) → Some a ≡ Some b → a ≡ b
     one a b e = cc
@@ -154,7 +156,7 @@ peer_handed set place w d told sub note (Some device) at' received tells is secr
 
     here : notes ≡ Some note → IsHanded set place d.session.sub d.bytes note
     here answered =
-        let (challenge, handed, answers) = asked_and_answered device.secret (past_before place is.row d.session.sub) (asked (peer_row d.session.peer told.seen)) told.notes.usim note
+        let (challenge, handed, answers) = asked_and_answered device.secret is.row (past_before place is.row d.session.sub) (asked (peer_row d.session.peer told.seen)) told.notes.usim note
         (ap (λ (n : Notes). n.usim) tells ∙ answered) is.answers in
         let was : IsReceived told.seen × (told.seen.bytes ≡ d.bytes) = subst (λ (x : Option Subscription). AreReceived (received_by d.bytes x) told.seen) at' received in
         record {
@@ -165,7 +167,7 @@ peer_handed set place w d told sub note (Some device) at' received tells is secr
           of_bytes = was.1;
           challenge = challenge;
           is_read = handed_is_read d.session.peer told.seen challenge handed;
-          answers = subst (λ (s : Secret). IsAnswer s (past_before place is.row d.session.sub) challenge.rand challenge.autn (answer_noted s challenge note))
+          answers = subst (λ (s : Secret). IsAnswer s is.row.bits is.row.age (past_before place is.row d.session.sub) challenge.rand challenge.autn (answer_noted s challenge note))
               (secret device is.row at' is.there) answers;
         }
 

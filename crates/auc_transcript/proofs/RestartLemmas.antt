@@ -1,7 +1,6 @@
 -- The law of restarts: one may follow every lawful transcript, since some limits meet what is asked of them.
 use Rattle.std.proofs.Common.{◌≡◌, ℕ, zero, suc, ◌+◌, ◌<◌, ◌≤◌, ◌⊎◌, nat_le, min, max, List, [], ◌∷◌, Option, None, length, get_or, All, refl, sym, ◌∙◌, ap, subst, arith, inl, inr}
 use Rattle.std.specs.Prelude.{if◌then◌else◌}
-use Rattle.std.proofs.Math.ListN.{length-map}
 use Rattle.std.proofs.lemmas.Bool.{cases_lt}
 use Rattle.std.proofs.lemmas.Bool.Decides.{nat_tests}
 use Rattle.std.proofs.lemmas.List.Elements.{All-head, All-tail}
@@ -11,6 +10,7 @@ use Rattle.auc_history.proofs.Facts.{times_at}
 use Rattle.auc_sqn.specs.Number.{max_seq}
 use Rattle.auc_lines.specs.declared.part.Part.{Part}
 use Rattle.auc_lines.specs.declared.part.Part.TheVariants.{Round, Restart}
+use Rattle.auc_subs.specs.Subscriber.{top_at}
 use Rattle.auc_subs.specs.declared.row.Row.{Row}
 use Rattle.auc_world.specs.declared.record.PartRecord.{PartRecord}
 use Rattle.auc_world.specs.declared.record.PartRecord.TheVariants as record_of
@@ -21,8 +21,9 @@ use Rattle.auc_world.specs.Limits.{Raises}
 use Rattle.auc_world.specs.Net.{Net}
 use Rattle.auc_world.specs.Transcript.{Course, Leads, beginning, after_round, after_restart}
 use Rattle.auc_transcript.specs.Headline.{EachTranscriptMayRestart}
+use Rattle.auc_transcript.proofs.AboveLemmas.{top_is_number}
 use Rattle.auc_transcript.proofs.CourseLemmas.{leads_more}
-use Rattle.auc_world.proofs.Facts.{get_or-greater, length-opened}
+use Rattle.auc_world.proofs.Facts.{get_or-greater, length-opened, length-reopened}
 use Rattle.auc_transcript.proofs.LineLemmas.{All-times, times-numbers-append}
 use Rattle.auc_transcript.proofs.ServedLemmas.{round_served}
 use Rattle.auc_transcript.proofs.VectorLemmas.{numbers_within, round_between}
@@ -65,7 +66,7 @@ new_at (suc count) first (suc i) limits highs inside =
 
 -- ---- what a transcript leads to
 
--- each number that was released is at most the greatest closing word, and each limit is a number
+-- each number that was released is at most the greatest closing word, and it and each limit are numbers
 record IsKept (rows : List Row) (at : Course) : Type 0 where
   below : (sub n : ℕ) → sub < length rows → 1 ≤ times n (numbers_of sub at.early) → (n ≤ get_or at.highs sub 0) × (n ≤ max_seq)
   within : (sub : ℕ) → sub < length rows → get_or at.limits sub 0 ≤ max_seq
@@ -73,7 +74,7 @@ record IsKept (rows : List Row) (at : Course) : Type 0 where
 -- it is so after a round
 kept_round : (set : Setting) (at : Course) (round : RoundRecord) (words : List ℕ) (nets : List Net) → length words ≡ length set.rows
     → ((sub n : ℕ) → sub < length set.rows → 1 ≤ times n (numbers_of sub (all_lines round.jobs)) → (n ≤ get_or words sub 0) × (n ≤ max_seq))
-    → IsKept set.rows at → IsKept set.rows (after_round at round words nets)
+    → IsKept set.rows at → IsKept set.rows (after_round set.rows at round words nets)
 kept_round set at round words nets sizes here is = record {
   below = λ sub n inside some.
       let cut = times-numbers-append n sub at.early (all_lines round.jobs) in
@@ -93,16 +94,16 @@ parts_kept set stop at (part ∷ parts) [] end sizes is leads = absurd leads
 parts_kept set stop at (Round jobs ∷ parts) (record_of.Round round ∷ records) end sizes is (next, serves, rest) =
     let words = serves.words in
     let more = subst (λ (c : Course). Leads set stop c parts records end) serves.leads rest in
-    let many = length-map words (λ (word : ℕ). min word max_seq) in
     let same = serves.lawful.sizes in
     let here = kept_round set at round words serves.lawful.nets (omega (arith, same, sizes))
     (λ sub n inside some.
     let splits = serves.lawful.split sub (omega (arith, inside, sizes)) in
     let served = round_served set at.early at.kept jobs round.jobs serves.lawful.nets serves.lawful.given in
     let (up, down) = round_between sub (get_or at.openings sub 0) (get_or words sub 0) n round splits.once some in
-    (down, All-times (λ m. m ≤ max_seq) n (numbers_of sub (all_lines round.jobs)) (numbers_within set sub at.early (all_lines round.jobs) served) some))
+    let few = All-times (λ m. m ≤ top_at set.rows sub) n (numbers_of sub (all_lines round.jobs)) (numbers_within set sub at.early (all_lines round.jobs) served) some in
+    let most = top_is_number set.rows sub inside in (down, omega (arith, few, most)))
     is in
-    parts_kept set stop (after_round at round words serves.lawful.nets) parts records end (omega (arith, many, same, sizes)) here more
+    parts_kept set stop (after_round set.rows at round words serves.lawful.nets) parts records end (length-reopened set.rows words) here more
 parts_kept set stop at (Round jobs ∷ parts) (record_of.Restart ∷ records) end sizes is (next, serves, rest) = absurd serves
 parts_kept set stop at (Restart ∷ parts) (record_of.Round round ∷ records) end sizes is (next, serves, rest) = absurd serves
 parts_kept set stop at (Restart ∷ parts) (record_of.Restart ∷ records) end sizes is (next, restarts, rest) =

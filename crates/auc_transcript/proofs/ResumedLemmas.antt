@@ -229,7 +229,7 @@ parts_resume laws set stop at (part.Round jobs ∷ parts) (record_of.Round round
     let later : List Net → Type 0 = λ (ns : List Net). ResumedSessionsAgreeAfter set (at.early ++ all_lines round.jobs) (kept_by_jobs at.kept ns) parts records nets in (
       jobs_resume laws set round.sessions at.early at.kept [] jobs round.jobs first are realm named sized
           (λ v is. Contains-permutation _ round.sessions v verdicts.same (subst (λ (ns : List Net). Contains (verdicts_of ns) v) (sym one.1) is)) gives,
-      subst later one.1 (parts_resume laws set stop (after_round at round serves.words serves.lawful.nets) parts records end nets are realm
+      subst later one.1 (parts_resume laws set stop (after_round set.rows at round serves.words serves.lawful.nets) parts records end nets are realm
           (round_named set at.early at.kept jobs round.jobs serves.lawful.nets named serves.lawful.given)
           (round_sized set at.early at.kept jobs round.jobs serves.lawful.nets sized serves.lawful.given) (subst (λ (c : Course). Leads set stop c parts records end) serves.leads rest)
           (subst (λ (ns : List Net). AreNetsAfter set (at.early ++ all_lines round.jobs) (kept_by_jobs at.kept ns) parts records nets) (sym one.1) more)),

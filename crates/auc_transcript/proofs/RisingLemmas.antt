@@ -1,7 +1,6 @@
 -- For the law of leases: the numbers that a job releases for a subscriber rise, since its entries are a part of a history.
-use Rattle.std.proofs.Common.{◌≡◌, ℕ, zero, ◌<◌, ◌==◌, min, Bool, true, false, List, [], ◌∷◌, ◌++◌, length, get_or, All, Contains, Option, Some, None, refl, sym, subst, arith}
+use Rattle.std.proofs.Common.{◌≡◌, ℕ, zero, ◌<◌, ◌==◌, Bool, true, false, List, [], ◌∷◌, ◌++◌, length, get_or, All, Contains, Option, Some, None, refl, sym, subst, arith}
 use Rattle.std.specs.Prelude.{if◌then◌else◌}
-use Rattle.std.proofs.Math.ListN.{length-map}
 use Rattle.std.proofs.lemmas.List.Elements.{All-append, All-cons, All-head, All-nil, All-tail, Contains-append_left, Contains-append_right}
 use Rattle.auc_edge.specs.declared.stop.Stop.{Stop}
 use Rattle.auc_history.specs.History.{IsBefore, IsInOrder}
@@ -11,7 +10,6 @@ use Rattle.auc_history.proofs.Facts.{AllPairs-cons}
 use Rattle.auc_lines.specs.declared.part.Part.{Part}
 use Rattle.auc_lines.specs.declared.part.Part.TheVariants.{Round, Restart}
 use Rattle.auc_sites.specs.Lease.{IsRising}
-use Rattle.auc_sqn.specs.Number.{max_seq}
 use Rattle.auc_vector.specs.declared.notes.NumberNote.{NumberNote}
 use Rattle.auc_vector.specs.declared.notes.NumberNote.TheVariants as number
 use Rattle.auc_world.specs.Entries.{entries_of_jobs, entries_of_line, entries_of_lines, entries_of_number, entries_of_resync}
@@ -23,7 +21,7 @@ use Rattle.auc_world.specs.declared.record.LineRecord.{LineRecord}
 use Rattle.auc_world.specs.declared.record.LineRecord.TheVariants.{Vector, Withheld, Exhausted, Sync, Give, Further, Event}
 use Rattle.auc_world.specs.declared.record.PartRecord.{PartRecord}
 use Rattle.auc_world.specs.declared.record.PartRecord.TheVariants as record_of
-use Rattle.auc_world.proofs.Facts.{length-opened}
+use Rattle.auc_world.proofs.Facts.{length-opened, length-reopened}
 use Rattle.auc_transcript.proofs.ListLemmas.{AllPairs-right, all_of, pairs_across, pairs_join}
 
 -- ---- numbers, and the entries in which they were drawn
@@ -107,11 +105,10 @@ parts_rise set stop sub at (part ∷ parts) [] end inside sizes leads = absurd l
 parts_rise set stop sub at (Round jobs ∷ parts) (record_of.Round round ∷ records) end inside sizes (next, serves, rest) =
     let words = serves.words in
     let more = subst (λ (c : Course). Leads set stop c parts records end) serves.leads rest in
-    let kept = length-map words (λ (word : ℕ). min word max_seq) in
     let same = serves.lawful.sizes in
     let splits = serves.lawful.split sub (omega (arith, inside, sizes)) in
     All-cons (JobsRise sub) (record_of.Round round) records (jobs_rise sub [] round.jobs splits.ordered)
-    (parts_rise set stop sub (after_round at round words serves.lawful.nets) parts records end inside (omega (arith, kept, same, sizes)) more)
+    (parts_rise set stop sub (after_round set.rows at round words serves.lawful.nets) parts records end inside (length-reopened set.rows words) more)
 parts_rise set stop sub at (Round jobs ∷ parts) (record_of.Restart ∷ records) end inside sizes (next, serves, rest) = absurd serves
 parts_rise set stop sub at (Restart ∷ parts) (record_of.Round round ∷ records) end inside sizes (next, serves, rest) = absurd serves
 parts_rise set stop sub at (Restart ∷ parts) (record_of.Restart ∷ records) end inside sizes (next, restarts, rest) =

@@ -1,15 +1,15 @@
 -- For the laws: what the entries of a subscriber in one round cover and draw.
-use Rattle.std.proofs.Common.{◌≡◌, ℕ, ◌+◌, ◌≤◌, ◌==◌, ◌&&◌, nat_lt, nat_le, Bool, true, false, Option, Some, None, List, [], ◌∷◌, ◌++◌, get_or, refl, sym, ◌∙◌, ap, arith, min, max, append_assoc, append-nil}
+use Rattle.std.proofs.Common.{◌≡◌, ℕ, ◌+◌, ◌≤◌, ◌==◌, ◌&&◌, nat_lt, nat_le, Bool, true, false, Option, Some, None, List, [], ◌∷◌, ◌++◌, refl, sym, ◌∙◌, ap, subst, arith, min, max, append_assoc, append-nil}
 use Rattle.std.specs.Prelude.{if◌then◌else◌}
-use Rattle.std.proofs.Math.ListN.{get_or-map}
+use Rattle.std.proofs.lemmas.Bool.{eqb-true}
 use Rattle.std.proofs.lemmas.Bool.Decides.{nat_tests}
 use Rattle.std.proofs.lemmas.List.Concat.{flat_map-append}
-use Rattle.auc_sqn.specs.Number.{max_seq}
 use Rattle.auc_history.specs.declared.entry.Entry.{Entry}
 use Rattle.auc_history.specs.declared.entry.Entry.TheVariants.{Drawn, Look}
 use Rattle.auc_history.specs.History.{covers, covered, drawn, drawn_by}
 use Rattle.auc_history.specs.Split.{all_entries, times}
 use Rattle.auc_history.proofs.Facts.{times-append, times-cons}
+use Rattle.auc_subs.specs.Subscriber.{top_at}
 use Rattle.auc_vector.specs.declared.notes.NumberNote.{NumberNote}
 use Rattle.auc_vector.specs.declared.notes.NumberNote.TheVariants as number
 use Rattle.auc_vector.specs.declared.notes.ResyncNote.{ResyncNote}
@@ -23,25 +23,25 @@ use Rattle.auc_world.specs.declared.record.SyncVerdict.TheVariants as verdict
 use Rattle.auc_world.specs.Lines.{numbers_of, withheld_of, all_lines}
 use Rattle.auc_world.specs.Entries.{is_reported, entries_of_verdict, entries_of_resync, entries_of_number, entries_of_line, entries_of_lines, entries_of_jobs}
 use Rattle.auc_world.specs.Setting.{Setting}
-use Rattle.auc_world.specs.Transcript.{reopened, entries_of}
+use Rattle.auc_world.specs.Transcript.{entries_of}
 use Rattle.auc_transcript.proofs.EventLemmas.{IsNoteServed}
 use Rattle.auc_transcript.proofs.LineLemmas.{times-numbers}
 use Rattle.auc_transcript.proofs.ServedLemmas.{AreServed}
 
 -- ---- what entries cover
 
--- a subscriber's entries cover each number above a low one up to a high one once, and no other number that a
--- vector may have
-pub record CoversRange (low high : ℕ) (entries : List Entry) : Type 0 where
+-- entries of a subscriber with this greatest number cover each number above a low one up to a high one once, and no other
+-- number that a vector may have
+pub record CoversRange (top low high : ℕ) (entries : List Entry) : Type 0 where
   pub forward : low ≤ high
-  pub once : (n : ℕ) → n ≤ max_seq → times n (covered entries) ≡ (if nat_lt low n && nat_le n high then 1 else 0)
+  pub once : (n : ℕ) → n ≤ top → times n (covered entries) ≡ (if nat_lt low n && nat_le n high then 1 else 0)
 
 -- no entries cover nothing
 nothing_between : (n low : ℕ) → ◌≡◌ {A = ℕ} 0 (if nat_lt low n && nat_le n low then 1 else 0)
 nothing_between n low = grind (arith, nat_tests)
 
-pub covers_nothing : (low : ℕ) → CoversRange low low []
-covers_nothing low = record { forward = omega arith; once = λ n within. nothing_between n low }
+pub covers_nothing : (top low : ℕ) → CoversRange top low low []
+covers_nothing top low = record { forward = omega arith; once = λ n within. nothing_between n low }
 
 -- how often two lists of entries cover a number
 times-covered-append : (n : ℕ) (xs ys : List Entry) → times n (covered (xs ++ ys)) ≡ times n (covered xs) + times n (covered ys)
@@ -52,25 +52,22 @@ pub times-drawn-append : (n : ℕ) (xs ys : List Entry) → times n (drawn (xs +
 times-drawn-append n xs ys = ap (times n) (flat_map-append drawn_by xs ys) ∙ times-append n (drawn xs) (drawn ys)
 
 -- two ranges, one after the other
-ranges_joined : (n low closing next high : ℕ) → n ≤ max_seq → next ≡ min closing max_seq → low ≤ closing → next ≤ high
+ranges_joined : (top n low closing next high : ℕ) → n ≤ top → next ≡ min top closing → low ≤ closing → next ≤ high
     → (if nat_lt low n && nat_le n closing then 1 else 0) + (if nat_lt next n && nat_le n high then 1 else 0) ≡ (if nat_lt low n && nat_le n (max low high) then 1 else 0)
-ranges_joined n low closing next high = grind (arith, nat_tests)
-
--- the word at which a subscriber is opened again
-pub get_or-reopened : (words : List ℕ) (sub : ℕ) → get_or (reopened words) sub 0 ≡ min (get_or words sub 0) max_seq
-get_or-reopened words sub = get_or-map (λ (word : ℕ). min word max_seq) words sub 0
+ranges_joined top n low closing next high = grind (arith, nat_tests)
 
 -- a range that a round covers, and the range of the rounds after it
-pub round_joined : (low closing next high : ℕ) (xs ys : List Entry) → next ≡ min closing max_seq → low ≤ closing
-    → ((n : ℕ) → times n (covered xs) ≡ (if nat_lt low n && nat_le n closing then 1 else 0)) → CoversRange next high ys → CoversRange low (max low high) (xs ++ ys)
-round_joined low closing next high xs ys again forward once covers =
+pub round_joined : (top low closing next high : ℕ) (xs ys : List Entry) → next ≡ min top closing → low ≤ closing
+    → ((n : ℕ) → times n (covered xs) ≡ (if nat_lt low n && nat_le n closing then 1 else 0)) → CoversRange top next high ys
+    → CoversRange top low (max low high) (xs ++ ys)
+round_joined top low closing next high xs ys again forward once covers =
     let up = covers.forward in record {
       forward = omega arith;
       once = λ n within.
           let cut = times-covered-append n xs ys in
           let first = once n in
           let others = covers.once n within in
-          let joined = ranges_joined n low closing next high within again forward up in
+          let joined = ranges_joined top n low closing next high within again forward up in
           omega (arith, cut, first, others, joined);
     }
 
@@ -114,14 +111,21 @@ told_withheld true n m many numbers entries rest =
 told_withheld false n m many numbers entries rest = rest
 
 -- a mark is above all of them
-mark_apart : (n word : ℕ) → n ≤ max_seq → max_seq ≤ word → times n ((word + 1) ∷ []) ≡ 0
-mark_apart n word within spent = let cut = times-cons n (word + 1) [] in grind (arith, nat_tests, cut)
+mark_apart : (top n word : ℕ) → n ≤ top → top ≤ word → times n ((word + 1) ∷ []) ≡ 0
+mark_apart top n word within spent = let cut = times-cons n (word + 1) [] in grind (arith, nat_tests, cut)
 
-no_mark : (there known : Bool) (n word : ℕ) → n ≤ max_seq → max_seq ≤ word
+no_mark : (there known : Bool) (top n word : ℕ) → n ≤ top → top ≤ word
     → times n (drawn (if there then (if known then [] else Drawn (word + 1) ∷ []) else [])) ≡ 0
-no_mark true true n word within spent = refl
-no_mark true false n word within spent = mark_apart n word within spent
-no_mark false known n word within spent = refl
+no_mark true true top n word within spent = refl
+no_mark true false top n word within spent = mark_apart top n word within spent
+no_mark false known top n word within spent = refl
+
+-- that of a subscriber is the subscriber's own greatest number at least
+no_mark_of : (there known : Bool) (set : Setting) (n s sub word : ℕ) → (s == sub) ≡ there → n ≤ top_at set.rows sub → top_at set.rows s ≤ word
+    → times n (drawn (if there then (if known then [] else Drawn (word + 1) ∷ []) else [])) ≡ 0
+no_mark_of true known set n s sub word mine within spent =
+    no_mark true known (top_at set.rows sub) n word within (subst (λ (k : ℕ). top_at set.rows k ≤ word) (eqb-true s sub mine) spent)
+no_mark_of false known set n s sub word mine within spent = refl
 
 -- a resynchronisation draws nothing
 no_look : (known : Bool) (n seen : ℕ) → times n (drawn (if known then [] else Look seen ∷ [])) ≡ 0
@@ -150,28 +154,28 @@ no_resync n sub before (Some (resync.InRange seen seq)) = no_look (is_reported s
 no_resync n sub before (Some (resync.Beyond seen seq)) = no_look (is_reported sub seen before) n seen
 no_resync n sub before (Some resync.BadAuts) = refl
 
-told_number : (n sub : ℕ) (before : List LineRecord) (note : Option NumberNote) (numbers withheld : List ℕ) (entries : List Entry) → n ≤ max_seq → IsNoteServed note
+told_number : (top n sub : ℕ) (before : List LineRecord) (note : Option NumberNote) (numbers withheld : List ℕ) (entries : List Entry) → n ≤ top → IsNoteServed top note
     → times n (drawn entries) ≤ times n numbers + times n withheld
     → times n (drawn (entries_of_number sub before note ++ entries)) ≤ times n (number_released note ++ numbers) + times n (number_withheld note ++ withheld)
-told_number n sub before None numbers withheld entries within is rest = rest
-told_number n sub before (Some (number.Drew m)) numbers withheld entries within is rest = told_vector true n m (times n withheld) numbers entries rest
-told_number n sub before (Some (number.Exhausted word)) numbers withheld entries within is rest =
-    told_apart n (times n numbers + times n withheld) (entries_of_number sub before (Some (number.Exhausted word))) entries (no_mark true (is_reported sub word before) n word within is) rest
-told_number n sub before (Some (number.Withheld m stop)) numbers withheld entries within is rest = told_withheld true n m (times n numbers) withheld entries rest
+told_number top n sub before None numbers withheld entries within is rest = rest
+told_number top n sub before (Some (number.Drew m)) numbers withheld entries within is rest = told_vector true n m (times n withheld) numbers entries rest
+told_number top n sub before (Some (number.Exhausted word)) numbers withheld entries within is rest =
+    told_apart n (times n numbers + times n withheld) (entries_of_number sub before (Some (number.Exhausted word))) entries (no_mark true (is_reported sub word before) top n word within is) rest
+told_number top n sub before (Some (number.Withheld m stop)) numbers withheld entries within is rest = told_withheld true n m (times n numbers) withheld entries rest
 
-told_event : (n sub : ℕ) (before : List LineRecord) (synced : Option ResyncNote) (note : Option NumberNote) (numbers withheld : List ℕ) (entries : List Entry) → n ≤ max_seq
-    → IsNoteServed note → times n (drawn entries) ≤ times n numbers + times n withheld
+told_event : (top n sub : ℕ) (before : List LineRecord) (synced : Option ResyncNote) (note : Option NumberNote) (numbers withheld : List ℕ) (entries : List Entry) → n ≤ top
+    → IsNoteServed top note → times n (drawn entries) ≤ times n numbers + times n withheld
     → times n (drawn ((entries_of_resync sub before synced ++ entries_of_number sub before note) ++ entries)) ≤ times n (number_released note ++ numbers) + times n (number_withheld note ++ withheld)
-told_event n sub before synced note numbers withheld entries within is rest =
+told_event top n sub before synced note numbers withheld entries within is rest =
     let here = entries_of_resync sub before synced in
     let of_number = entries_of_number sub before note in
     let cut = ap (λ (es : List Entry). times n (drawn es)) (append_assoc here of_number entries) in
     let apart = told_apart n (times n (number_released note ++ numbers) + times n (number_withheld note ++ withheld)) here (of_number ++ entries) (no_resync n sub before synced)
-    (told_number n sub before note numbers withheld entries within is rest) in
+    (told_number top n sub before note numbers withheld entries within is rest) in
     omega (arith, cut, apart)
 
 -- what lines draw, they release or withhold
-drawn_told : (set : Setting) (n sub : ℕ) (start before lines : List LineRecord) → n ≤ max_seq → AreServed set start lines
+drawn_told : (set : Setting) (n sub : ℕ) (start before lines : List LineRecord) → n ≤ top_at set.rows sub → AreServed set start lines
     → times n (drawn (entries_of_lines sub before lines)) ≤ times n (numbers_of sub lines) + times n (withheld_of sub lines)
 drawn_told set n sub start before [] within served = omega arith
 drawn_told set n sub start before (Vector s m ∷ lines) within (is, more) =
@@ -182,7 +186,7 @@ drawn_told set n sub start before (Withheld s m stop ∷ lines) within (is, more
     (drawn_told set n sub (start ++ Withheld s m stop ∷ []) (before ++ Withheld s m stop ∷ []) lines within more)
 drawn_told set n sub start before (Exhausted s word ∷ lines) within (spent, more) =
     told_apart n (times n (numbers_of sub lines) + times n (withheld_of sub lines)) (entries_of_line sub before (Exhausted s word)) (entries_of_lines sub (before ++ Exhausted s word ∷ []) lines)
-    (no_mark (s == sub) (is_reported sub word before) n word within spent)
+    (no_mark_of (s == sub) (is_reported sub word before) set n s sub word refl within spent)
     (drawn_told set n sub (start ++ Exhausted s word ∷ []) (before ++ Exhausted s word ∷ []) lines within more)
 drawn_told set n sub start before (Sync s answer ∷ lines) within (is, more) =
     told_apart n (times n (numbers_of sub lines) + times n (withheld_of sub lines)) (entries_of_line sub before (Sync s answer)) (entries_of_lines sub (before ++ Sync s answer ∷ []) lines)
@@ -193,11 +197,11 @@ drawn_told set n sub start before (Give s m answer ∷ lines) within (is, more) 
 drawn_told set n sub start before (Further said ∷ lines) within (is, more) =
     drawn_told set n sub (start ++ Further said ∷ []) (before ++ Further said ∷ []) lines within more
 drawn_told set n sub start before (Event r ∷ lines) within (is, more) =
-    told_event n sub before (resync_for sub r) (number_for sub r) (numbers_of sub lines) (withheld_of sub lines) (entries_of_lines sub (before ++ Event r ∷ []) lines) within
+    told_event (top_at set.rows sub) n sub before (resync_for sub r) (number_for sub r) (numbers_of sub lines) (withheld_of sub lines) (entries_of_lines sub (before ++ Event r ∷ []) lines) within
     (is.numbers sub) (drawn_told set n sub (start ++ Event r ∷ []) (before ++ Event r ∷ []) lines within more)
 
 -- what a round draws, it releases or withholds
-pub round_told : (set : Setting) (n sub : ℕ) (early : List LineRecord) (round : RoundRecord) → n ≤ max_seq → AreServed set early (all_lines round.jobs)
+pub round_told : (set : Setting) (n sub : ℕ) (early : List LineRecord) (round : RoundRecord) → n ≤ top_at set.rows sub → AreServed set early (all_lines round.jobs)
     → times n (drawn (entries_of sub round)) ≤ times n (numbers_of sub (all_lines round.jobs)) + times n (withheld_of sub (all_lines round.jobs))
 round_told set n sub early round within served =
     let same = ap (λ es. times n (drawn es)) (entries_of_jobs-lines sub [] round.jobs) in

@@ -1,5 +1,5 @@
 -- For the laws: what each line of a lawful transcript is, by all lines before it.
-use Rattle.std.proofs.Common.{◌≡◌, ◌≢◌, ℕ, ◌%◌, ◌≤◌, Bool, true, false, Option, List, [], ◌∷◌, ◌++◌, Some, None, refl, sym, subst, arith, inl, inr, append_assoc, append-nil}
+use Rattle.std.proofs.Common.{◌≡◌, ◌≢◌, ℕ, ◌≤◌, Bool, true, false, Option, List, [], ◌∷◌, ◌++◌, Some, None, refl, sym, subst, arith, inl, inr, append_assoc, append-nil}
 use Rattle.std.specs.Prelude.{slice_get}
 use Rattle.std.proofs.lemmas.Bool.{or_cases}
 use Rattle.auc_edge.specs.declared.stop.Stop.{Stop}
@@ -9,8 +9,7 @@ use Rattle.auc_lines.specs.declared.part.End.TheVariants as end
 use Rattle.auc_lines.specs.declared.part.Line.{Line}
 use Rattle.auc_lines.specs.declared.part.Part.{Part}
 use Rattle.auc_lines.specs.declared.part.Part.TheVariants.{Round, Restart}
-use Rattle.auc_sqn.specs.Past.{verdict_of}
-use Rattle.auc_sqn.specs.Number.{max_seq}
+use Rattle.auc_subs.specs.Subscriber.{top_at}
 use Rattle.auc_subs.specs.declared.row.Row.{Row}
 use Rattle.auc_world.specs.declared.record.GiveVerdict.{GiveVerdict}
 use Rattle.auc_world.specs.declared.record.GiveVerdict.TheVariants as given
@@ -18,8 +17,8 @@ use Rattle.auc_world.specs.declared.record.LineRecord.{LineRecord}
 use Rattle.auc_world.specs.declared.record.LineRecord.TheVariants.{Vector, Withheld, Exhausted, Sync, Give, Further, Event}
 use Rattle.auc_world.specs.declared.record.PartRecord.{PartRecord}
 use Rattle.auc_world.specs.declared.record.PartRecord.TheVariants as record_of
-use Rattle.auc_world.specs.Lines.{numbers_of, accepted, all_lines}
-use Rattle.auc_world.specs.Given.{Before, EventGives, PlainGives, RelayGives, is_released, packet_of, past_of, past_before, UsimAnswers, IsGiven, LineGives, behind, JobGives, JobsGive}
+use Rattle.auc_world.specs.Lines.{numbers_of, all_lines}
+use Rattle.auc_world.specs.Given.{Before, EventGives, PlainGives, RelayGives, is_released, packet_of, past_before, past_by, verdict_by, UsimAnswers, IsGiven, LineGives, behind, JobGives, JobsGive}
 use Rattle.auc_world.specs.Net.{Net, other}
 use Rattle.auc_world.specs.Start.{Kept, start_of}
 use Rattle.auc_world.specs.declared.event.Event.{Event as Happens}
@@ -35,14 +34,14 @@ pub record IsAnswered (set : Setting) (before : List LineRecord) (sub n : ℕ) (
   pub row : Row
   pub there : slice_get set.rows sub ≡ Some row
   pub released : 1 ≤ times n (numbers_of sub before)
-  pub answers : UsimAnswers (verdict_of (past_of row.usim (accepted sub before)) n (n % 32)) (past_of row.usim (accepted sub before)) answer
+  pub answers : UsimAnswers row.bits (verdict_by row (past_by row sub before) n) (past_by row sub before) answer
 
 -- what a line is, after the lines before it: a vector has a number, the word of a spent subscriber is no number
 -- that one may still have, a presented vector was answered, and an event was served
 abbrev pub IsServed : Setting → List LineRecord → LineRecord → Type 0
-IsServed set before (Vector s m) = m ≤ max_seq
+IsServed set before (Vector s m) = m ≤ top_at set.rows s
 IsServed set before (Withheld s n stop) = Unit {0}
-IsServed set before (Exhausted s word) = max_seq ≤ word
+IsServed set before (Exhausted s word) = top_at set.rows s ≤ word
 IsServed set before (Sync s answer) = Unit {0}
 IsServed set before (Give s n answer) = answer ≢ given.Absent → IsAnswered set before s n answer
 IsServed set before (Further said) = Unit {0}
@@ -82,7 +81,7 @@ released_before place sub n released =
 
 -- what a presented vector is
 given_answered : (set : Setting) (place : Before) (sub n : ℕ) (row : Row) (answer : GiveVerdict) (b : Bool) → is_released place sub n ≡ b
-    → slice_get set.rows sub ≡ Some row → IsGiven b (past_before place row sub) n answer → answer ≢ given.Absent → IsAnswered set (all_before place) sub n answer
+    → slice_get set.rows sub ≡ Some row → IsGiven row b (past_before place row sub) n answer → answer ≢ given.Absent → IsAnswered set (all_before place) sub n answer
 given_answered set place sub n row answer false is there given present = absurd (present given)
 given_answered set place sub n row answer true is there given present =
     record { row = row; there = there; released = released_before place sub n is; answers = given }
@@ -176,7 +175,7 @@ parts_served set stop at (part ∷ parts) [] end leads = absurd leads
 parts_served set stop at (Round jobs ∷ parts) (record_of.Round round ∷ records) end (next, serves, rest) =
     let more = subst (λ (c : Course). Leads set stop c parts records end) serves.leads rest in
     AreServed-append set at.early (all_lines round.jobs) (lines_of records) (round_served set at.early at.kept jobs round.jobs serves.lawful.nets serves.lawful.given)
-    (parts_served set stop (after_round at round serves.words serves.lawful.nets) parts records end more)
+    (parts_served set stop (after_round set.rows at round serves.words serves.lawful.nets) parts records end more)
 parts_served set stop at (Round jobs ∷ parts) (record_of.Restart ∷ records) end (next, serves, rest) = absurd serves
 parts_served set stop at (Restart ∷ parts) (record_of.Round round ∷ records) end (next, serves, rest) = absurd serves
 parts_served set stop at (Restart ∷ parts) (record_of.Restart ∷ records) end (next, restarts, rest) =

@@ -57,7 +57,7 @@ are_of_card law set row sub [] = refl
 are_of_card law set row sub (n ∷ numbers) =
     let rand = rand_of set.key sub n in
     conses (of_vector (vector_of_row set row sub n)) (card_of row.secret rand) (triplets_of set row sub numbers) (map (λ t. card_of row.secret t.rand) (triplets_of set row sub numbers))
-    (law row.secret row.amf rand n) (are_of_card law set row sub numbers)
+    (law row.secret row.amf rand row.bits n) (are_of_card law set row sub numbers)
 
 -- the RANDs are those of the vectors, of 16 bytes each
 rands_are : (set : Setting) (row : Row) (sub : ℕ) (numbers : List ℕ) → map (rand_of set.key sub) numbers ≡ map rand_in (triplets_of set row sub numbers)

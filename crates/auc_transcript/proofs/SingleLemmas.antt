@@ -1,22 +1,28 @@
 -- The law of failures without a restart: the rounds are one stretch, and its periods are those between moves.
-use Rattle.std.proofs.Common.{◌≡◌, ℕ, ◌≤◌, ◌⊎◌, ◌&&◌, ◌||◌, ◌↔◌, nat_le, not, Bool, true, false, cond, List, [], ◌∷◌, length, filter, map, All, refl, sym, ◌∙◌, ap, subst, arith, inl, inr, append-nil}
+use Rattle.std.proofs.Common.{◌≡◌, ℕ, ◌≤◌, ◌&&◌, ◌||◌, ◌↔◌, nat_le, not, Bool, true, false, cond, Option, Some, List, [], ◌∷◌, length, filter, map, All, Contains, refl, sym, ◌∙◌, ap, subst, append-nil}
+use Rattle.std.specs.Prelude.{slice_get}
 use Rattle.std.proofs.lemmas.Bool.{cond-true, leb-true}
 use Rattle.std.proofs.lemmas.List.Elements.{All-weaker}
-use Rattle.std.proofs.lemmas.Option.{slice_get_within}
+use Rattle.auc_edge.specs.declared.stop.Stop.{Stop}
 use Rattle.auc_history.specs.declared.entry.Entry.{Entry}
 use Rattle.auc_history.specs.History.{drawn}
 use Rattle.auc_history.specs.Split.{all_entries, times}
-use Rattle.auc_sqn.specs.Number.{max_seq, seq_of, sqn_bytes}
+use Rattle.auc_lines.specs.declared.part.Part.{Part}
+use Rattle.auc_sqn.specs.Number.{seq_of, sqn_bytes, top_of}
+use Rattle.auc_subs.specs.Subscriber.{AreSubscribers}
+use Rattle.auc_subs.specs.declared.row.Row.{Row}
 use Rattle.auc_world.specs.declared.record.GiveVerdict.{GiveVerdict}
+use Rattle.auc_world.specs.declared.record.LineRecord.{LineRecord}
 use Rattle.auc_world.specs.declared.record.PartRecord.TheVariants as record_of
 use Rattle.auc_world.specs.declared.record.RoundRecord.{RoundRecord}
-use Rattle.auc_world.specs.Given.{is_in}
-use Rattle.auc_world.specs.Lines.{accepted}
-use Rattle.auc_world.specs.Transcript.{entries_of, before_first, stretches_of}
-use Rattle.auc_transcript.specs.Headline.{is_moved, is_later, is_one_period, place_in, place_of, FailsByPlace, IsFailure, IsGenuine, IsInReach}
+use Rattle.auc_world.specs.Given.{UsimAnswers, is_in, past_by, verdict_by}
+use Rattle.auc_world.specs.Lines.{accepted, numbers_of}
+use Rattle.auc_world.specs.Setting.{Setting}
+use Rattle.auc_world.specs.Transcript.{IsLawful, entries_of, before_first, lines_of, stretches_of}
+use Rattle.auc_transcript.specs.Headline.{is_moved, is_later, is_one_period, place_in, place_of, FailsByPlace, IsFailure, IsGenuine, IsInReach, IsStaleBy}
 use Rattle.auc_transcript.specs.Rounds.{entries_of_rounds, is_of_later_period, is_of_one_period, place_in_period, FailsByPlaceInRounds, IsInReachInRounds, EachFailureInRoundsIsByPlace}
-use Rattle.auc_transcript.proofs.FailureLemmas.{AreDrawn, drawn_within, genuine_numbers, presented_drawn, each_failure_is_by_place}
-use Rattle.auc_transcript.proofs.LineLemmas.{is_in-from_times, times-from_sqns}
+use Rattle.auc_transcript.proofs.FailureLemmas.{AreDrawn, IsDrawnIn, answered_by, drawn_within, fails_in_stretches, genuine_numbers, presented_answered, presented_released, released_drawn}
+use Rattle.auc_transcript.proofs.LineLemmas.{All-times, is_in-from_times, times-from_sqns}
 use Rattle.auc_transcript.proofs.PlaceLemmas.{not_moved_down}
 
 -- the stretches of rounds alone
@@ -77,80 +83,92 @@ place_in_one entries n there =
 
 -- ---- failures
 
--- the presented number and those that were accepted are found among the drawn ones
-found : (entries : List Entry) (numbers : List ℕ) (n m : ℕ) → AreDrawn (entries ∷ []) numbers n → (m ≡ n) ⊎ (1 ≤ times m numbers) → is_in m (drawn entries) ≡ true
-found entries numbers n m are is =
-    is_in-from_times m (drawn entries) (subst (λ (es : List Entry). 1 ≤ times m (drawn es)) (append-nil entries) (are.each m is).1)
+module _ (bits : ℕ) (age : Option ℕ) (entries : List Entry) (numbers : List ℕ) (n : ℕ) (are : AreDrawn bits (entries ∷ []) numbers n) where
+  abbrev sqns : List (List ℕ)
+  sqns = map (sqn_bytes bits) numbers
 
--- failures by place
-to_rounds : (entries : List Entry) (numbers : List ℕ) (n : ℕ) → AreDrawn (entries ∷ []) numbers n → FailsByPlace (entries ∷ []) (map sqn_bytes numbers) n
-    → FailsByPlaceInRounds entries (map sqn_bytes numbers) n
-to_rounds entries numbers n are fails =
-    let m = fails.other in
-    let there = times-from_sqns m numbers fails.within (drawn_within (entries ∷ []) numbers n are) fails.was_accepted in
-    let first = found entries numbers n m are (inr there) in
-    let second = found entries numbers n n are (inl refl) in
-    let place_m = place_in_one entries m first in let place_n = place_in_one entries n second in
-    let later = fails.later in record {
-      other = m;
-      within = fails.within;
-      was_accepted = fails.was_accepted;
-      one_period = sym (one_period_in_one entries m n first second) ∙ fails.one_period;
-      turns = fails.turns;
-      later = omega (arith, later, place_m, place_n);
-    }
+  -- the presented number and those that were accepted are found among the drawn ones
+  found : (m : ℕ) → IsDrawnIn bits (entries ∷ []) m → is_in m (drawn entries) ≡ true
+  found m is = is_in-from_times m (drawn entries) (subst (λ (es : List Entry). 1 ≤ times m (drawn es)) (append-nil entries) is.1)
 
-from_rounds : (entries : List Entry) (numbers : List ℕ) (n : ℕ) → AreDrawn (entries ∷ []) numbers n → FailsByPlaceInRounds entries (map sqn_bytes numbers) n
-    → FailsByPlace (entries ∷ []) (map sqn_bytes numbers) n
-from_rounds entries numbers n are fails =
-    let m = fails.other in
-    let there = times-from_sqns m numbers fails.within (drawn_within (entries ∷ []) numbers n are) fails.was_accepted in
-    let first = found entries numbers n m are (inr there) in
-    let second = found entries numbers n n are (inl refl) in
-    let place_m = place_in_one entries m first in let place_n = place_in_one entries n second in
-    let later = fails.later in record {
-      other = m;
-      within = fails.within;
-      was_accepted = fails.was_accepted;
-      one_period = one_period_in_one entries m n first second ∙ fails.one_period;
-      turns = fails.turns;
-      later = omega (arith, later, place_m, place_n);
-    }
+  found_accepted : (m : ℕ) → m ≤ top_of bits → Contains sqns (sqn_bytes bits m) → is_in m (drawn entries) ≡ true
+  found_accepted m within was =
+      found m (All-times (IsDrawnIn bits (entries ∷ [])) m numbers are.each (times-from_sqns bits m numbers are.few within (drawn_within bits (entries ∷ []) numbers n are) was))
 
--- a number in reach
-reach_from_rounds : (entries : List Entry) (opening : ℕ) (numbers : List ℕ) (n : ℕ) → AreDrawn (entries ∷ []) numbers n
-    → IsInReachInRounds entries opening (map sqn_bytes numbers) n → IsInReach (entries ∷ []) opening (map sqn_bytes numbers) n
-reach_from_rounds entries opening numbers n are reach = record {
-  genuine = subst (λ (es : List Entry). All (IsGenuine es) (map sqn_bytes numbers)) (sym (append-nil entries)) reach.genuine;
-  earlier = All-weaker (λ sqn. is_of_later_period entries n (seq_of sqn) ≡ false) (λ sqn. is_later (entries ∷ []) n (seq_of sqn) ≡ false)
-      (λ sqn none. not_later_in_one entries n (seq_of sqn) none) (map sqn_bytes numbers) reach.earlier;
-  near = reach.near;
-  above = reach.above;
-}
+  -- failures by place
+  to_rounds : FailsByPlace bits age (entries ∷ []) sqns n → FailsByPlaceInRounds bits age entries sqns n
+  to_rounds fails =
+      let m = fails.other in
+      let first = found_accepted m fails.within fails.was_accepted in
+      let second = found n are.own in
+      record {
+        other = m;
+        within = fails.within;
+        was_accepted = fails.was_accepted;
+        one_period = sym (one_period_in_one entries m n first second) ∙ fails.one_period;
+        stale = subst (λ (p : ℕ). IsStaleBy bits age p (place_in_period entries m)) (place_in_one entries n second)
+            (subst (IsStaleBy bits age (place_of (entries ∷ []) n)) (place_in_one entries m first) fails.stale);
+      }
 
--- the law of one stretch
-pub fails_in_one : (entries : List Entry) (opening : ℕ) (numbers : List ℕ) (n : ℕ) (answer : GiveVerdict) → AreDrawn (entries ∷ []) numbers n
-    → (IsInReach (entries ∷ []) opening (map sqn_bytes numbers) n → IsFailure answer ↔ FailsByPlace (entries ∷ []) (map sqn_bytes numbers) n)
-    → IsInReachInRounds entries opening (map sqn_bytes numbers) n → IsFailure answer ↔ FailsByPlaceInRounds entries (map sqn_bytes numbers) n
-fails_in_one entries opening numbers n answer are law reach =
-    let (to, from) = law (reach_from_rounds entries opening numbers n are reach) in
-    (λ failure. to_rounds entries numbers n are (to failure), λ fails. from (from_rounds entries numbers n are fails))
+  from_rounds : FailsByPlaceInRounds bits age entries sqns n → FailsByPlace bits age (entries ∷ []) sqns n
+  from_rounds fails =
+      let m = fails.other in
+      let first = found_accepted m fails.within fails.was_accepted in
+      let second = found n are.own in
+      record {
+        other = m;
+        within = fails.within;
+        was_accepted = fails.was_accepted;
+        one_period = one_period_in_one entries m n first second ∙ fails.one_period;
+        stale = subst (λ (p : ℕ). IsStaleBy bits age p (place_of (entries ∷ []) m)) (sym (place_in_one entries n second))
+            (subst (IsStaleBy bits age (place_in_period entries n)) (sym (place_in_one entries m first)) fails.stale);
+      }
 
--- each released vector in reach of a transcript without a restart fails exactly by its place
-pub each_failure_in_rounds_is_by_place : EachFailureInRoundsIsByPlace
-each_failure_in_rounds_is_by_place set reserved stop parts rounds lawful before sub n answer row presented there reach =
+  -- a number in reach
+  reach_from_rounds : (opening : ℕ) → IsInReachInRounds bits entries opening sqns n → IsInReach bits (entries ∷ []) opening sqns n
+  reach_from_rounds opening reach = record {
+    genuine = subst (λ (es : List Entry). All (IsGenuine bits es) sqns) (sym (append-nil entries)) reach.genuine;
+    earlier = All-weaker (λ sqn. is_of_later_period entries n (seq_of bits sqn) ≡ false) (λ sqn. is_later (entries ∷ []) n (seq_of bits sqn) ≡ false)
+        (λ sqn none. not_later_in_one entries n (seq_of bits sqn) none) sqns reach.earlier;
+    near = reach.near;
+    above = reach.above;
+  }
+
+  -- the law of one stretch
+  pub fails_in_one : (opening : ℕ) (answer : GiveVerdict) → (IsInReach bits (entries ∷ []) opening sqns n → IsFailure answer ↔ FailsByPlace bits age (entries ∷ []) sqns n)
+      → IsInReachInRounds bits entries opening sqns n → IsFailure answer ↔ FailsByPlaceInRounds bits age entries sqns n
+  fails_in_one opening answer law reach =
+      let (to, from) = law (reach_from_rounds opening reach) in (λ failure. to_rounds (to failure), λ fails. from (from_rounds fails))
+
+-- each released vector in reach of a transcript without a restart that the USIM answers by its past fails exactly by its place
+pub fails_in_rounds : (set : Setting) (reserved : List ℕ) (stop : Option Stop) (parts : List Part) (rounds : List RoundRecord) (before : List LineRecord) (sub n : ℕ) (row : Row)
+    (answer : GiveVerdict) → AreSubscribers set.rows → IsLawful set reserved stop parts (map record_of.Round rounds) → slice_get set.rows sub ≡ Some row
+    → 1 ≤ times n (numbers_of sub (lines_of (map record_of.Round rounds)))
+    → UsimAnswers row.bits (verdict_by row (past_by row sub before) n) (past_by row sub before) answer
+    → IsInReachInRounds row.bits (entries_of_rounds sub rounds) row.usim (accepted row.bits sub before) n
+    → IsFailure answer ↔ FailsByPlaceInRounds row.bits row.age (entries_of_rounds sub rounds) (accepted row.bits sub before) n
+fails_in_rounds set reserved stop parts rounds before sub n row answer subscribers lawful there released is reach =
+    let bits = row.bits in
     let records = map record_of.Round rounds in
     let entries = entries_of_rounds sub rounds in
     let stretches = one_stretch sub rounds in
-    let of_drawn = genuine_numbers entries (accepted sub before) reach.genuine in
+    let of_drawn = genuine_numbers bits entries (accepted bits sub before) reach.genuine in
     let numbers = of_drawn.numbers in
     let sqns = of_drawn.same in
     let whole : entries ≡ all_entries (stretches_of sub records) = sym (append-nil entries) ∙ ap all_entries (sym stretches) in
-    let each = subst (λ (es : List Entry). All (λ m. (m ≤ max_seq) × (1 ≤ times m (drawn es))) numbers) whole of_drawn.each in
-    let drawn_ones = presented_drawn set reserved stop parts records before sub n answer numbers lawful (slice_get_within set.rows sub row there) presented each in
-    let law = each_failure_is_by_place set reserved stop parts records lawful before sub n answer row presented there in
-    let are = subst (λ (ss : List (List Entry)). AreDrawn ss numbers n) stretches drawn_ones in
-    let of_numbers = subst (λ (xs : List (List ℕ)). IsInReach (stretches_of sub records) row.usim xs n → IsFailure answer ↔ FailsByPlace (stretches_of sub records) xs n) sqns law in
-    let of_one = subst (λ (ss : List (List Entry)). IsInReach ss row.usim (map sqn_bytes numbers) n → IsFailure answer ↔ FailsByPlace ss (map sqn_bytes numbers) n) stretches of_numbers in
-    subst (λ (xs : List (List ℕ)). IsInReachInRounds entries row.usim xs n → IsFailure answer ↔ FailsByPlaceInRounds entries xs n) (sym sqns)
-    (fails_in_one entries row.usim numbers n answer are of_one) reach
+    let each = subst (λ (es : List Entry). All (λ m. (m ≤ top_of bits) × (1 ≤ times m (drawn es))) numbers) whole of_drawn.each in
+    let drawn_ones = released_drawn set reserved stop parts records sub n row numbers subscribers lawful there released each in
+    let law = fails_in_stretches set reserved stop parts records before sub n row answer subscribers lawful there released is in
+    let are = subst (λ (ss : List (List Entry)). AreDrawn bits ss numbers n) stretches drawn_ones in
+    let of_numbers = subst (λ (xs : List (List ℕ)). IsInReach bits (stretches_of sub records) row.usim xs n → IsFailure answer ↔ FailsByPlace bits row.age (stretches_of sub records) xs n) sqns law in
+    let of_one = subst (λ (ss : List (List Entry)). IsInReach bits ss row.usim (map (sqn_bytes bits) numbers) n → IsFailure answer ↔ FailsByPlace bits row.age ss (map (sqn_bytes bits) numbers) n) stretches of_numbers in
+    subst (λ (xs : List (List ℕ)). IsInReachInRounds bits entries row.usim xs n → IsFailure answer ↔ FailsByPlaceInRounds bits row.age entries xs n) (sym sqns)
+    (fails_in_one bits row.age entries numbers n are row.usim answer of_one) reach
+
+-- each released vector in reach of a transcript without a restart fails exactly by its place
+pub each_failure_in_rounds_is_by_place : EachFailureInRoundsIsByPlace
+each_failure_in_rounds_is_by_place set reserved stop parts rounds subscribers lawful before sub n answer row presented there reach =
+    let records = map record_of.Round rounds in
+    let answered = presented_answered set reserved stop parts records before sub n answer lawful presented in
+    fails_in_rounds set reserved stop parts rounds before sub n row answer subscribers lawful there (presented_released set records before sub n answer presented answered)
+    (answered_by set before sub n answer row there answered) reach

@@ -1,6 +1,5 @@
 -- For the law of contexts: an SQN that a USIM accepts has 6 bytes, and its origin is none of those that were accepted before.
-use Rattle.std.proofs.Common.{◌≡◌, ◌≢◌, ℕ, ◌+◌, ◌/◌, ◌%◌, ◌^◌, nat_lt, List, [], ◌∷◌, ◌++◌, length, take, Contains, Option, Some, None, refl, sym, ap, ◌∙◌, subst, arith}
-use Rattle.std.specs.Prelude.{if◌then◌else◌}
+use Rattle.std.proofs.Common.{◌≡◌, ◌≢◌, ℕ, ◌/◌, ◌%◌, List, [], ◌∷◌, ◌++◌, length, take, Contains, Option, Some, None, refl, sym, ap, ◌∙◌, subst, arith}
 use Rattle.std.specs.Option.{option_or}
 use Rattle.std.proofs.lemmas.List.{length-take-le}
 use Rattle.std.proofs.lemmas.List.Elements.{All-contains}
@@ -31,15 +30,16 @@ use Rattle.auc_peer.specs.declared.rows.Row.{Row as PeerRow}
 use Rattle.auc_peer.specs.declared.rows.Row.TheVariants as row
 use Rattle.auc_reauth.specs.Device.{Keeps}
 use Rattle.auc_request.specs.Request.{autn_of as autn_value, first_value}
-use Rattle.auc_sqn.specs.Number.{ind_of, seq_of, value_of}
-use Rattle.auc_sqn.specs.Past.{Past, entry_of, greatest_of, is_old, verdict_of}
-use Rattle.auc_sqn.specs.declared.verdict.Verdict.TheVariants.{Far, Fresh}
+use Rattle.auc_sqn.specs.Number.{ind_of, indices, seq_of, value_of}
+use Rattle.auc_sqn.specs.Past.{Past, verdict_of}
+use Rattle.auc_sqn.specs.declared.verdict.Verdict.TheVariants.{Fresh}
+use Rattle.auc_subs.specs.declared.row.Row.{Row as SubscriberRow}
 use Rattle.auc_usim.specs.Usim.{sqn_in}
 use Rattle.auc_vector.specs.declared.notes.UsimNote.{UsimNote}
 use Rattle.auc_vector.specs.declared.notes.UsimNote.TheVariants as usim
 use Rattle.auc_world.specs.Given.{UsimNotes, past_of}
 use Rattle.auc_world.proofs.Facts.{each_accepted_in_past}
-use Rattle.auc_transcript.proofs.AcceptedLemmas.{not_fresh, old_from_past}
+use Rattle.auc_transcript.proofs.AcceptedLemmas.{fresh_not_old, old_from_past}
 use Rattle.auc_transcript.proofs.EventLemmas.{challenged_note}
 use Rattle.auc_transcript.proofs.HandedLemmas.{handed_is_read}
 
@@ -125,31 +125,31 @@ wrong_note : {X : Type 0} (n : Option UsimNote) → n ≡ Some usim.WrongMac →
 wrong_note n e b f = absurd (let no : ⊥ = cc in no)
 
 -- an SQN that a turn's USIM accepts
-row_six : (key : List ℕ) (s : Subscription) (keeps : Keeps) (p : Peer) (seen : Seen) (r : PeerRow) (past : Past) (n : Option UsimNote) (inner : Decrypted) (sqn : List ℕ)
-    → IsBlock s.secret.k → IsBlock s.secret.opc → ((c : Challenge) → asked r ≡ Some c → length c.autn ≡ 16) → UsimNotes s.secret past (asked r) n
+row_six : (key : List ℕ) (s : Subscription) (home : SubscriberRow) (keeps : Keeps) (p : Peer) (seen : Seen) (r : PeerRow) (past : Past) (n : Option UsimNote) (inner : Decrypted) (sqn : List ℕ)
+    → IsBlock s.secret.k → IsBlock s.secret.opc → ((c : Challenge) → asked r ≡ Some c → length c.autn ≡ 16) → UsimNotes s.secret home past (asked r) n
     → n ≡ (peer_does key s keeps p seen r n inner).1.notes.usim → n ≡ Some (usim.Accepted sqn) → length sqn ≡ 6
-row_six key s keeps p seen (row.Ignore cause) past n inner sqn hk ho sized is same e = absurd (no_note n sqn is e)
-row_six key s keeps p seen row.Again past n inner sqn hk ho sized is same e = absurd (no_note n sqn is e)
-row_six key s keeps p seen row.First past n inner sqn hk ho sized is same e = absurd (no_note n sqn is e)
-row_six key s keeps p seen (row.Identity kind) past n inner sqn hk ho sized is same e = absurd (no_note n sqn is e)
-row_six key s keeps p seen (row.Client cause) past n inner sqn hk ho sized is same e = absurd (no_note n sqn is e)
-row_six key s keeps p seen (row.Reject cause) past n inner sqn hk ho sized is same e = absurd (no_note n sqn is e)
-row_six key s keeps p seen (row.Notified code) past n inner sqn hk ho sized is same e = absurd (no_note n sqn is e)
-row_six key s keeps p seen row.Reauthentication past n inner sqn hk ho sized is same e = absurd (no_note n sqn is e)
-row_six key s keeps p seen row.Success past n inner sqn hk ho sized is same e = absurd (no_note n sqn is e)
-row_six key s keeps p seen (row.Failure cause) past n inner sqn hk ho sized is same e = absurd (no_note n sqn is e)
-row_six key s keeps p seen (row.Challenged c) past None inner sqn hk ho sized is same e = absurd is
-row_six key s keeps p seen (row.Challenged c) past (Some (usim.Sync a)) inner sqn hk ho sized is same e = other_note _ a refl sqn e
-row_six key s keeps p seen (row.Challenged c) past (Some usim.WrongMac) inner sqn hk ho sized is same e = wrong_note _ refl sqn e
-row_six key s keeps p seen (row.Challenged c) past (Some (usim.Accepted m)) inner sqn hk ho sized is same e =
+row_six key s home keeps p seen (row.Ignore cause) past n inner sqn hk ho sized is same e = absurd (no_note n sqn is e)
+row_six key s home keeps p seen row.Again past n inner sqn hk ho sized is same e = absurd (no_note n sqn is e)
+row_six key s home keeps p seen row.First past n inner sqn hk ho sized is same e = absurd (no_note n sqn is e)
+row_six key s home keeps p seen (row.Identity kind) past n inner sqn hk ho sized is same e = absurd (no_note n sqn is e)
+row_six key s home keeps p seen (row.Client cause) past n inner sqn hk ho sized is same e = absurd (no_note n sqn is e)
+row_six key s home keeps p seen (row.Reject cause) past n inner sqn hk ho sized is same e = absurd (no_note n sqn is e)
+row_six key s home keeps p seen (row.Notified code) past n inner sqn hk ho sized is same e = absurd (no_note n sqn is e)
+row_six key s home keeps p seen row.Reauthentication past n inner sqn hk ho sized is same e = absurd (no_note n sqn is e)
+row_six key s home keeps p seen row.Success past n inner sqn hk ho sized is same e = absurd (no_note n sqn is e)
+row_six key s home keeps p seen (row.Failure cause) past n inner sqn hk ho sized is same e = absurd (no_note n sqn is e)
+row_six key s home keeps p seen (row.Challenged c) past None inner sqn hk ho sized is same e = absurd is
+row_six key s home keeps p seen (row.Challenged c) past (Some (usim.Sync a)) inner sqn hk ho sized is same e = other_note _ a refl sqn e
+row_six key s home keeps p seen (row.Challenged c) past (Some usim.WrongMac) inner sqn hk ho sized is same e = wrong_note _ refl sqn e
+row_six key s home keeps p seen (row.Challenged c) past (Some (usim.Accepted m)) inner sqn hk ho sized is same e =
     ap length (sym (one_sqn (Some (usim.Accepted m)) _ (sqn_in s.secret c.rand c.autn) sqn same (challenged_note key s keeps p seen c m inner) e))
     ∙ sqn_six s.secret c.rand c.autn hk ho (sized c refl)
 
-pub turn_six : (key : List ℕ) (s : Subscription) (keeps : Keeps) (p : Peer) (seen : Seen) (past : Past) (n : Option UsimNote) (inner : Decrypted) (sqn : List ℕ)
-    → IsBlock s.secret.k → IsBlock s.secret.opc → IsReceived seen → UsimNotes s.secret past (asked (peer_row p seen)) n
+pub turn_six : (key : List ℕ) (s : Subscription) (home : SubscriberRow) (keeps : Keeps) (p : Peer) (seen : Seen) (past : Past) (n : Option UsimNote) (inner : Decrypted) (sqn : List ℕ)
+    → IsBlock s.secret.k → IsBlock s.secret.opc → IsReceived seen → UsimNotes s.secret home past (asked (peer_row p seen)) n
     → n ≡ (peer_does key s keeps p seen (peer_row p seen) n inner).1.notes.usim → n ≡ Some (usim.Accepted sqn) → length sqn ≡ 6
-turn_six key s keeps p seen past n inner sqn hk ho received is same e =
-    row_six key s keeps p seen (peer_row p seen) past n inner sqn hk ho
+turn_six key s home keeps p seen past n inner sqn hk ho received is same e =
+    row_six key s home keeps p seen (peer_row p seen) past n inner sqn hk ho
     (λ c asks. autn_sixteen seen.bytes seen.reading c.autn received.reads (handed_is_read p seen c asks).1) is same e
 
 -- ---- origins
@@ -166,13 +166,12 @@ six_bytes (a ∷ b ∷ c ∷ d ∷ e ∷ []) is = absurd (omega arith)
 six_bytes (a ∷ b ∷ c ∷ d ∷ e ∷ f ∷ g ∷ more) is = absurd (omega arith)
 
 -- the origin of a fresh SQN is none of those of the SQNs that were accepted before
-pub fresh_origin : (opening : ℕ) (sqns : List (List ℕ)) (sqn x : List ℕ) → verdict_of (past_of opening sqns) (seq_of sqn) (ind_of sqn) ≡ Fresh → length sqn ≡ 6
-    → Contains sqns x → length x ≡ 6 → origin_of x ≢ origin_of sqn
-fresh_origin opening sqns sqn x fresh six there was same =
-    let past = past_of opening sqns in
+pub fresh_origin : (bits : ℕ) (age : Option ℕ) (opening : ℕ) (sqns : List (List ℕ)) (sqn x : List ℕ)
+    → verdict_of age (past_of bits opening sqns) (seq_of bits sqn) (ind_of bits sqn) ≡ Fresh → length sqn ≡ 6 → Contains sqns x → length x ≡ 6 → origin_of x ≢ origin_of sqn
+fresh_origin bits age opening sqns sqn x fresh six there was same =
+    let past = past_of bits opening sqns in
     let value : value_of x ≡ value_of sqn = sym (six_bytes x was) ∙ same ∙ six_bytes sqn six in
-    let pair : Contains past (value_of x / 32, value_of x % 32) =
-    All-contains (λ (s : List ℕ). Contains past (seq_of s, ind_of s)) sqns x (each_accepted_in_past opening sqns) there in
-    let own = subst (λ (v : ℕ). Contains past (v / 32, v % 32)) value pair in
-    not_fresh (is_old past (seq_of sqn) (ind_of sqn)) (entry_of (ind_of sqn) past)
-    (if nat_lt (greatest_of past + 2 ^ 28) (seq_of sqn) then Far (greatest_of past) else Fresh) fresh (old_from_past past (seq_of sqn) (ind_of sqn) own)
+    let pair : Contains past (value_of x / indices bits, value_of x % indices bits) =
+    All-contains (λ (s : List ℕ). Contains past (seq_of bits s, ind_of bits s)) sqns x (each_accepted_in_past bits opening sqns) there in
+    let own = subst (λ (v : ℕ). Contains past (v / indices bits, v % indices bits)) value pair in
+    fresh_not_old age past (seq_of bits sqn) (ind_of bits sqn) fresh (old_from_past past (seq_of bits sqn) (ind_of bits sqn) own)

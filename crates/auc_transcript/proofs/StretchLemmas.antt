@@ -1,12 +1,11 @@
 -- For the laws: the stretches of a lawful transcript. Each covers a range of numbers once, and draws numbers above all
 -- that were released before it.
 use Rattle.std.proofs.Common.{◌≡◌, ℕ, ◌+◌, ◌<◌, ◌≤◌, List, [], ◌∷◌, ◌++◌, Option, length, get_or, refl, sym, ap, subst, arith, inl, inr}
-use Rattle.std.proofs.Math.ListN.{length-map}
 use Rattle.std.proofs.lemmas.Bool.{cases_lt}
 use Rattle.std.proofs.lemmas.Bool.Decides.{nat_tests}
 use Rattle.std.specs.Prelude.{if◌then◌else◌, nat_lt, nat_le, ◌&&◌, min, max}
 use Rattle.auc_edge.specs.declared.stop.Stop.{Stop}
-use Rattle.auc_sqn.specs.Number.{max_seq}
+use Rattle.auc_subs.specs.Subscriber.{top_at}
 use Rattle.auc_history.specs.declared.entry.Entry.{Entry}
 use Rattle.auc_history.specs.History.{covered, drawn}
 use Rattle.auc_history.specs.Split.{all_entries, times}
@@ -25,25 +24,25 @@ use Rattle.auc_world.specs.Round.{IsLawfulRound}
 use Rattle.auc_world.specs.Start.{Kept}
 use Rattle.auc_world.specs.Transcript.{Course, Leads, after_round, after_restart, reopened, stop_before, lines_of, entries_of, before_first, stretches_of}
 use Rattle.auc_transcript.proofs.LineLemmas.{All-times, times-numbers-append}
-use Rattle.auc_world.proofs.Facts.{length-opened, opened_above}
-use Rattle.auc_transcript.proofs.RoundLemmas.{CoversRange, covers_nothing, times-drawn-append, get_or-reopened, round_joined, round_drawn, round_told}
+use Rattle.auc_world.proofs.Facts.{get_or-reopened, length-opened, length-reopened, opened_above}
+use Rattle.auc_transcript.proofs.RoundLemmas.{CoversRange, covers_nothing, times-drawn-append, round_joined, round_drawn, round_told}
 use Rattle.auc_transcript.proofs.ServedLemmas.{round_served}
 
 -- what stretches draw is above some numbers
-pub record AreAbove (numbers : List ℕ) (stretches : List (List Entry)) : Type 0 where
-  pub above : (m n : ℕ) → m ≤ max_seq → n ≤ max_seq → 1 ≤ times m numbers → 1 ≤ times n (drawn (all_entries stretches)) → m < n
+pub record AreAbove (top : ℕ) (numbers : List ℕ) (stretches : List (List Entry)) : Type 0 where
+  pub above : (m n : ℕ) → m ≤ top → n ≤ top → 1 ≤ times m numbers → 1 ≤ times n (drawn (all_entries stretches)) → m < n
 
 -- each stretch covers a range of numbers, each once, and the later ones draw greater numbers than it
-abbrev pub AreStretches : List (List Entry) → Type 0
-AreStretches [] = Unit {0}
-AreStretches (entries ∷ more) =
-    ((low : ℕ) × (high : ℕ) × CoversRange low high entries) × AreAbove (drawn entries) more × AreStretches more
+abbrev pub AreStretches : ℕ → List (List Entry) → Type 0
+AreStretches top [] = Unit {0}
+AreStretches top (entries ∷ more) =
+    ((low : ℕ) × (high : ℕ) × CoversRange top low high entries) × AreAbove top (drawn entries) more × AreStretches top more
 
 -- the stretches after some released numbers, if the first goes on from an opening
-abbrev pub GoOn : ℕ → List ℕ → List (List Entry) → Type 0
-GoOn opening released [] = ⊥
-GoOn opening released (entries ∷ more) =
-    ((high : ℕ) × CoversRange opening high entries) × AreAbove released more × AreAbove (drawn entries) more × AreStretches more
+abbrev pub GoOn : ℕ → ℕ → List ℕ → List (List Entry) → Type 0
+GoOn top opening released [] = ⊥
+GoOn top opening released (entries ∷ more) =
+    ((high : ℕ) × CoversRange top opening high entries) × AreAbove top released more × AreAbove top (drawn entries) more × AreStretches top more
 
 -- the stretches after the first
 abbrev pub later_ones : List (List Entry) → List (List Entry)
@@ -51,30 +50,30 @@ later_ones [] = []
 later_ones (first ∷ more) = more
 
 -- no stretches draw a number that isn't above
-none_above : (numbers : List ℕ) → AreAbove numbers []
-none_above numbers = record { above = λ m n low high some there. absurd (omega (arith, there)) }
+none_above : (top : ℕ) (numbers : List ℕ) → AreAbove top numbers []
+none_above top numbers = record { above = λ m n low high some there. absurd (omega (arith, there)) }
 
 -- what stretches draw is above no numbers
-above_none : (stretches : List (List Entry)) → AreAbove [] stretches
-above_none stretches = record { above = λ m n low high some there. absurd (omega (arith, some)) }
+above_none : (top : ℕ) (stretches : List (List Entry)) → AreAbove top [] stretches
+above_none top stretches = record { above = λ m n low high some there. absurd (omega (arith, some)) }
 
 -- stretches that go on are stretches
-pub go_on_stretches : (opening : ℕ) (released : List ℕ) (stretches : List (List Entry)) → GoOn opening released stretches → AreStretches stretches
-go_on_stretches opening released [] go = absurd go
-go_on_stretches opening released (entries ∷ more) ((high, covers), above, apart, are) = ((opening, high, covers), apart, are)
+pub go_on_stretches : (top opening : ℕ) (released : List ℕ) (stretches : List (List Entry)) → GoOn top opening released stretches → AreStretches top stretches
+go_on_stretches top opening released [] go = absurd go
+go_on_stretches top opening released (entries ∷ more) ((high, covers), above, apart, are) = ((opening, high, covers), apart, are)
 
 -- ---- a round
 
 -- a round before stretches
-round_goes_on : (sub opening closing next : ℕ) (early : List LineRecord) (round : RoundRecord) (stretches : List (List Entry))
-    → next ≡ min closing max_seq → opening ≤ closing
+round_goes_on : (top sub opening closing next : ℕ) (early : List LineRecord) (round : RoundRecord) (stretches : List (List Entry))
+    → next ≡ min top closing → opening ≤ closing
     → ((n : ℕ) → times n (covered (entries_of sub round)) ≡ (if nat_lt opening n && nat_le n closing then 1 else 0))
-    → AreAbove (drawn (entries_of sub round)) (later_ones stretches)
-    → GoOn next (numbers_of sub (early ++ all_lines round.jobs)) stretches
-    → GoOn opening (numbers_of sub early) (before_first (entries_of sub round) stretches)
-round_goes_on sub opening closing next early round [] again forward once apart go = absurd go
-round_goes_on sub opening closing next early round (entries ∷ more) again forward once apart ((high, covers), above, others, are) = (
-  (max opening high, round_joined opening closing next high (entries_of sub round) entries again forward once covers),
+    → AreAbove top (drawn (entries_of sub round)) (later_ones stretches)
+    → GoOn top next (numbers_of sub (early ++ all_lines round.jobs)) stretches
+    → GoOn top opening (numbers_of sub early) (before_first (entries_of sub round) stretches)
+round_goes_on top sub opening closing next early round [] again forward once apart go = absurd go
+round_goes_on top sub opening closing next early round (entries ∷ more) again forward once apart ((high, covers), above, others, are) = (
+  (max opening high, round_joined top opening closing next high (entries_of sub round) entries again forward once covers),
   record {
     above = λ m n low within some there.
         let cut = times-numbers-append m sub early (all_lines round.jobs) in
@@ -94,10 +93,11 @@ round_goes_on sub opening closing next early round (entries ∷ more) again forw
 -- the later stretches of a transcript draw greater numbers than a round draws, since it released these
 above_round : (set : Setting) (sub opening : ℕ) (early : List LineRecord) (kept : List Kept) (jobs : List (List Line)) (openings words : List ℕ) (stop : Option Stop) (round : RoundRecord)
     (records : List PartRecord) → IsLawfulRound set (stop_before stop records) early kept openings jobs round words
-    → (stretches : List (List Entry)) → stretches ≡ stretches_of sub records → GoOn opening (numbers_of sub (early ++ all_lines round.jobs)) stretches
-    → AreAbove (drawn (entries_of sub round)) (later_ones stretches)
+    → (stretches : List (List Entry)) → stretches ≡ stretches_of sub records → GoOn (top_at set.rows sub) opening (numbers_of sub (early ++ all_lines round.jobs)) stretches
+    → AreAbove (top_at set.rows sub) (drawn (entries_of sub round)) (later_ones stretches)
 above_round set sub opening early kept jobs openings words stop round [] lawful stretches same go =
-    subst (λ (ss : List (List Entry)). AreAbove (drawn (entries_of sub round)) (later_ones ss)) (sym same) (none_above (drawn (entries_of sub round)))
+    subst (λ (ss : List (List Entry)). AreAbove (top_at set.rows sub) (drawn (entries_of sub round)) (later_ones ss)) (sym same)
+    (none_above (top_at set.rows sub) (drawn (entries_of sub round)))
 above_round set sub opening early kept jobs openings words stop round (next ∷ records) lawful [] same go = absurd go
 above_round set sub opening early kept jobs openings words stop round (next ∷ records) lawful (entries ∷ more) same ((high, covers), above, others, are) = record {
   above = λ m n low within some there.
@@ -114,25 +114,25 @@ above_low : (n low high : ℕ) → 1 ≤ (if nat_lt low n && nat_le n high then 
 above_low n low high = grind (arith, nat_tests)
 
 -- what a stretch draws is above the low end of its range
-drawn_above : (low high n : ℕ) (entries : List Entry) → CoversRange low high entries → n ≤ max_seq → 1 ≤ times n (drawn entries) → low < n
-drawn_above low high n entries covers within there =
+drawn_above : (top low high n : ℕ) (entries : List Entry) → CoversRange top low high entries → n ≤ top → 1 ≤ times n (drawn entries) → low < n
+drawn_above top low high n entries covers within there =
     let more = times-drawn n entries in let once = covers.once n within in above_low n low high (omega (arith, there, more, once))
 
 -- a restart before stretches
-restart_goes_on : (opening next : ℕ) (released : List ℕ) (stretches : List (List Entry)) → ((m : ℕ) → 1 ≤ times m released → m ≤ next)
-    → GoOn next released stretches → GoOn opening released ([] ∷ stretches)
-restart_goes_on opening next released [] below go = absurd go
-restart_goes_on opening next released (entries ∷ more) below ((high, covers), above, apart, are) = (
-  (opening, covers_nothing opening),
+restart_goes_on : (top opening next : ℕ) (released : List ℕ) (stretches : List (List Entry)) → ((m : ℕ) → m ≤ top → 1 ≤ times m released → m ≤ next)
+    → GoOn top next released stretches → GoOn top opening released ([] ∷ stretches)
+restart_goes_on top opening next released [] below go = absurd go
+restart_goes_on top opening next released (entries ∷ more) below ((high, covers), above, apart, are) = (
+  (opening, covers_nothing top opening),
   record {
     above = λ m n low within some there.
         let cut = times-drawn-append n entries (all_entries more) in
         elim (cases_lt 0 (times n (drawn entries))) [
-          | inl here ↦ let lower = below m some in let higher = drawn_above next high n entries covers within (omega (arith, here)) in omega (arith, lower, higher)
+          | inl here ↦ let lower = below m low some in let higher = drawn_above top next high n entries covers within (omega (arith, here)) in omega (arith, lower, higher)
           | inr none ↦ above.above m n low within some (omega (arith, cut, none, there))
         ];
   },
-  above_none (entries ∷ more),
+  above_none top (entries ∷ more),
   ((next, high, covers), apart, are),
 )
 
@@ -140,31 +140,32 @@ restart_goes_on opening next released (entries ∷ more) below ((high, covers), 
 
 -- the stretches of the parts of a lawful transcript
 pub parts_go_on : (set : Setting) (stop : Option Stop) (sub : ℕ) (at : Course) (parts : List Part) (records : List PartRecord) (end : Course) → sub < length set.rows
-    → length at.openings ≡ length set.rows → Leads set stop at parts records end → GoOn (get_or at.openings sub 0) (numbers_of sub at.early) (stretches_of sub records)
+    → length at.openings ≡ length set.rows → Leads set stop at parts records end
+    → GoOn (top_at set.rows sub) (get_or at.openings sub 0) (numbers_of sub at.early) (stretches_of sub records)
 parts_go_on set stop sub at [] records end inside sizes (none, same) =
-    subst (λ (rs : List PartRecord). GoOn (get_or at.openings sub 0) (numbers_of sub at.early) (stretches_of sub rs)) (sym none)
-    ((get_or at.openings sub 0, covers_nothing (get_or at.openings sub 0)), none_above (numbers_of sub at.early), above_none [], tt)
+    let top = top_at set.rows sub in
+    subst (λ (rs : List PartRecord). GoOn top (get_or at.openings sub 0) (numbers_of sub at.early) (stretches_of sub rs)) (sym none)
+    ((get_or at.openings sub 0, covers_nothing top (get_or at.openings sub 0)), none_above top (numbers_of sub at.early), above_none top [], tt)
 parts_go_on set stop sub at (part ∷ parts) [] end inside sizes leads = absurd leads
 parts_go_on set stop sub at (Round jobs ∷ parts) (record_of.Round round ∷ records) end inside sizes (next, serves, rest) =
     let words = serves.words in
     let more = subst (λ (c : Course). Leads set stop c parts records end) serves.leads rest in
-    let kept = length-map words (λ (word : ℕ). min word max_seq) in
     let same = serves.lawful.sizes in
-    let go = parts_go_on set stop sub (after_round at round words serves.lawful.nets) parts records end inside (omega (arith, kept, same, sizes)) more in
+    let go = parts_go_on set stop sub (after_round set.rows at round words serves.lawful.nets) parts records end inside (length-reopened set.rows words) more in
     let splits = serves.lawful.split sub (omega (arith, inside, sizes)) in
-    round_goes_on sub (get_or at.openings sub 0) (get_or words sub 0) (get_or (reopened words) sub 0) at.early round (stretches_of sub records)
-    (get_or-reopened words sub) splits.forward splits.once
-    (above_round set sub (get_or (reopened words) sub 0) at.early at.kept jobs at.openings words stop round records serves.lawful (stretches_of sub records) refl go) go
+    round_goes_on (top_at set.rows sub) sub (get_or at.openings sub 0) (get_or words sub 0) (get_or (reopened set.rows words) sub 0) at.early round (stretches_of sub records)
+    (get_or-reopened set.rows words sub inside (omega (arith, same, sizes, inside))) splits.forward splits.once
+    (above_round set sub (get_or (reopened set.rows words) sub 0) at.early at.kept jobs at.openings words stop round records serves.lawful (stretches_of sub records) refl go) go
 parts_go_on set stop sub at (Round jobs ∷ parts) (record_of.Restart ∷ records) end inside sizes (next, serves, rest) = absurd serves
 parts_go_on set stop sub at (Restart ∷ parts) (record_of.Round round ∷ records) end inside sizes (next, serves, rest) = absurd serves
 parts_go_on set stop sub at (Restart ∷ parts) (record_of.Restart ∷ records) end inside sizes (next, restarts, rest) =
     let limits = restarts.limits in
     let more = subst (λ (c : Course). Leads set stop c parts records end) restarts.leads rest in
     let go = parts_go_on set stop sub (after_restart set.rows at limits) parts records end inside (length-opened set.rows limits) more in
-    restart_goes_on (get_or at.openings sub 0) (get_or (opened set.rows limits) sub 0) (numbers_of sub at.early) (stretches_of sub records)
-    (λ m some.
+    restart_goes_on (top_at set.rows sub) (get_or at.openings sub 0) (get_or (opened set.rows limits) sub 0) (numbers_of sub at.early) (stretches_of sub records)
+    (λ m within some.
     let low = All-times (λ (n : ℕ). n ≤ get_or limits sub 0) m (numbers_of sub at.early) (restarts.raises.released sub inside) some in
-    let high = opened_above set.rows limits sub inside in omega (arith, low, high))
+    let high = opened_above set.rows limits sub inside in omega (arith, low, within, high))
     go
 
 -- ---- released numbers are drawn

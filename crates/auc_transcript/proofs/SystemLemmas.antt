@@ -1,5 +1,5 @@
 -- The law of 5G: an authentication in which nothing happens to RES* on its way is confirmed exactly if the USIM accepts.
-use Rattle.std.proofs.Common.{◌≡◌, ◌≢◌, ℕ, ◌≤◌, ◌%◌, Bool, true, false, List, [], ◌∷◌, ◌++◌, length, take, map, Option, None, refl, sym, ap, ◌∙◌, subst, arith, append_assoc}
+use Rattle.std.proofs.Common.{◌≡◌, ◌≢◌, ℕ, ◌≤◌, Bool, true, false, List, [], ◌∷◌, ◌++◌, length, take, map, Option, None, refl, sym, ap, ◌∙◌, subst, arith, append_assoc}
 use Rattle.std.specs.Prelude.{if◌then◌else◌, nat_le, not, slice_index}
 use Rattle.std.specs.Str.{bytes_eq}
 use Rattle.std.proofs.lemmas.Bool.{eq-eqb, or_right}
@@ -23,13 +23,13 @@ use Rattle.auc_milenage.proofs.Facts.{f5_size}
 use Rattle.auc_random.specs.Random.{rand_of}
 use Rattle.auc_request.specs.Request.{is_separated}
 use Rattle.auc_sqn.specs.Number.{sqn_bytes}
-use Rattle.auc_sqn.specs.Past.{Past, verdict_of}
+use Rattle.auc_sqn.specs.Past.{Past}
 use Rattle.auc_sqn.specs.declared.verdict.Verdict.{Verdict}
-use Rattle.auc_sqn.specs.declared.verdict.Verdict.TheVariants.{Fresh, Old, Far}
+use Rattle.auc_sqn.specs.declared.verdict.Verdict.TheVariants.{Fresh, Old, Far, Aged}
 use Rattle.auc_subs.specs.Subscriber.{AreSubscribers, IsRow}
 use Rattle.auc_subs.specs.declared.row.Row.{Row}
 use Rattle.auc_vector.specs.Vector.{autn_of}
-use Rattle.auc_world.specs.Given.{Authenticates, AuthenticatesIf, Before, FivegFollows, IsGiven, JobGives, JobsGive, OneGives, UsimAnswers, behind, device_of_row, hxres_lines, is_in, is_released, judged_lines, outcome_of, past_before, turned}
+use Rattle.auc_world.specs.Given.{Authenticates, AuthenticatesIf, Before, FivegFollows, IsGiven, JobGives, JobsGive, OneGives, UsimAnswers, behind, device_of_row, hxres_lines, is_in, is_released, judged_lines, outcome_of, past_before, turned, verdict_by}
 use Rattle.auc_world.specs.Lines.{all_lines, numbers_of}
 use Rattle.auc_world.specs.Net.{Net}
 use Rattle.auc_world.specs.Setting.{Setting}
@@ -62,26 +62,26 @@ begins [] mac two = absurd (omega (arith, two))
 begins (x ∷ rest) mac two = refl
 
 -- the masked SQN has 6 bytes
-masked_size : (row : Row) (rand : List ℕ) (n : ℕ) → IsRow row → length (xor (sqn_bytes n) (f5 row.secret.k row.secret.opc rand)) ≡ 6
+masked_size : (row : Row) (rand : List ℕ) (n : ℕ) → IsRow row → length (xor (sqn_bytes row.bits n) (f5 row.secret.k row.secret.opc rand)) ≡ 6
 masked_size row rand n is =
-    let six : length (sqn_bytes n) ≡ 6 = refl in
-    length_xor (sqn_bytes n) (f5 row.secret.k row.secret.opc rand) (six ∙ sym (f5_size row.secret.k row.secret.opc rand is.key is.operator)) ∙ six
+    let six : length (sqn_bytes row.bits n) ≡ 6 = refl in
+    length_xor (sqn_bytes row.bits n) (f5 row.secret.k row.secret.opc rand) (six ∙ sym (f5_size row.secret.k row.secret.opc rand is.key is.operator)) ∙ six
 
 -- AUTN begins with it
 masked_is : (row : Row) (rand : List ℕ) (n : ℕ) → IsRow row
-    → xor (sqn_bytes n) (f5 row.secret.k row.secret.opc rand) ≡ take 6 (autn_of row.secret.k row.secret.opc rand row.amf n)
+    → xor (sqn_bytes row.bits n) (f5 row.secret.k row.secret.opc rand) ≡ take 6 (autn_of row.secret.k row.secret.opc rand row.amf row.bits n)
 unfolding autn_of
 masked_is row rand n is =
-    let masked = xor (sqn_bytes n) (f5 row.secret.k row.secret.opc rand) in
-    let mac = f1 row.secret.k row.secret.opc rand (sqn_bytes n) row.amf in
+    let masked = xor (sqn_bytes row.bits n) (f5 row.secret.k row.secret.opc rand) in
+    let mac = f1 row.secret.k row.secret.opc rand (sqn_bytes row.bits n) row.amf in
     sym (ap (take 6) (append_assoc masked row.amf mac) ∙ take_at masked (row.amf ++ mac) 6 (masked_size row rand n is))
 
 -- and AMF stands behind it
-separation_is : (row : Row) (rand : List ℕ) (n : ℕ) → IsRow row → is_separated (autn_of row.secret.k row.secret.opc rand row.amf n) ≡ has_separation row
+separation_is : (row : Row) (rand : List ℕ) (n : ℕ) → IsRow row → is_separated (autn_of row.secret.k row.secret.opc rand row.amf row.bits n) ≡ has_separation row
 unfolding autn_of
 separation_is row rand n is =
-    let masked = xor (sqn_bytes n) (f5 row.secret.k row.secret.opc rand) in
-    let mac = f1 row.secret.k row.secret.opc rand (sqn_bytes n) row.amf in
+    let masked = xor (sqn_bytes row.bits n) (f5 row.secret.k row.secret.opc rand) in
+    let mac = f1 row.secret.k row.secret.opc rand (sqn_bytes row.bits n) row.amf in
     let rest = row.amf ++ mac in
     ap (nat_le 128)
     (ap (λ (l : List ℕ). slice_index l 6) (append_assoc masked row.amf mac) ∙ ap (slice_index (masked ++ rest)) (sym (masked_size row rand n is))
@@ -95,7 +95,7 @@ honest_agrees : EachDeviceAgreesWithItsHome → (set : Setting) (row : Row) (l :
 honest_agrees law set row l n is named =
     let rand = rand_of set.key l.sub n in
     subst (λ (name : List ℕ). Agree (home_of (vector_of_row set row l.sub n) l.home) (device_of_row row n rand name)) named
-    (law (vector_of_row set row l.sub n) (f5 row.secret.k row.secret.opc rand) (sqn_bytes n) l.home (masked_is row rand n is))
+    (law (vector_of_row set row l.sub n) (f5 row.secret.k row.secret.opc rand) (sqn_bytes row.bits n) l.home (masked_is row rand n is))
 
 -- the networks confirm its RES*
 confirms : (home : HomeKeys) (device : DeviceKeys) → Agree home device → front_of home.rand home.xres_star ≡ home.hxres_star
@@ -129,14 +129,15 @@ is_there before sub n =
     (is_in-from_times n (numbers_of sub (before.own ++ Vector sub n ∷ [])) (omega (arith, cut, once)))
 
 -- so its USIM answers
-answers : (v : Verdict) (past : Past) (answer : GiveVerdict) → UsimAnswers v past answer → answer ≢ given.Absent
-answers Fresh past answer is same = let no : ⊥ = cc in no
-answers (Old entry) past answer (sqn_ms, highest, is) same = let no : ⊥ = cc in no
-answers (Far greatest) past answer (sqn_ms, highest, is) same = let no : ⊥ = cc in no
+answers : (bits : ℕ) (v : Verdict) (past : Past) (answer : GiveVerdict) → UsimAnswers bits v past answer → answer ≢ given.Absent
+answers bits Fresh past answer is same = let no : ⊥ = cc in no
+answers bits (Old entry) past answer (sqn_ms, highest, is) same = let no : ⊥ = cc in no
+answers bits (Far greatest) past answer (sqn_ms, highest, is) same = let no : ⊥ = cc in no
+answers bits (Aged greatest) past answer (sqn_ms, highest, is) same = let no : ⊥ = cc in no
 
-present : (b : Bool) (past : Past) (n : ℕ) (answer : GiveVerdict) → b ≡ true → IsGiven b past n answer → answer ≢ given.Absent
-present true past n answer is given = answers (verdict_of past n (n % 32)) past answer given
-present false past n answer is given = absurd (let no : ⊥ = cc in no)
+present : (row : Row) (b : Bool) (past : Past) (n : ℕ) (answer : GiveVerdict) → b ≡ true → IsGiven row b past n answer → answer ≢ given.Absent
+present row true past n answer is given = answers row.bits (verdict_by row past n) past answer given
+present row false past n answer is given = absurd (let no : ⊥ = cc in no)
 
 follows_confirmed : EachDeviceAgreesWithItsHome → (set : Setting) (before : Before) (l : FivegLine) (n : ℕ) (lines : List LineRecord) → AreSubscribers set.rows → IsHonest l
     → FivegFollows set (behind before (Vector l.sub n ∷ [])) l n lines → IsConfirmed set l n lines
@@ -172,7 +173,7 @@ follows_confirmed law set before l n lines are honest f = record {
     answered : Authenticates set place l row n lines → IsAnsweredWith l n home lines
     answered a = (
       a.gives.answer,
-      present (is_released place l.sub n) (past_before place a.gives.row l.sub) n a.gives.answer (is_there before l.sub n) a.gives.given,
+      present a.gives.row (is_released place l.sub n) (past_before place a.gives.row l.sub) n a.gives.answer (is_there before l.sub n) a.gives.given,
       a.lines_are ∙ ap (λ (ls : List LineRecord). ls ++ a.more) a.gives.lines_are
           ∙ ap (λ (ls : List LineRecord). Give l.sub n a.gives.answer ∷ ls) (a.judged ∙ judged_is l home device a.gives.answer honest.untouched agree refl),
     )

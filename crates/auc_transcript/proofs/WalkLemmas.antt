@@ -305,4 +305,4 @@ round_at set stop at (Restart ∷ parts) (record_of.Restart ∷ early) late roun
 round_at set stop at (Round jobs ∷ parts) (record_of.Round x ∷ early) late round earlier others lines end are (next, serves, rest) jobs_are =
     let more = subst (λ (c : Course). Leads set stop c parts (early ++ record_of.Round round ∷ late) end) serves.leads rest in
     subst (λ (ls : List LineRecord). HaveOccurred set (record { early = ls; beside = all_lines earlier; own = [] }) lines) (append_assoc at.early (all_lines x.jobs) (lines_of early))
-    (round_at set stop (after_round at x serves.words serves.lawful.nets) parts early late round earlier others lines end are more jobs_are)
+    (round_at set stop (after_round set.rows at x serves.words serves.lawful.nets) parts early late round earlier others lines end are more jobs_are)

@@ -40,7 +40,7 @@ use Rattle.auc_world.specs.Event.{asked_in, number_in, resync_in}
 use Rattle.auc_world.specs.Given.{Before, JobGives}
 use Rattle.auc_world.specs.Happened.{Told, happened, new_session}
 use Rattle.auc_world.specs.Net.{Net}
-use Rattle.auc_world.specs.Plain.{IsAskedFor, TellNoCause, is_refused, is_too_far, results}
+use Rattle.auc_world.specs.Plain.{IsAskedFor, TellNoCause, is_refused, is_unresolved, results}
 use Rattle.auc_world.specs.Setting.{Setting}
 use Rattle.auc_world.specs.Start.{Kept, fresh_kept, kept_by_jobs, start_of}
 use Rattle.auc_world.specs.Transcript.{stretches_of}
@@ -63,25 +63,25 @@ use Rattle.auc_transcript.specs.Witnesses.{ContextsAreKept, CountersAreNoted, Ke
 -- ---- vectors that lines give
 
 -- nothing fails by its place if nothing was accepted
-none_fails : (n : ℕ) (answer : GiveVerdict) → FailsByPlace (stretches_of 0 (given_first answer)) [] n → ⊥
+none_fails : (n : ℕ) (answer : GiveVerdict) → FailsByPlace 5 None (stretches_of 0 (given_first answer)) [] n → ⊥
 none_fails n answer fails = let (k, inside, at) = fails.was_accepted in omega (arith, inside)
 
 late_fails : (answer : GiveVerdict) → answer ≢ given.Absent → FailsExactlyByPlace (subscriber ∷ []) (given_late answer) → IsFailure answer
 late_fails answer released promise =
     let stretches = stretches_of 0 (given_late answer) in
     (promise accepted_late 0 1 answer subscriber (record { after = []; lines_are = refl; released = released }) refl (record {
-      genuine = All-cons (IsGenuine (all_entries stretches)) (sqn_bytes 33) [] (33, omega arith, (32, omega arith, refl), refl) (All-nil (IsGenuine (all_entries stretches)));
-      earlier = All-cons (λ sqn. is_later stretches 1 (seq_of sqn) ≡ false) (sqn_bytes 33) [] refl (All-nil (λ sqn. is_later stretches 1 (seq_of sqn) ≡ false));
+      genuine = All-cons (IsGenuine 5 (all_entries stretches)) (sqn_bytes 5 33) [] (33, omega arith, (32, omega arith, refl), refl) (All-nil (IsGenuine 5 (all_entries stretches)));
+      earlier = All-cons (λ sqn. is_later stretches 1 (seq_of 5 sqn) ≡ false) (sqn_bytes 5 33) [] refl (All-nil (λ sqn. is_later stretches 1 (seq_of 5 sqn) ≡ false));
       near = omega arith;
       above = omega arith;
-    })).1 (record { other = 33; within = omega arith; was_accepted = (0, omega arith, refl); one_period = refl; turns = 1; later = refl })
+    })).1 (record { other = 33; within = omega arith; was_accepted = (0, omega arith, refl); one_period = refl; stale = inl (1, refl) })
 
 first_stays : (answer : GiveVerdict) → answer ≢ given.Absent → FailsExactlyByPlace (subscriber ∷ []) (given_first answer) → IsFailure answer → ⊥
 first_stays answer released promise failure =
     let stretches = stretches_of 0 (given_first answer) in
     none_fails 1 answer ((promise (Vector 0 1 ∷ []) 0 1 answer subscriber (record { after = []; lines_are = refl; released = released }) refl (record {
-      genuine = All-nil (IsGenuine (all_entries stretches));
-      earlier = All-nil (λ sqn. is_later stretches 1 (seq_of sqn) ≡ false);
+      genuine = All-nil (IsGenuine 5 (all_entries stretches));
+      earlier = All-nil (λ sqn. is_later stretches 1 (seq_of 5 sqn) ≡ false);
       near = omega arith;
       above = omega arith;
     })).0 failure)
@@ -119,11 +119,11 @@ two_may r a e f = record {
 
 -- AUTN of number 1
 abbrev autn : List ℕ → List ℕ
-autn key = autn_of subscriber.secret.k subscriber.secret.opc (rand_of key 0 1) subscriber.amf 1
+autn key = autn_of subscriber.secret.k subscriber.secret.opc (rand_of key 0 1) subscriber.amf 5 1
 
 challenge_may : (key : List ℕ) → MayBeWritten (challenge key)
 challenge_may key =
-    two_may (rand_of key 0 1) (autn key) (rand_block key 0 1).size (autn_size zeros zeros (rand_of key 0 1) subscriber.amf 1 zeros_block zeros_block (rand_block key 0 1) refl)
+    two_may (rand_of key 0 1) (autn key) (rand_block key 0 1).size (autn_size zeros zeros (rand_of key 0 1) subscriber.amf 5 1 zeros_block zeros_block (rand_block key 0 1) refl)
 
 -- what its bytes are received as
 abbrev seen : List ℕ → Seen
@@ -203,21 +203,21 @@ again_fails : WrittenIsRead → (key : List ℕ) (answer : UsimNote) → FailsEx
 again_fails written key answer promise =
     let stretches = stretches_of 0 (presented_again key answer) in
     (promise (accepted_once key) 0 1 subscriber answer (is_again written key answer) (record {
-      genuine = All-cons (IsGenuine (all_entries stretches)) (sqn_bytes 1) [] (1, omega arith, (0, omega arith, refl), refl) (All-nil (IsGenuine (all_entries stretches)));
-      earlier = All-cons (λ sqn. is_later stretches 1 (seq_of sqn) ≡ false) (sqn_bytes 1) [] refl (All-nil (λ sqn. is_later stretches 1 (seq_of sqn) ≡ false));
+      genuine = All-cons (IsGenuine 5 (all_entries stretches)) (sqn_bytes 5 1) [] (1, omega arith, (0, omega arith, refl), refl) (All-nil (IsGenuine 5 (all_entries stretches)));
+      earlier = All-cons (λ sqn. is_later stretches 1 (seq_of 5 sqn) ≡ false) (sqn_bytes 5 1) [] refl (All-nil (λ sqn. is_later stretches 1 (seq_of 5 sqn) ≡ false));
       near = omega arith;
       above = omega arith;
-    })).1 (record { other = 1; within = omega arith; was_accepted = (0, omega arith, refl); one_period = refl; turns = 0; later = refl })
+    })).1 (record { other = 1; within = omega arith; was_accepted = (0, omega arith, refl); one_period = refl; stale = inl (0, refl) })
 
-none_fails_in_sessions : (key : List ℕ) (answer : UsimNote) → FailsByPlace (stretches_of 0 (presented_first key answer)) [] 1 → ⊥
+none_fails_in_sessions : (key : List ℕ) (answer : UsimNote) → FailsByPlace 5 None (stretches_of 0 (presented_first key answer)) [] 1 → ⊥
 none_fails_in_sessions key answer fails = let (k, inside, at) = fails.was_accepted in omega (arith, inside)
 
 first_stays_in_sessions : WrittenIsRead → (key : List ℕ) (answer : UsimNote) → FailsExactlyByPlaceInSessions (setting key) (presented_first key answer) → IsNotedFailure answer → ⊥
 first_stays_in_sessions written key answer promise failure =
     let stretches = stretches_of 0 (presented_first key answer) in
     none_fails_in_sessions key answer ((promise (challenged key) 0 1 subscriber answer (is_first written key answer) (record {
-      genuine = All-nil (IsGenuine (all_entries stretches));
-      earlier = All-nil (λ sqn. is_later stretches 1 (seq_of sqn) ≡ false);
+      genuine = All-nil (IsGenuine 5 (all_entries stretches));
+      earlier = All-nil (λ sqn. is_later stretches 1 (seq_of 5 sqn) ≡ false);
       near = omega arith;
       above = omega arith;
     })).0 failure)
@@ -304,7 +304,7 @@ no_cause : TellNoCause 0 1 (records_of 1 plain_lines)
 no_cause = record {
   own = All-from_recursion (λ (came : Came). IsAskedFor 0 (asked_in came)) (results (records_of 1 plain_lines)) (tt, (tt, (tt, (refl, (tt, (tt, (tt, tt)))))));
   given = All-from_recursion (λ (came : Came). is_refused (number_in came) ≡ false) (results (records_of 1 plain_lines)) (refl, (refl, (refl, (refl, (refl, (refl, (refl, tt)))))));
-  near = All-from_recursion (λ (came : Came). is_too_far (resync_in came) ≡ false) (results (records_of 1 plain_lines)) (refl, (refl, (refl, (refl, (refl, (refl, (refl, tt)))))));
+  resolved = All-from_recursion (λ (came : Came). is_unresolved (resync_in came) ≡ false) (results (records_of 1 plain_lines)) (refl, (refl, (refl, (refl, (refl, (refl, (refl, tt)))))));
   once = omega arith;
   challenge = inl refl;
 }

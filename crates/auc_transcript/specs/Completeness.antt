@@ -39,7 +39,7 @@ use Rattle.auc_transcript.specs.Keys.{AreNets}
 -- the session of an event line; a line that opens a session is none
 abbrev pub session_named : Line → Option ℕ
 session_named (line.Draw sub count) = None
-session_named (line.Sync sub seq bit count) = None
+session_named (line.Sync sub report count) = None
 session_named (line.Give sub n) = None
 session_named (line.Eps sub snid) = None
 session_named (line.Fiveg authentication) = None
@@ -57,7 +57,7 @@ session_named (line.Cut packet count) = None
 -- what a line says if it opens a session under this number
 abbrev pub opening_by : ℕ → Line → Option SessionLine
 opening_by session (line.Draw sub count) = None
-opening_by session (line.Sync sub seq bit count) = None
+opening_by session (line.Sync sub report count) = None
 opening_by session (line.Give sub n) = None
 opening_by session (line.Eps sub snid) = None
 opening_by session (line.Fiveg authentication) = None

@@ -1,5 +1,5 @@
 -- What every lawful transcript promises of a subscriber's vectors and its USIM.
-use Rattle.std.specs.Prelude.{◌≡◌, ◌≢◌, ◌↔◌, ℕ, ◌+◌, ◌*◌, ◌^◌, ◌<◌, ◌≤◌, ◌&&◌, ◌||◌, max, nat_le, nat_lt, not, Bool, true, false, Option, Some, None, List, [], ◌∷◌, ◌++◌, length, filter, fold, map, All, AllPairs, Contains, slice_get, slice_index, if◌then◌else◌}
+use Rattle.std.specs.Prelude.{◌≡◌, ◌≢◌, ◌↔◌, ℕ, ◌+◌, ◌*◌, ◌^◌, ◌<◌, ◌≤◌, ◌&&◌, ◌||◌, ◌⊎◌, max, nat_le, nat_lt, not, Bool, true, false, Option, Some, None, List, [], ◌∷◌, ◌++◌, length, filter, fold, map, All, AllPairs, Contains, slice_get, slice_index, if◌then◌else◌}
 use Rattle.std.specs.List.{list_any}
 use Rattle.auc_edge.specs.declared.stop.Stop.{Stop}
 use Rattle.auc_history.specs.declared.entry.Entry.{Entry}
@@ -8,7 +8,8 @@ use Rattle.auc_history.specs.History.{drawn}
 use Rattle.auc_history.specs.Split.{all_entries}
 use Rattle.auc_lines.specs.declared.part.Part.{Part}
 use Rattle.auc_lines.specs.declared.part.Part.TheVariants.{Restart}
-use Rattle.auc_sqn.specs.Number.{max_seq, seq_of, sqn_bytes}
+use Rattle.auc_sqn.specs.Number.{indices, max_seq, seq_of, sqn_bytes, top_of}
+use Rattle.auc_subs.specs.Subscriber.{AreSubscribers}
 use Rattle.auc_subs.specs.declared.row.Row.{Row}
 use Rattle.auc_world.specs.declared.record.GiveVerdict.{GiveVerdict}
 use Rattle.auc_world.specs.declared.record.GiveVerdict.TheVariants as given
@@ -23,9 +24,10 @@ use Rattle.auc_world.specs.Transcript.{IsLawful, lines_of, stretches_of}
 
 -- ---- vectors
 
--- no two vectors that a transcript releases for one of so many subscribers have the same SQN
-abbrev pub VectorsDiffer : ℕ → List PartRecord → Type 0
-VectorsDiffer count records = (sub : ℕ) → sub < count → AllPairs ◌≢◌ (map sqn_bytes (numbers_of sub (lines_of records)))
+-- no two vectors that a transcript releases for a subscriber have the same SQN, by how many bits the subscriber's index has
+abbrev pub VectorsDiffer : List Row → List PartRecord → Type 0
+VectorsDiffer rows records = (sub : ℕ) (row : Row) → slice_get rows sub ≡ Some row
+    → AllPairs ◌≢◌ (map (sqn_bytes row.bits) (numbers_of sub (lines_of records)))
 
 -- each number that lines release for one of so many subscribers is above what was reserved for it at first
 abbrev pub AreAboveReserved : ℕ → List ℕ → List LineRecord → Type 0
@@ -33,9 +35,9 @@ AreAboveReserved count reserved lines = (sub : ℕ) → sub < count → All (λ 
 
 -- ---- the USIM
 
--- no USIM of so many subscribers accepts an SQN twice
-abbrev pub AcceptsNoneTwice : ℕ → List PartRecord → Type 0
-AcceptsNoneTwice count records = (sub : ℕ) → sub < count → AllPairs ◌≢◌ (accepted sub (lines_of records))
+-- no USIM accepts an SQN twice
+abbrev pub AcceptsNoneTwice : List Row → List PartRecord → Type 0
+AcceptsNoneTwice rows records = (sub : ℕ) (row : Row) → slice_get rows sub ≡ Some row → AllPairs ◌≢◌ (accepted row.bits sub (lines_of records))
 
 -- ---- periods and places
 
@@ -72,29 +74,38 @@ abbrev pub place_of : List (List Entry) → ℕ → ℕ
 place_of [] n = 0
 place_of (entries ∷ more) n = if is_in n (drawn entries) then place_in entries n else place_of more n
 
+-- a place is later than another by an age limit or more, if there is one
+abbrev pub IsAgedBy : Option ℕ → ℕ → ℕ → Type 0
+IsAgedBy None place later = ⊥
+IsAgedBy (Some limit) place later = place + limit ≤ later
+
+-- a place is stale by another: they are the same, the other is a positive multiple of the index's values later, or it is the age
+-- limit or more later
+abbrev pub IsStaleBy : ℕ → Option ℕ → ℕ → ℕ → Type 0
+IsStaleBy bits age place later = ((turns : ℕ) × (later ≡ place + indices bits * turns)) ⊎ IsAgedBy age place later
+
 -- a number fails by its place: its SQN was accepted before, or the SQN of a number that was drawn in its period a
--- positive multiple of 32 places later
-pub record FailsByPlace (stretches : List (List Entry)) (before : List (List ℕ)) (n : ℕ) : Type 0 where
+-- positive multiple of 2 ^ bits places later, or the age limit or more later
+pub record FailsByPlace (bits : ℕ) (age : Option ℕ) (stretches : List (List Entry)) (before : List (List ℕ)) (n : ℕ) : Type 0 where
   pub other : ℕ
-  -- it is no mark: a mark has the 6 bytes of a lesser number's SQN
-  pub within : other ≤ max_seq
-  pub was_accepted : Contains before (sqn_bytes other)
+  -- it is no mark: a mark may have the 6 bytes of a lesser number's SQN
+  pub within : other ≤ top_of bits
+  pub was_accepted : Contains before (sqn_bytes bits other)
   pub one_period : is_one_period stretches other n ≡ true
-  pub turns : ℕ
-  pub later : place_of stretches other ≡ place_of stretches n + 32 * turns
+  pub stale : IsStaleBy bits age (place_of stretches n) (place_of stretches other)
 
 -- ---- failures
 
 -- the SQN of a number that some entries of the subscriber drew, and that is no mark
-abbrev pub IsGenuine : List Entry → List ℕ → Type 0
-IsGenuine entries sqn = (m : ℕ) × (m ≤ max_seq) × Contains (drawn entries) m × (sqn ≡ sqn_bytes m)
+abbrev pub IsGenuine : ℕ → List Entry → List ℕ → Type 0
+IsGenuine bits entries sqn = (m : ℕ) × (m ≤ top_of bits) × Contains (drawn entries) m × (sqn ≡ sqn_bytes bits m)
 
 -- a presented number is in reach: each SQN that was accepted before was drawn for the subscriber, none of a later period,
 -- the number is at most 2 ^ 28 above the greatest that counts as accepted, and it is above the USIM's opening
-pub record IsInReach (stretches : List (List Entry)) (opening : ℕ) (before : List (List ℕ)) (n : ℕ) : Type 0 where
-  pub genuine : All (IsGenuine (all_entries stretches)) before
-  pub earlier : All (λ sqn. is_later stretches n (seq_of sqn) ≡ false) before
-  pub near : n ≤ fold max opening (map seq_of before) + 2 ^ 28
+pub record IsInReach (bits : ℕ) (stretches : List (List Entry)) (opening : ℕ) (before : List (List ℕ)) (n : ℕ) : Type 0 where
+  pub genuine : All (IsGenuine bits (all_entries stretches)) before
+  pub earlier : All (λ sqn. is_later stretches n (seq_of bits sqn) ≡ false) before
+  pub near : n ≤ fold max opening (map (seq_of bits) before) + 2 ^ 28
   pub above : opening < n
 
 -- a USIM's answer is a synchronisation failure
@@ -114,14 +125,14 @@ pub record IsPresented (records : List PartRecord) (before : List LineRecord) (s
 abbrev pub FailsExactlyByPlace : List Row → List PartRecord → Type 0
 FailsExactlyByPlace rows records = (before : List LineRecord) (sub n : ℕ) (answer : GiveVerdict) (row : Row)
     → IsPresented records before sub n answer → slice_get rows sub ≡ Some row
-    → IsInReach (stretches_of sub records) row.usim (accepted sub before) n
-    → IsFailure answer ↔ FailsByPlace (stretches_of sub records) (accepted sub before) n
+    → IsInReach row.bits (stretches_of sub records) row.usim (accepted row.bits sub before) n
+    → IsFailure answer ↔ FailsByPlace row.bits row.age (stretches_of sub records) (accepted row.bits sub before) n
 
 -- ---- the laws
 
 abbrev pub EachTranscriptKeepsNumbersApart : Type 0
 EachTranscriptKeepsNumbersApart = (set : Setting) (reserved : List ℕ) (stop : Option Stop) (parts : List Part) (records : List PartRecord)
-    → IsLawful set reserved stop parts records → VectorsDiffer (length set.rows) records
+    → AreSubscribers set.rows → IsLawful set reserved stop parts records → VectorsDiffer set.rows records
 
 abbrev pub EachNumberIsAboveReserved : Type 0
 EachNumberIsAboveReserved = (set : Setting) (reserved : List ℕ) (stop : Option Stop) (parts : List Part) (records : List PartRecord)
@@ -129,11 +140,11 @@ EachNumberIsAboveReserved = (set : Setting) (reserved : List ℕ) (stop : Option
 
 abbrev pub EachUsimAcceptsNoneTwice : Type 0
 EachUsimAcceptsNoneTwice = (set : Setting) (reserved : List ℕ) (stop : Option Stop) (parts : List Part) (records : List PartRecord)
-    → IsLawful set reserved stop parts records → AcceptsNoneTwice (length set.rows) records
+    → AreSubscribers set.rows → IsLawful set reserved stop parts records → AcceptsNoneTwice set.rows records
 
 abbrev pub EachFailureIsByPlace : Type 0
 EachFailureIsByPlace = (set : Setting) (reserved : List ℕ) (stop : Option Stop) (parts : List Part) (records : List PartRecord)
-    → IsLawful set reserved stop parts records → FailsExactlyByPlace set.rows records
+    → AreSubscribers set.rows → IsLawful set reserved stop parts records → FailsExactlyByPlace set.rows records
 
 -- a line that isn't an event's
 abbrev pub IsOutsideSessions : LineRecord → Type 0
@@ -148,9 +159,9 @@ IsOutsideSessions (Event r) = ⊥
 -- without sessions each accepted SQN was drawn for the subscriber, so that the premise `genuine` holds always
 abbrev pub EachSqnOutsideSessionsIsGenuine : Type 0
 EachSqnOutsideSessionsIsGenuine =
-    (set : Setting) (reserved : List ℕ) (stop : Option Stop) (parts : List Part) (records : List PartRecord) (before after : List LineRecord) (sub : ℕ)
-    → IsLawful set reserved stop parts records → lines_of records ≡ before ++ after → All IsOutsideSessions before
-    → All (IsGenuine (all_entries (stretches_of sub records))) (accepted sub before)
+    (set : Setting) (reserved : List ℕ) (stop : Option Stop) (parts : List Part) (records : List PartRecord) (before after : List LineRecord) (sub : ℕ) (row : Row)
+    → IsLawful set reserved stop parts records → lines_of records ≡ before ++ after → All IsOutsideSessions before → slice_get set.rows sub ≡ Some row
+    → All (IsGenuine row.bits (all_entries (stretches_of sub records))) (accepted row.bits sub before)
 
 -- a restart may follow every lawful transcript: some limits meet what is asked of them
 abbrev pub EachTranscriptMayRestart : Type 0

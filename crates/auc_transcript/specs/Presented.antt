@@ -94,7 +94,7 @@ pub record IsPresentedInSession (set : Setting) (records : List PartRecord) (bef
   pub received : IsReceived seen
   -- the packet has AT_RAND and AT_AUTN of the vector
   pub rand : first_value rand_value (attrs_in seen.reading) ≡ Some (rand_of set.key sub n)
-  pub autn : first_value autn_value (attrs_in seen.reading) ≡ Some (autn_of row.secret.k row.secret.opc (rand_of set.key sub n) row.amf n)
+  pub autn : first_value autn_value (attrs_in seen.reading) ≡ Some (autn_of row.secret.k row.secret.opc (rand_of set.key sub n) row.amf row.bits n)
   -- the note of the USIM's answer
   pub answered : usim_for sub delivery ≡ Some answer
 
@@ -110,15 +110,15 @@ IsNotedFailure usim.WrongMac = ⊥
 -- by its place
 abbrev pub FailsExactlyByPlaceInSessions : Setting → List PartRecord → Type 0
 FailsExactlyByPlaceInSessions set records = (before : List LineRecord) (sub n : ℕ) (row : Row) (answer : UsimNote)
-    → IsPresentedInSession set records before sub n row answer → IsInReach (stretches_of sub records) row.usim (accepted sub before) n
-    → IsNotedFailure answer ↔ FailsByPlace (stretches_of sub records) (accepted sub before) n
+    → IsPresentedInSession set records before sub n row answer → IsInReach row.bits (stretches_of sub records) row.usim (accepted row.bits sub before) n
+    → IsNotedFailure answer ↔ FailsByPlace row.bits row.age (stretches_of sub records) (accepted row.bits sub before) n
 
 -- the same of rounds without a restart between them
 abbrev pub FailsExactlyByPlaceInSessionsOfRounds : Setting → List RoundRecord → Type 0
 FailsExactlyByPlaceInSessionsOfRounds set rounds = (before : List LineRecord) (sub n : ℕ) (row : Row) (answer : UsimNote)
     → IsPresentedInSession set (map record_of.Round rounds) before sub n row answer
-    → IsInReachInRounds (entries_of_rounds sub rounds) row.usim (accepted sub before) n
-    → IsNotedFailure answer ↔ FailsByPlaceInRounds (entries_of_rounds sub rounds) (accepted sub before) n
+    → IsInReachInRounds row.bits (entries_of_rounds sub rounds) row.usim (accepted row.bits sub before) n
+    → IsNotedFailure answer ↔ FailsByPlaceInRounds row.bits row.age (entries_of_rounds sub rounds) (accepted row.bits sub before) n
 
 -- no USIM finds a wrong MAC in a released vector: what isn't a synchronisation failure is an acceptance
 abbrev pub FindsRightMacs : Setting → List PartRecord → Type 0

@@ -89,7 +89,7 @@ use Rattle.auc_transcript.specs.Systems.{AuthenticationsAreConfirmed}
 abbrev pub zeros : List ℕ
 zeros = replicate 16 0
 
--- its USIM is opened at 0
+-- its USIM is opened at 0, its index has 5 bits, and it has no age limit
 abbrev pub subscriber : Row
 subscriber = record {
   imsi = record { digits = 6; number = 1 };
@@ -97,6 +97,8 @@ subscriber = record {
   amf = 128 ∷ 0 ∷ [];
   seq = 0;
   usim = 0;
+  bits = 5;
+  age = None;
 }
 
 abbrev pub setting : List ℕ → Setting
@@ -127,6 +129,26 @@ given_first answer = transcript_of (Vector 0 1 ∷ Give 0 1 answer ∷ [])
 abbrev pub PlacesDecide : Type 0
 PlacesDecide = (answer : GiveVerdict) → answer ≢ given.Absent → (FailsExactlyByPlace (subscriber ∷ []) (given_late answer) → IsFailure answer)
     × (FailsExactlyByPlace (subscriber ∷ []) (given_first answer) → IsFailure answer → ⊥)
+
+-- ---- age limits
+
+-- a subscriber with an age limit of 3
+abbrev pub ageing : Row
+ageing = record subscriber { age = Some 3 }
+
+-- the vectors of 1 to 4 are released, and that of 4 is accepted
+abbrev pub accepted_fourth : List LineRecord
+accepted_fourth = map (Vector 0) (numbers_after 0 4) ++ Give 0 4 given.Accepted ∷ []
+
+-- then that of a number is presented, with this answer
+abbrev pub given_aged : ℕ → GiveVerdict → List PartRecord
+given_aged n answer = transcript_of (accepted_fourth ++ Give 0 n answer ∷ [])
+
+-- the first vector gets a synchronisation failure, and the second one doesn't; without an age limit the first one doesn't either
+abbrev pub AgesDecide : Type 0
+AgesDecide = (answer : GiveVerdict) → answer ≢ given.Absent → (FailsExactlyByPlace (ageing ∷ []) (given_aged 1 answer) → IsFailure answer)
+    × (FailsExactlyByPlace (ageing ∷ []) (given_aged 2 answer) → IsFailure answer → ⊥)
+    × (FailsExactlyByPlace (subscriber ∷ []) (given_aged 1 answer) → IsFailure answer → ⊥)
 
 -- ---- the lines of a session
 
@@ -185,7 +207,7 @@ winning session =
 -- the Challenge of number 1, by its RAND and its AUTN
 abbrev pub challenge : List ℕ → Packet
 challenge key = packet.Aka true 2 method.Aka subtype.Challenge (
-    attr.Rand (rand_of key 0 1) ∷ attr.Autn (autn_of subscriber.secret.k subscriber.secret.opc (rand_of key 0 1) subscriber.amf 1) ∷ []
+    attr.Rand (rand_of key 0 1) ∷ attr.Autn (autn_of subscriber.secret.k subscriber.secret.opc (rand_of key 0 1) subscriber.amf subscriber.bits 1) ∷ []
     )
 
 -- the lines before the Challenge is presented
@@ -198,7 +220,7 @@ presented_first key answer = transcript_of (challenged key ++ presenting 1 answe
 
 -- it is accepted
 abbrev pub accepted_once : List ℕ → List LineRecord
-accepted_once key = challenged key ++ presenting 1 (usim.Accepted (sqn_bytes 1)) 4 ∷ []
+accepted_once key = challenged key ++ presenting 1 (usim.Accepted (sqn_bytes 5 1)) 4 ∷ []
 
 -- and then presented again, with this answer
 abbrev pub presented_again : List ℕ → UsimNote → List PartRecord
@@ -311,7 +333,7 @@ plain_round session = part.Round ((line.Session (opening session) ∷ line.Plain
 abbrev pub plain_lines : List LineRecord
 plain_lines =
     line_of (event.Open (opening 1)) of_opening
-    ∷ (beginning 1 ++ challenging 1 [] ∷ presenting 1 (usim.Accepted (sqn_bytes 1)) 4 ∷ winning 1)
+    ∷ (beginning 1 ++ challenging 1 [] ∷ presenting 1 (usim.Accepted (sqn_bytes 5 1)) 4 ∷ winning 1)
 
 -- whatever network and verdicts there are: the session succeeds, and there is the verdict that its ends agree
 abbrev pub PlainSessionWins : Type 0

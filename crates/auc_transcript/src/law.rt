@@ -11,7 +11,7 @@ ghost use Rattle.auc_transcript.specs.Presented.{EachFailureInSessionsIsByPlace,
 ghost use Rattle.auc_transcript.specs.Rounds.{EachFailureInRoundsIsByPlace, EachSqnInRoundsIsGenuine};
 ghost use Rattle.auc_transcript.specs.SimSessions.{EachSimSessionAgrees};
 ghost use Rattle.auc_transcript.specs.Systems.{EachHonestAuthenticationIsConfirmed};
-ghost use Rattle.auc_transcript.specs.Witnesses.{AcceptanceIsOwn, AuthenticationIsConfirmed, ContextsAreKept, CountersAreNoted, KeysAreEqual, LeaseIsKept, MacIsRight, PlacesDecide, PlacesDecideInSessions, PlainSessionWins, ResumedSessionWins, SimEndsAgree, SimSessionIsNone, SimSessionSucceeds};
+ghost use Rattle.auc_transcript.specs.Witnesses.{AcceptanceIsOwn, AgesDecide, AuthenticationIsConfirmed, ContextsAreKept, CountersAreNoted, KeysAreEqual, LeaseIsKept, MacIsRight, PlacesDecide, PlacesDecideInSessions, PlainSessionWins, ResumedSessionWins, SimEndsAgree, SimSessionIsNone, SimSessionSucceeds};
 
 use auc_5g::each_device_agrees_with_its_home;
 use auc_attr::bytes_have_one_reading_or_one_fault;
@@ -62,14 +62,15 @@ pub fn each_usim_accepts_none_twice()
 {}
 
 /// Between resynchronisations and restarts a released vector gets a synchronisation failure if and only if it,
-/// or one drawn a positive multiple of 32 places later, was accepted before.
+/// or one drawn a positive multiple of 2^b places later, or the age limit or more later, was accepted before. Here b is how
+/// many bits the subscriber's index has, and without an age limit the second case falls away (TS 33.102 Annex C).
 pub fn each_failure_is_by_place()
     ensures { EachFailureIsByPlace }
 {}
 
 /// In a transcript without a restart a released vector gets a synchronisation failure if and only if it, or one
-/// drawn a positive multiple of 32 places later, was accepted before. Periods and places are counted there over the
-/// entries of all rounds, and end at resynchronisations alone.
+/// drawn a positive multiple of 2^b places later, or the age limit or more later, was accepted before. Periods and places are
+/// counted there over the entries of all rounds, and end at resynchronisations alone.
 pub fn each_failure_in_rounds_is_by_place()
     ensures { EachFailureInRoundsIsByPlace }
 {}
@@ -181,8 +182,10 @@ pub fn each_breach_is_told()
 
 /// A session whose ends suit each other, and that has its `plain` line and no other event line, ends in Success at both ends
 /// under the same keys, and its round says that they agree, unless a record of the session tells why not: the centre was asked
-/// for another subscriber, or gave no number, or its number was too far above the SEQ that the USIM reported, or the USIM
-/// reported two synchronisation failures. The ends of EAP-AKA' suit each other if the subscriber's separation bit is set, the
+/// for another subscriber, or gave no number, or its number was too far above the SEQ that the USIM reported, or it refused
+/// AUTS, or the USIM reported two synchronisation failures. It refuses an AUTS of the subscriber's own USIM if the SEQ is above the
+/// subscriber's greatest number: the USIM may have accepted such a SEQ from a subscriber with the same K and OPc and a longer
+/// index. The ends of EAP-AKA' suit each other if the subscriber's separation bit is set, the
 /// network has a name and the peer expects no other one; those of EAP-AKA unless the server bids for EAP-AKA' and the device has
 /// it (RFC 9048 §3.1 and §4). In both the peer's first identity is one of the device's own. The device may keep a pseudonym of an
 /// earlier session, whether or not the server can resolve it.
@@ -242,6 +245,7 @@ pub fn each_sim_session_agrees()
 /// determines.
 pub fn each_promise_has_a_witness()
     ensures places { PlacesDecide }
+    ensures ages { AgesDecide }
     ensures sessions { PlacesDecideInSessions }
     ensures macs { MacIsRight }
     ensures keys { KeysAreEqual }

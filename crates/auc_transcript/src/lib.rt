@@ -6,7 +6,8 @@
 //!
 //! These laws hold for every lawful transcript. No two vectors of a subscriber have the same SQN, and each is above
 //! what was reserved for the subscriber at first. Its USIM accepts no SQN twice. Within a period a vector gets a synchronisation failure if and only if it, or one
-//! drawn a positive multiple of 32 places later, was accepted before (TS 33.102 Annex C; `specs/Headline`).
+//! drawn a positive multiple of 2^b places later, or the age limit or more later, was accepted before; b is how many bits the
+//! subscriber's index has (TS 33.102 Annex C; `specs/Headline`).
 //!
 //! The third law holds of transcripts without a restart also with the entries of all rounds taken together
 //! (`specs/Rounds`). Two laws say that periods and places are positions in a history (`specs/Position`), and

@@ -1,4 +1,5 @@
 -- The laws are lemmas on the witnesses, by the law of written packets.
+use Rattle.auc_transcript.proofs.AgeWitnessLemmas.{ages_decide}
 use Rattle.auc_transcript.proofs.LeaseWitnessLemmas.{lease_is_kept}
 use Rattle.auc_transcript.proofs.OwnWitnessLemmas.{acceptance_is_own}
 use Rattle.auc_transcript.proofs.SimWitnessLemmas.{sim_ends_agree, sim_session_is_none, sim_session_succeeds}
@@ -8,6 +9,9 @@ use Rattle.auc_transcript.proofs.law.each_promise_has_a_witness.Goals as goal
 
 pub returns-clause-places : goal.returns-clause-places
 returns-clause-places c = places_decide
+
+pub returns-clause-ages : goal.returns-clause-ages
+returns-clause-ages c = ages_decide
 
 pub returns-clause-sessions : goal.returns-clause-sessions
 returns-clause-sessions c = places_decide_in_sessions c.written_packets_are_read.ensures
