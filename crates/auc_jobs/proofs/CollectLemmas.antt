@@ -1,5 +1,5 @@
 -- For the loops over what the workers come to.
-use Rattle.std.proofs.Common.{◌≡◌, Bool, true, false, List, [], ◌∷◌, ◌++◌, map, All, flat_map, sym, ap, ◌∙◌, subst, append-nil, append_assoc, refl}
+use Rattle.std.proofs.Common.{◌≡◌, ℕ, Bool, true, false, List, [], ◌∷◌, ◌++◌, map, All, flat_map, sym, ap, ◌∙◌, subst, append-nil, append_assoc, refl}
 use Rattle.std.specs.Prelude.{if◌then◌else◌}
 use Rattle.std.proofs.lemmas.Grind.{flat_map-append}
 use Rattle.std.proofs.lemmas.List.{map-append}
@@ -24,13 +24,13 @@ collected_more all d passes more done now are passed served whole = record {
 }
 
 -- the passes are the book's
-pub passes_own : (id : TableId) (shared : Shared) (all : List WorkerJobs) (passes : List PassValue) → passes ≡ map (λ d. d.pass) all → All (IsDone id shared) all → All (IsOf id) passes
-passes_own id shared all passes is done =
-    subst (λ (ps : List PassValue). All (IsOf id) ps) (sym is) (each all done)
+pub passes_own : (id : TableId) (tops : List ℕ) (shared : Shared) (all : List WorkerJobs) (passes : List PassValue) → passes ≡ map (λ d. d.pass) all → All (IsDone id tops shared) all → All (IsOf id tops) passes
+passes_own id tops shared all passes is done =
+    subst (λ (ps : List PassValue). All (IsOf id tops) ps) (sym is) (each all done)
   where
-    each : (ds : List WorkerJobs) → All (IsDone id shared) ds → All (IsOf id) (map (λ (d : WorkerJobs). d.pass) ds)
-    each [] done = All-nil (IsOf id)
-    each (d ∷ ds) done = All-cons (IsOf id) d.pass (map (λ (x : WorkerJobs). x.pass) ds) (All-head (IsDone id shared) d ds done).own (each ds (All-tail (IsDone id shared) d ds done))
+    each : (ds : List WorkerJobs) → All (IsDone id tops shared) ds → All (IsOf id tops) (map (λ (d : WorkerJobs). d.pass) ds)
+    each [] done = All-nil (IsOf id tops)
+    each (d ∷ ds) done = All-cons (IsOf id tops) d.pass (map (λ (x : WorkerJobs). x.pass) ds) (All-head (IsDone id tops shared) d ds done).own (each ds (All-tail (IsDone id tops shared) d ds done))
 
 -- an item that a loop took, before the items that are left
 pub turned : {X : Type 0} (yielded rest more all : List X) (x : X) → yielded ++ rest ≡ all → rest ≡ x ∷ more → (yielded ++ x ∷ []) ++ more ≡ all

@@ -6,6 +6,7 @@ use Rattle.std.specs.Prelude.{◌==◌, ◌||◌, Option, Some, None, All, is_so
 use Rattle.std.specs.List.{list_any}
 use Rattle.auc_lines.specs.declared.part.Line.{Line}
 use Rattle.auc_lines.specs.Part.{held_subs, holds, is_held_by}
+use Rattle.auc_subs.specs.declared.row.Row.{Row}
 use Rattle.auc_usim.specs.Usim.{Memory}
 use Rattle.auc_cards.proofs.Facts.{helds_known, holds_held}
 use Rattle.auc_jobs.specs.InnerUsims.{AreCopies, has_usim}
@@ -13,15 +14,15 @@ use Rattle.auc_jobs.specs.Serving.{IsKnownLine}
 use Rattle.auc_jobs.proofs.LineLemmas.{some_at}
 
 -- a job whose lines are known holds the USIMs of known subscribers
-pub holds_known : (count sub : ℕ) (job : List Line) → All (IsKnownLine count) job → holds sub job ≡ true → sub < count
-holds_known count sub job known is = any_below (held_subs job) (helds_known count job known) (holds_held sub job ∙ is)
+pub holds_known : (rows : List Row) (sub : ℕ) (job : List Line) → All (IsKnownLine rows) job → holds sub job ≡ true → sub < length rows
+holds_known rows sub job known is = any_below (held_subs job) (helds_known rows job known) (holds_held sub job ∙ is)
   where
-    any_below : (subs : List ℕ) → All (λ s. s < count) subs → list_any (λ s. s == sub) subs ≡ true → sub < count
+    any_below : (subs : List ℕ) → All (λ s. s < length rows) subs → list_any (λ s. s == sub) subs ≡ true → sub < length rows
     any_below [] all any = absurd (cc)
-    any_below (s ∷ subs) all any = by (s == sub) refl any (any_below subs (All-tail (λ s. s < count) s subs all))
+    any_below (s ∷ subs) all any = by (s == sub) refl any (any_below subs (All-tail (λ s. s < length rows) s subs all))
       where
-        by : (b : Bool) → (s == sub) ≡ b → (b || list_any (λ s. s == sub) subs) ≡ true → (list_any (λ s. s == sub) subs ≡ true → sub < count) → sub < count
-        by true e any more = let same = eqb-true s sub e in let here = All-head (λ s. s < count) s subs all in omega (arith, same, here)
+        by : (b : Bool) → (s == sub) ≡ b → (b || list_any (λ s. s == sub) subs) ≡ true → (list_any (λ s. s == sub) subs ≡ true → sub < length rows) → sub < length rows
+        by true e any more = let same = eqb-true s sub e in let here = All-head (λ s. s < length rows) s subs all in omega (arith, same, here)
         by false e any more = more any
 
 -- a copy is the subscriber's USIM
@@ -37,13 +38,13 @@ copies_found usims job own sub usim are there = step (holds sub job) refl
         nothing is = cc
 
 -- there is one for each USIM that the job holds, and no other
-pub copies_keyed : (count : ℕ) (usims : List Memory) (job : List Line) (own : ℕ → Option Memory) (sub : ℕ) → length usims ≡ count → All (IsKnownLine count) job
+pub copies_keyed : (rows : List Row) (usims : List Memory) (job : List Line) (own : ℕ → Option Memory) (sub : ℕ) → length usims ≡ length rows → All (IsKnownLine rows) job
     → AreCopies usims job own → has_usim own sub ≡ holds sub job
-copies_keyed count usims job own sub size known are = step (holds sub job) refl
+copies_keyed rows usims job own sub size known are = step (holds sub job) refl
   where
     step : (b : Bool) → holds sub job ≡ b → has_usim own sub ≡ holds sub job
     step true e =
-        let inside = holds_known count sub job known e in
+        let inside = holds_known rows sub job known e in
         let there = some_at usims sub (omega (arith, inside, size)) in
         let is : own sub ≡ Some there.0 = are sub ∙ rw e there.1 in
         ap (λ (m : Option Memory). is_some m) is ∙ sym e

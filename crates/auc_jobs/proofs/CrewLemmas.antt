@@ -25,6 +25,9 @@ use Rattle.auc_lines.specs.Part.{AreApart}
 use Rattle.auc_reauth.specs.Device.{Keeps}
 use Rattle.auc_server.specs.declared.setting.HomeRow.{HomeRow}
 use Rattle.auc_sqn.specs.Number.{max_seq}
+use Rattle.auc_subs.specs.Subscriber.{top_at, tops_of}
+use Rattle.auc_subs.specs.declared.row.Row.{Row}
+use Rattle.auc_subs.proofs.Facts.{top_at-within}
 use Rattle.auc_world.specs.declared.record.LineRecord.{LineRecord}
 use Rattle.auc_world.specs.Entries.{reports, is_reported}
 use Rattle.auc_world.specs.Given.{JobGives}
@@ -51,7 +54,7 @@ use Rattle.auc_jobs.proofs.LineLemmas.{all_at}
 use Rattle.auc_jobs.proofs.OrderLemmas.{up, places_of, places, Placed, placed, sorted_up, all_front, all_back}
 use Rattle.auc_jobs.proofs.PieceLemmas.{not_given}
 use Rattle.auc_jobs.proofs.StoppingLemmas.{full_holds, withholds_told}
-use Rattle.auc_jobs.proofs.TellingLemmas.{IsOwn, job_own}
+use Rattle.auc_jobs.proofs.TellingLemmas.{IsOwn, job_own, numbers_within}
 use Rattle.auc_jobs.proofs.TurnLemmas.{apart_at}
 
 -- ---- lists
@@ -271,8 +274,8 @@ quiet_from shared early earlier (c ∷ done) apart rising below given quiet =
     (quiet_from shared early (earlier ++ c.served.lines) done apart (AllPairs-tail (λ a b. a.job < b.job) c done rising) (All-tail (λ b. b.job < length shared.jobs) c done below)
     (All-tail (IsGiven shared early) t (turns (earlier ++ c.served.lines) done) given)
     (both (λ b. (c.job < b.job) × (b.job < length shared.jobs)) (λ b. IsQuietAt shared.jobs earlier b.job) (λ b. IsQuietAt shared.jobs (earlier ++ c.served.lines) b.job) done
-    (λ b between before job there sub gives. accepted-append sub earlier c.served.lines ∙ ap (λ (ns : List (List ℕ)). ns ++ accepted sub c.served.lines) (before job there sub gives)
-    ∙ job_quiet shared.set (before_at early earlier []) shared.stores here.asked sub c.served.lines here.net here.given
+    (λ b between before job there bits sub gives. accepted-append bits sub earlier c.served.lines ∙ ap (λ (ns : List (List ℕ)). ns ++ accepted bits sub c.served.lines) (before job there bits sub gives)
+    ∙ job_quiet shared.set (before_at early earlier []) shared.stores here.asked bits sub c.served.lines here.net here.given
     (not_given sub here.asked job (apart_at shared.jobs c.job b.job here.asked job apart between.0 between.1 here.there there) gives))
     (both (λ b. c.job < b.job) (λ b. b.job < length shared.jobs) (λ b. (c.job < b.job) × (b.job < length shared.jobs)) done (λ b low high. (low, high)) (AllPairs-head (λ a b. a.job < b.job) c done rising)
     (All-tail (λ b. b.job < length shared.jobs) c done below))
@@ -434,27 +437,29 @@ workers_limited shared early sub limit stop (d ∷ all) served low high =
     }
 
 -- the lines of a worker's jobs name subscribers
-own_turns : (shared : Shared) (early earlier : List LineRecord) (done : List ClaimedJob) → AreAllKnown (length shared.set.rows) shared.jobs → All (IsGiven shared early) (turns earlier done)
-    → All (λ c. All (IsOwn (length shared.set.rows)) c.served.lines) done
-own_turns shared early earlier [] known given = All-nil (λ c. All (IsOwn (length shared.set.rows)) c.served.lines)
+own_turns : (shared : Shared) (early earlier : List LineRecord) (done : List ClaimedJob) → AreAllKnown shared.set.rows shared.jobs → All (IsGiven shared early) (turns earlier done)
+    → All (λ c. All (IsOwn shared.set.rows) c.served.lines) done
+own_turns shared early earlier [] known given = All-nil (λ c. All (IsOwn shared.set.rows) c.served.lines)
 own_turns shared early earlier (c ∷ done) known given =
     let t : Turn = record { earlier = earlier; claimed = c } in
     let here = All-head (IsGiven shared early) t (turns (earlier ++ c.served.lines) done) given in
-    All-cons (λ c. All (IsOwn (length shared.set.rows)) c.served.lines) c done
-    (job_own shared.set (before_at early earlier []) (start_of shared.set shared.stores here.asked) here.net here.asked c.served.lines (all_at (AreKnown (length shared.set.rows)) shared.jobs c.job here.asked known here.there) here.given)
+    All-cons (λ c. All (IsOwn shared.set.rows) c.served.lines) c done
+    (job_own shared.set (before_at early earlier []) (start_of shared.set shared.stores here.asked) here.net here.asked c.served.lines (all_at (AreKnown shared.set.rows) shared.jobs c.job here.asked known here.there) here.given)
     (own_turns shared early (earlier ++ c.served.lines) done known (All-tail (IsGiven shared early) t (turns (earlier ++ c.served.lines) done) given))
 
--- a book that was closed, by its openings
-pub record IsClosed (openings : List ℕ) (book : BookValue) (keeper : KeeperValue) (lists : List (List Deed)) (closed : ClosedValue) : Type 0 where
+-- a book that was closed, by its openings and greatest numbers
+pub record IsClosed (rows : List Row) (openings : List ℕ) (book : BookValue) (keeper : KeeperValue) (lists : List (List Deed)) (closed : ClosedValue) : Type 0 where
   pub numbers : book.openings ≡ openings
+  pub tops : book.tops ≡ tops_of rows
   pub closes : Closes book lists keeper closed
 
 -- the lists split a history of each subscriber
-closed_splits : (openings : List ℕ) (book : BookValue) (keeper : KeeperValue) (lists : List (List Deed)) (closed : ClosedValue) → IsClosed openings book keeper lists closed → (sub : ℕ) → sub < length openings
-    → Splits max_seq (slice_index openings sub) (slice_index closed.words sub) (map (entries_of sub) lists)
-closed_splits openings book keeper lists closed is sub known =
-    let P : List ℕ → Type 0 = λ os. sub < length os → Splits max_seq (slice_index os sub) (slice_index closed.words sub) (map (entries_of sub) lists) in
-    subst P is.numbers (is.closes.splits sub) known
+closed_splits : (rows : List Row) (openings : List ℕ) (book : BookValue) (keeper : KeeperValue) (lists : List (List Deed)) (closed : ClosedValue) → IsClosed rows openings book keeper lists closed → (sub : ℕ) → sub < length openings
+    → Splits (top_at rows sub) (slice_index openings sub) (slice_index closed.words sub) (map (entries_of sub) lists)
+closed_splits rows openings book keeper lists closed is sub known =
+    let P : List ℕ → Type 0 = λ os. sub < length os → Splits (top_at rows sub) (slice_index os sub) (slice_index closed.words sub) (map (entries_of sub) lists) in
+    let Q : List ℕ → Type 0 = λ ts. sub < length book.openings → Splits (slice_index ts sub) (slice_index book.openings sub) (slice_index closed.words sub) (map (entries_of sub) lists) in
+    subst P is.numbers (subst Q is.tops (is.closes.splits sub)) known
 
 -- what all workers come to, and the book that was closed after them
 pub record Assembles (shared : Shared) (early : List LineRecord) (openings : List ℕ) (book : BookValue) (keeper : KeeperValue) (all : List WorkerJobs) (closed : ClosedValue) (sorted : List ClaimedJob) : Type 0 where
@@ -462,11 +467,11 @@ pub record Assembles (shared : Shared) (early : List LineRecord) (openings : Lis
   pub some : 1 ≤ length all
   pub served : All (λ d. HasServed shared early d.pass d.jobs.items) all
   pub last : All (λ d. IsLast (length shared.jobs) (claims_of d.pass.deeds)) all
-  pub closes : IsClosed openings book keeper (lists_of all) closed
+  pub closes : IsClosed shared.set.rows openings book keeper (lists_of all) closed
   pub same : IsPermutation (all_jobs all) sorted
   pub rising : AllPairs (λ b c. b.job ≤ c.job) sorted
   pub apart : AllPairs AreApart shared.jobs
-  pub known : AreAllKnown (length shared.set.rows) shared.jobs
+  pub known : AreAllKnown shared.set.rows shared.jobs
   pub sized : length openings ≡ length shared.set.rows
 
 module _ (shared : Shared) (early : List LineRecord) (openings : List ℕ) (book : BookValue) (keeper : KeeperValue) (all : List WorkerJobs) (closed : ClosedValue) (sorted : List ClaimedJob) (a : Assembles shared early openings book keeper all closed sorted) where
@@ -536,15 +541,15 @@ module _ (shared : Shared) (early : List LineRecord) (openings : List ℕ) (book
 
   quiet : All (λ t. IsQuietAt shared.jobs t.earlier t.claimed.job) os
   quiet = All-permutation (λ t. IsQuietAt shared.jobs t.earlier t.claimed.job) ts os in_place.same (of_all_turns (λ t. IsQuietAt shared.jobs t.earlier t.claimed.job)
-      (λ d s. quiet_from shared early [] d.jobs.items a.apart s.rising s.below s.given (λ k c within job there sub gives. refl)))
+      (λ d s. quiet_from shared early [] d.jobs.items a.apart s.rising s.below s.given (λ k c within job there bits sub gives. refl)))
 
   lower : (sub word : ℕ) → All (IsFromLower os sub word) os
   lower sub word = all_from (IsFromLower ts sub word) (IsFromLower os sub word) os
       (λ t before said. let u = before said in (u.0, Contains-permutation ts os u.0 in_place.same u.1, u.2, u.3))
       (All-permutation (IsFromLower ts sub word) ts os in_place.same (lower_all shared early ts sub word all a.served (all_has ts)))
 
-  split : (sub : ℕ) → sub < length openings → Splits max_seq (slice_index openings sub) (slice_index closed.words sub) (entries_of_pieces sub (pieces_in os))
-  split sub known = a.recut max_seq (slice_index openings sub) (slice_index closed.words sub) (map (entries_of sub) (lists_of all)) (entries_of_pieces sub (pieces_in os)) (closed_splits openings book keeper (lists_of all) closed a.closes sub known)
+  split : (sub : ℕ) → sub < length openings → Splits (top_at shared.set.rows sub) (slice_index openings sub) (slice_index closed.words sub) (entries_of_pieces sub (pieces_in os))
+  split sub known = a.recut (top_at shared.set.rows sub) (slice_index openings sub) (slice_index closed.words sub) (map (entries_of sub) (lists_of all)) (entries_of_pieces sub (pieces_in os)) (closed_splits shared.set.rows openings book keeper (lists_of all) closed a.closes sub known)
       (subst (λ (es : List Entry). IsPermutation es (all_entries (entries_of_pieces sub (pieces_in os)))) (sym (entries_all shared early sub all a.served))
       (subst (λ (es : List Entry). IsPermutation (flat_map (entries_of_turn sub) ts) es) (entries_in sub os) (in_place.flat (entries_of_turn sub))))
       (orders_in sub os (All-permutation (λ t. IsInOrder (entries_of_turn sub t)) ts os in_place.same (of_all_turns (λ t. IsInOrder (entries_of_turn sub t)) (λ d s. s.ordered sub))))
@@ -552,6 +557,12 @@ module _ (shared : Shared) (early : List LineRecord) (openings : List ℕ) (book
   gave : (nets : List Net) × PiecesGive shared.set early shared.stores shared.jobs (pieces_in os) nets × (map (λ t. t.claimed.served.sessions) os ≡ map job_sessions nets)
       × (map (λ t. left_on t.claimed.served.devices) os ≡ map left_in nets)
   gave = pieces_give shared early shared.jobs os 0 in_place.keyed jobs_first given quiet
+
+  -- its lines name its subscribers
+  own : All (IsOwn shared.set.rows) (all_lines (map (λ c. c.served.lines) sorted))
+  own = flat_lines (IsOwn shared.set.rows) sorted
+      (All-permutation (λ c. All (IsOwn shared.set.rows) c.served.lines) (all_jobs all) sorted a.same
+      (of_all_jobs (λ c. All (IsOwn shared.set.rows) c.served.lines) (λ d s. own_turns shared early [] d.jobs.items a.known s.given)))
 
   pub assembled : AreServed shared.set early shared.stores openings shared.jobs (map (λ c. c.served.lines) sorted) (map (λ c. c.served.devices) sorted) (map (λ c. c.served.sessions) sorted) closed.words
   assembled = record {
@@ -568,17 +579,12 @@ module _ (shared : Shared) (early : List LineRecord) (openings : List ℕ) (book
     settled = settled_all shared early shared.jobs sorted 0 sorted_places jobs_first
         (All-permutation (IsSettledAt shared early) (all_jobs all) sorted a.same (of_all_jobs (IsSettledAt shared early) (λ d s. s.settled)));
     size = a.closes.closes.many ∙ ap (λ (ns : List ℕ). length ns) a.closes.numbers;
+    numbers = λ sub. numbers_within shared.set.rows sub (all_lines (map (λ c. c.served.lines) sorted)) own;
   }
     where
       lefts : (done : List ClaimedJob) → map left_on (map (λ c. c.served.devices) done) ≡ map (λ c. left_on c.served.devices) done
       lefts [] = refl
       lefts (c ∷ done) = ap (λ (ls : List (List HomeRow × List Keeps)). left_on c.served.devices ∷ ls) (lefts done)
-
-  -- its lines name its subscribers
-  own : All (IsOwn (length shared.set.rows)) (all_lines (map (λ c. c.served.lines) sorted))
-  own = flat_lines (IsOwn (length shared.set.rows)) sorted
-      (All-permutation (λ c. All (IsOwn (length shared.set.rows)) c.served.lines) (all_jobs all) sorted a.same
-      (of_all_jobs (λ c. All (IsOwn (length shared.set.rows)) c.served.lines) (λ d s. own_turns shared early [] d.jobs.items a.known s.given)))
 
   in_book : (sub : ℕ) → sub < length shared.set.rows → sub < length book.openings
   in_book sub known = let numbers = ap (λ (ns : List ℕ). length ns) a.closes.numbers in let sized = a.sized in omega (arith, known, numbers, sized)
@@ -602,9 +608,9 @@ module _ (shared : Shared) (early : List LineRecord) (openings : List ℕ) (book
       within = λ sub known. a.closes.closes.within sub (in_book sub known);
     };
     withholds = withholds_told keeper.stop (map (λ c. c.served.lines) sorted)
-        (withholds_by keeper.stop (length shared.set.rows) (all_lines (map (λ c. c.served.lines) sorted)) (slice_index keeper.limits) own limited);
+        (withholds_by keeper.stop shared.set.rows (all_lines (map (λ c. c.served.lines) sorted)) (slice_index keeper.limits) own limited);
     above = λ sub known. above_limit sub (slice_index keeper.limits sub) keeper.stop (all_lines (map (λ c. c.served.lines) sorted)) (limited sub known);
-    full = full_holds keeper.stop (length shared.set.rows) (map (λ c. c.served.lines) sorted) (slice_index keeper.limits) own limited;
+    full = full_holds keeper.stop shared.set.rows (map (λ c. c.served.lines) sorted) (slice_index keeper.limits) own limited;
   }
 
   -- the printed vectors of the sorted jobs
@@ -619,26 +625,26 @@ HasFinishedAt shared early d = HasServed shared early d.pass d.jobs.items × IsL
 pub record Closing (id : TableId) (shared : Shared) (openings : List ℕ) (book : BookValue) (keeper : KeeperValue) (all : List WorkerJobs) (passes : List PassValue) (closed : ClosedValue) (done sorted : List ClaimedJob) : Type 0 where
   pub recut : RecutSplitIsASplit
   pub some : 1 ≤ length all
-  pub finished : All (IsDone id shared) all
+  pub finished : All (IsDone id book.tops shared) all
   pub collected : AreCollected all passes done
-  pub closes : IsClosed openings book keeper (map (λ p. p.deeds) passes) closed
+  pub closes : IsClosed shared.set.rows openings book keeper (map (λ p. p.deeds) passes) closed
   pub same : IsPermutation done sorted
   pub rising : AllPairs (λ b c. b.job ≤ c.job) sorted
   pub apart : AllPairs AreApart shared.jobs
-  pub known : AreAllKnown (length shared.set.rows) shared.jobs
+  pub known : AreAllKnown shared.set.rows shared.jobs
   pub sized : length openings ≡ length shared.set.rows
 
 assembles : (id : TableId) (shared : Shared) (openings : List ℕ) (book : BookValue) (keeper : KeeperValue) (all : List WorkerJobs) (passes : List PassValue) (closed : ClosedValue) (done sorted : List ClaimedJob)
     → Closing id shared openings book keeper all passes closed done sorted → (early : List LineRecord) → Begins shared early → Assembles shared early openings book keeper all closed sorted
 assembles id shared openings book keeper all passes closed done sorted c early begins =
-    let finish : All (HasFinishedAt shared early) all = both (IsDone id shared) (λ d. d.is_whole ≡ true) (HasFinishedAt shared early) all
+    let finish : All (HasFinishedAt shared early) all = both (IsDone id book.tops shared) (λ d. d.is_whole ≡ true) (HasFinishedAt shared early) all
     (λ d is whole. ((is.whole whole).served early begins, (is.whole whole).last)) c.finished c.collected.whole in
     record {
       recut = c.recut;
       some = c.some;
       served = all_from (HasFinishedAt shared early) (λ d. HasServed shared early d.pass d.jobs.items) all (λ d f. f.0) finish;
       last = all_from (HasFinishedAt shared early) (λ d. IsLast (length shared.jobs) (claims_of d.pass.deeds)) all (λ d f. f.1) finish;
-      closes = subst (λ (ls : List (List Deed)). IsClosed openings book keeper ls closed) (lists_are all passes c.collected.passed) c.closes;
+      closes = subst (λ (ls : List (List Deed)). IsClosed shared.set.rows openings book keeper ls closed) (lists_are all passes c.collected.passed) c.closes;
       same = subst (λ (cs : List ClaimedJob). IsPermutation cs sorted) c.collected.served c.same;
       rising = c.rising;
       apart = c.apart;
@@ -699,10 +705,14 @@ bounded_words [] bound each = All-nil (λ word. word ≤ bound)
 bounded_words (word ∷ words) bound each =
     All-cons (λ x. x ≤ bound) word words (each 0 (omega arith)) (bounded_words words bound (λ sub known. each (suc sub) (omega (arith, known))))
 
-pub closed_within : (book : BookValue) (lists : List (List Deed)) (keeper : KeeperValue) (closed : ClosedValue) (words : List ℕ) → Closes book lists keeper closed → words ≡ closed.words → All (λ word. word ≤ max_seq + 64) words
-closed_within book lists keeper closed words closes is =
+pub closed_within : (rows : List Row) (book : BookValue) (lists : List (List Deed)) (keeper : KeeperValue) (closed : ClosedValue) (words : List ℕ) → book.tops ≡ tops_of rows → Closes book lists keeper closed → words ≡ closed.words
+    → All (λ word. word ≤ max_seq + 64) words
+closed_within rows book lists keeper closed words tops closes is =
     subst (λ (ws : List ℕ). All (λ word. word ≤ max_seq + 64) ws) (sym is)
-    (bounded_words closed.words (max_seq + 64) (λ sub known. closes.bounded sub (omega (arith, known, closes.many))))
+    (bounded_words closed.words (max_seq + 64) (λ sub known.
+    let low = top_at-within rows sub in
+    let near = subst (λ (ts : List ℕ). slice_index closed.words sub ≤ slice_index ts sub + 64) tops (closes.bounded sub (omega (arith, known, closes.many))) in
+    omega (arith, low, near)))
 
 -- a closed book, by the words that were read of it and the lists of its passes
 pub closes_at : (book : BookValue) (lists : List (List Deed)) (keeper : KeeperValue) (closed : ClosedValue) (words : List ℕ) → Closes book lists keeper closed → words ≡ closed.words

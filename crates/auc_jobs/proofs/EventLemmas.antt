@@ -21,7 +21,8 @@ use Rattle.auc_server.specs.Table.{packets_after}
 use Rattle.auc_server.specs.declared.options.ServerOptions.{ServerOptions}
 use Rattle.auc_server.specs.declared.rows.Row.{Row}
 use Rattle.auc_server.specs.declared.rows.Row.TheVariants as row
-use Rattle.auc_sqn.specs.Number.{max_seq}
+use Rattle.auc_subs.specs.Subscriber.{top_at}
+use Rattle.auc_subs.specs.declared.row.Row.{Row as SubscriberRow}
 use Rattle.auc_vector.specs.Centre.{IsWordKept, unless_spent}
 use Rattle.auc_vector.specs.Notes.{Asked, AskedOf, Asking, AnswersNumber, AnswersReport, entries_noted, entries_resynced, kept_noted}
 use Rattle.auc_vector.specs.declared.notes.Notes.{Notes}
@@ -208,70 +209,75 @@ usim_told told (Err why) sub e tells = absurd (none sub e)
 
 -- ---- the centre's answers
 
-number_answers : (kept : Option ℕ) (o : Option NumberNote) → is_some o ≡ true → AnswersNumber max_seq kept o → IsNumberAnswer o
-number_answers kept None e is = absurd (cc)
-number_answers kept (Some (number.Drew n)) e is = (is.1, is.2)
-number_answers kept (Some (number.Exhausted word)) e is = is.0
-number_answers kept (Some (number.Withheld n stop)) e is = (is.1, is.2)
+number_answers : (set : Setting) (sub : ℕ) (kept : Option ℕ) (o : Option NumberNote) → is_some o ≡ true → AnswersNumber (top_at set.rows sub) kept o → IsNumberAnswer set sub o
+number_answers set sub kept None e is = absurd (cc)
+number_answers set sub kept (Some (number.Drew n)) e is = (is.1, is.2)
+number_answers set sub kept (Some (number.Exhausted word)) e is = is.0
+number_answers set sub kept (Some (number.Withheld n stop)) e is = (is.1, is.2)
 
 no_number : (o : Option NumberNote) → is_some o ≡ false → o ≡ None
 no_number None e = refl
 no_number (Some note) e = absurd (cc)
 
-resync_answers : (kept : Option ℕ) (seq : ℕ) (r o : Option ResyncNote) (n : Option NumberNote) → o ≡ r → AnswersReport kept (Some seq) r → AnswersNumber max_seq kept n
-    → is_some n ≡ challenges_again r → (seen : ℕ) × (o ≡ Some (resync_note (resynchronise_of seen seq))) × NumberFollows (resynchronise_of seen seq) n
-resync_answers kept seq None o n same is number needs = absurd is
-resync_answers kept seq (Some resync.BadAuts) o n same is number needs = absurd is
-resync_answers kept seq (Some (resync.Moved seen to)) o n same is number needs = (
+resync_answers : (set : Setting) (sub : ℕ) (kept : Option ℕ) (seq : ℕ) (r o : Option ResyncNote) (n : Option NumberNote) → o ≡ r → AnswersReport kept (Some seq) r → AnswersNumber (top_at set.rows sub) kept n
+    → is_some n ≡ challenges_again r → (seen : ℕ) × (o ≡ Some (resync_note (resynchronise_of seen seq))) × NumberFollows set sub (resynchronise_of seen seq) n
+resync_answers set sub kept seq None o n same is number needs = absurd is
+resync_answers set sub kept seq (Some resync.BadAuts) o n same is number needs = absurd is
+resync_answers set sub kept seq (Some (resync.Moved seen to)) o n same is number needs = (
   seen,
   same ∙ ap (λ (x : Resynchronisation). Some (resync_note x)) (sym is.1),
-  subst (λ (x : Resynchronisation). NumberFollows x n) (sym is.1) (number_answers kept n needs number),
+  subst (λ (x : Resynchronisation). NumberFollows set sub x n) (sym is.1) (number_answers set sub kept n needs number),
 )
-resync_answers kept seq (Some (resync.InRange seen to)) o n same is number needs = (
+resync_answers set sub kept seq (Some (resync.InRange seen to)) o n same is number needs = (
   seen,
   same ∙ ap (λ (x : Resynchronisation). Some (resync_note x)) (sym is.1),
-  subst (λ (x : Resynchronisation). NumberFollows x n) (sym is.1) (number_answers kept n needs number),
+  subst (λ (x : Resynchronisation). NumberFollows set sub x n) (sym is.1) (number_answers set sub kept n needs number),
 )
-resync_answers kept seq (Some (resync.Beyond seen to)) o n same is number needs = (
+resync_answers set sub kept seq (Some (resync.Beyond seen to)) o n same is number needs = (
   seen,
   same ∙ ap (λ (x : Resynchronisation). Some (resync_note x)) (sym is.1),
-  subst (λ (x : Resynchronisation). NumberFollows x n) (sym is.1) (no_number n needs),
+  subst (λ (x : Resynchronisation). NumberFollows set sub x n) (sym is.1) (no_number n needs),
 )
 
-pub centre_answers : (r : Row) (request : Asking) (kept : Option ℕ) (notes : Notes) → asking r ≡ Some request → AsksAsNeeded r notes
-    → AnswersReport kept request.reported notes.resync → AnswersNumber max_seq kept notes.number → CentreAnswers request.reported notes
-centre_answers (row.Challenge sub) request kept notes e needs report number =
-    subst (λ (a : Asking). CentreAnswers a.reported notes) (one (record { sub = sub; reported = None }) request e) (number_answers kept notes.number needs number)
+pub centre_answers : (set : Setting) (r : Row) (request : Asking) (kept : Option ℕ) (notes : Notes) → asking r ≡ Some request → AsksAsNeeded r notes
+    → AnswersReport kept request.reported notes.resync → AnswersNumber (top_at set.rows request.sub) kept notes.number → CentreAnswers set request.sub request.reported notes
+centre_answers set (row.Challenge sub) request kept notes e needs report number =
+    let same = one (record { sub = sub; reported = None }) request e in
+    subst (λ (a : Asking). CentreAnswers set a.sub a.reported notes) same
+    (number_answers set sub kept notes.number needs (subst (λ (a : Asking). AnswersNumber (top_at set.rows a.sub) kept notes.number) (sym same) number))
   where
     one : (a b : Asking) → Some a ≡ Some b → a ≡ b
     one a b e = cc
-centre_answers (row.Resynchronise sub seq) request kept notes e needs report number =
+centre_answers set (row.Resynchronise sub seq) request kept notes e needs report number =
     let same = one (record { sub = sub; reported = Some seq }) request e in
-    subst (λ (a : Asking). CentreAnswers a.reported notes) same
-    (resync_answers kept seq notes.resync notes.resync notes.number refl (subst (λ (a : Asking). AnswersReport kept a.reported notes.resync) (sym same) report) number needs)
+    subst (λ (a : Asking). CentreAnswers set a.sub a.reported notes) same
+    (resync_answers set sub kept seq notes.resync notes.resync notes.number refl (subst (λ (a : Asking). AnswersReport kept a.reported notes.resync) (sym same) report)
+    (subst (λ (a : Asking). AnswersNumber (top_at set.rows a.sub) kept notes.number) (sym same) number) needs)
   where
     one : (a b : Asking) → Some a ≡ Some b → a ≡ b
     one a b e = cc
-centre_answers (row.TooSmall sub) request kept notes e needs report number =
-    subst (λ (a : Asking). CentreAnswers a.reported notes) (one (record { sub = sub; reported = None }) request e) (number_answers kept notes.number needs number)
+centre_answers set (row.TooSmall sub) request kept notes e needs report number =
+    let same = one (record { sub = sub; reported = None }) request e in
+    subst (λ (a : Asking). CentreAnswers set a.sub a.reported notes) same
+    (number_answers set sub kept notes.number needs (subst (λ (a : Asking). AnswersNumber (top_at set.rows a.sub) kept notes.number) (sym same) number))
   where
     one : (a b : Asking) → Some a ≡ Some b → a ≡ b
     one a b e = cc
-centre_answers (row.Resume sub) request kept notes e needs report number = absurd (no_request request e)
-centre_answers row.WrongCounter request kept notes e needs report number = absurd (no_request request e)
-centre_answers row.Reauthenticated request kept notes e needs report number = absurd (no_request request e)
-centre_answers (row.Ignore cause) request kept notes e needs report number = absurd (no_request request e)
-centre_answers (row.Ask kind) request kept notes e needs report number = absurd (no_request request e)
-centre_answers row.UnknownIdentity request kept notes e needs report number = absurd (no_request request e)
-centre_answers row.WrongMac request kept notes e needs report number = absurd (no_request request e)
-centre_answers row.WrongRes request kept notes e needs report number = absurd (no_request request e)
-centre_answers row.WrongCheckcode request kept notes e needs report number = absurd (no_request request e)
-centre_answers row.Success request kept notes e needs report number = absurd (no_request request e)
-centre_answers row.SecondSync request kept notes e needs report number = absurd (no_request request e)
-centre_answers row.BadAuts request kept notes e needs report number = absurd (no_request request e)
-centre_answers row.Rejected request kept notes e needs report number = absurd (no_request request e)
-centre_answers (row.ClientError code) request kept notes e needs report number = absurd (no_request request e)
-centre_answers (row.Notified cause) request kept notes e needs report number = absurd (no_request request e)
+centre_answers set (row.Resume sub) request kept notes e needs report number = absurd (no_request request e)
+centre_answers set row.WrongCounter request kept notes e needs report number = absurd (no_request request e)
+centre_answers set row.Reauthenticated request kept notes e needs report number = absurd (no_request request e)
+centre_answers set (row.Ignore cause) request kept notes e needs report number = absurd (no_request request e)
+centre_answers set (row.Ask kind) request kept notes e needs report number = absurd (no_request request e)
+centre_answers set row.UnknownIdentity request kept notes e needs report number = absurd (no_request request e)
+centre_answers set row.WrongMac request kept notes e needs report number = absurd (no_request request e)
+centre_answers set row.WrongRes request kept notes e needs report number = absurd (no_request request e)
+centre_answers set row.WrongCheckcode request kept notes e needs report number = absurd (no_request request e)
+centre_answers set row.Success request kept notes e needs report number = absurd (no_request request e)
+centre_answers set row.SecondSync request kept notes e needs report number = absurd (no_request request e)
+centre_answers set row.BadAuts request kept notes e needs report number = absurd (no_request request e)
+centre_answers set row.Rejected request kept notes e needs report number = absurd (no_request request e)
+centre_answers set (row.ClientError code) request kept notes e needs report number = absurd (no_request request e)
+centre_answers set (row.Notified cause) request kept notes e needs report number = absurd (no_request request e)
 
 -- ---- what its line says of the centre
 
@@ -376,49 +382,50 @@ module _ {S : Type 0} (goes : S → ℕ → List Entry → List (ℕ × Stop) �
 
 -- ---- the number that a line names
 
--- a number that was released is one that a vector may have
-abbrev pub IsOwnNumber : Option NumberNote → Type 0
-IsOwnNumber None = Unit {0}
-IsOwnNumber (Some (number.Drew n)) = (1 ≤ n) × (n ≤ max_seq)
-IsOwnNumber (Some (number.Exhausted word)) = Unit {0}
-IsOwnNumber (Some (number.Withheld n stop)) = Unit {0}
+-- a number that was released is one that a vector of a subscriber may have
+abbrev pub IsOwnNumber : ℕ → Option NumberNote → Type 0
+IsOwnNumber top None = Unit {0}
+IsOwnNumber top (Some (number.Drew n)) = (1 ≤ n) × (n ≤ top)
+IsOwnNumber top (Some (number.Exhausted word)) = Unit {0}
+IsOwnNumber top (Some (number.Withheld n stop)) = Unit {0}
 
--- it is of one of so many subscribers, if the centre was asked; otherwise there is none
-abbrev pub IsOwnEvent : ℕ → Option ℕ → Option NumberNote → Type 0
-IsOwnEvent count None note = note ≡ None
-IsOwnEvent count (Some sub) note = (sub < count) × IsOwnNumber note
+-- it is of the subscriber of a row, if the centre was asked; otherwise there is none
+abbrev pub IsOwnEvent : List SubscriberRow → Option ℕ → Option NumberNote → Type 0
+IsOwnEvent rows None note = note ≡ None
+IsOwnEvent rows (Some sub) note = (sub < length rows) × IsOwnNumber (top_at rows sub) note
 
-own_number : (o : Option NumberNote) → IsNumberAnswer o → IsOwnNumber o
-own_number None is = tt
-own_number (Some (number.Drew n)) is = is
-own_number (Some (number.Exhausted word)) is = tt
-own_number (Some (number.Withheld n stop)) is = tt
+module _ (set : Setting) (sub : ℕ) where
+  own_number : (o : Option NumberNote) → IsNumberAnswer set sub o → IsOwnNumber (top_at set.rows sub) o
+  own_number None is = tt
+  own_number (Some (number.Drew n)) is = is
+  own_number (Some (number.Exhausted word)) is = tt
+  own_number (Some (number.Withheld n stop)) is = tt
 
-own_follows : (x : Resynchronisation) (o : Option NumberNote) → NumberFollows x o → IsOwnNumber o
-own_follows (found.Moved seen to) o follows = own_number o follows
-own_follows (found.InRange seen to) o follows = own_number o follows
-own_follows (found.Beyond seen to) o follows = subst IsOwnNumber (sym follows) tt
+  own_follows : (x : Resynchronisation) (o : Option NumberNote) → NumberFollows set sub x o → IsOwnNumber (top_at set.rows sub) o
+  own_follows (found.Moved seen to) o follows = own_number o follows
+  own_follows (found.InRange seen to) o follows = own_number o follows
+  own_follows (found.Beyond seen to) o follows = subst (IsOwnNumber (top_at set.rows sub)) (sym follows) tt
 
-own_answer : (reported : Option ℕ) (notes : Notes) → CentreAnswers reported notes → IsOwnNumber notes.number
-own_answer None notes answers = own_number notes.number answers
-own_answer (Some seq) notes answers = own_follows (resynchronise_of answers.0 seq) notes.number answers.2
+  own_answer : (reported : Option ℕ) (notes : Notes) → CentreAnswers set sub reported notes → IsOwnNumber (top_at set.rows sub) notes.number
+  own_answer None notes answers = own_number notes.number answers
+  own_answer (Some seq) notes answers = own_follows (resynchronise_of answers.0 seq) notes.number answers.2
 
 pub event_own : (set : Setting) (before : Before) (net next : Net) (e : Event) (lines : List LineRecord) (g : EventGives set before net e lines next)
-    → IsOwnEvent (length set.rows) (asked_in (came set net e g.told)) (number_in (came set net e g.told))
+    → IsOwnEvent set.rows (asked_in (came set net e g.told)) (number_in (came set net e g.told))
 event_own set before net next e lines g = by (asking_of set net e g.told) refl
   where
-    by : (o : Option Asking) → asking_of set net e g.told ≡ o → IsOwnEvent (length set.rows) (asked_in (came set net e g.told)) (number_in (came set net e g.told))
+    by : (o : Option Asking) → asking_of set net e g.told ≡ o → IsOwnEvent set.rows (asked_in (came set net e g.told)) (number_in (came set net e g.told))
     by None is =
-        subst (λ (o : Option ℕ). IsOwnEvent (length set.rows) o (number_in (came set net e g.told))) (sym ((agrees set net e g.told).asks ∙ ap asked_sub is)) ((agrees set net e g.told).silent is)
+        subst (λ (o : Option ℕ). IsOwnEvent set.rows o (number_in (came set net e g.told))) (sym ((agrees set net e g.told).asks ∙ ap asked_sub is)) ((agrees set net e g.told).silent is)
     by (Some request) is =
         let asks : asked_in (came set net e g.told) ≡ Some request.sub = (agrees set net e g.told).asks ∙ ap asked_sub is in
         let asked : IsCentreAsked set (Some request) g.told.notes = subst (λ (o : Option Asking). IsCentreAsked set o g.told.notes) is g.centre in
-        subst (λ (o : Option ℕ). IsOwnEvent (length set.rows) o (number_in (came set net e g.told))) (sym asks)
-        (subst (λ (o : Option NumberNote). (request.sub < length set.rows) × IsOwnNumber o) (sym (numbers_told g.told (came set net e g.told) request.sub asks g.notes).0)
-        (asked.known, own_answer request.reported g.told.notes asked.answers))
+        subst (λ (o : Option ℕ). IsOwnEvent set.rows o (number_in (came set net e g.told))) (sym asks)
+        (subst (λ (o : Option NumberNote). (request.sub < length set.rows) × IsOwnNumber (top_at set.rows request.sub) o) (sym (numbers_told g.told (came set net e g.told) request.sub asks g.notes).0)
+        (asked.known, own_answer set request.sub request.reported g.told.notes asked.answers))
 
 -- what holds of each event's line holds of all lines of events
-module _ (set : Setting) (P : LineRecord → Type 0) (each : (e : Event) (c : Came) → IsOwnEvent (length set.rows) (asked_in c) (number_in c) → P (Happening (record { event = e; result = c }))) where
+module _ (set : Setting) (P : LineRecord → Type 0) (each : (e : Event) (c : Came) → IsOwnEvent set.rows (asked_in c) (number_in c) → P (Happening (record { event = e; result = c }))) where
   pub event_lines : (before : Before) (net next : Net) (e : Event) (lines : List LineRecord) → EventGives set before net e lines next → All P lines
   event_lines before net next e lines g =
       subst (All P) (sym g.lines_are) (All-cons P (Happening (record { event = e; result = came set net e g.told })) [] (each e (came set net e g.told) (event_own set before net next e lines g)) (All-nil P))

@@ -23,10 +23,10 @@ use Rattle.auc_peer.specs.declared.why.PeerWhy.{PeerWhy}
 use Rattle.auc_peer.specs.declared.why.PeerWhy.TheVariants as why
 use Rattle.auc_reauth.specs.Device.{Keeps}
 use Rattle.auc_sqn.specs.Number.{ind_of, seq_of}
-use Rattle.auc_sqn.specs.Past.{Past, Remembers, opening_past}
+use Rattle.auc_sqn.specs.Past.{ArrayValue, Past, Remembers, opening_past}
 use Rattle.auc_subs.specs.Subscriber.{AreSubscribers}
 use Rattle.auc_subs.specs.declared.row.Row.{Row}
-use Rattle.auc_usim.specs.Usim.{Memory, past_after_answer}
+use Rattle.auc_usim.specs.Usim.{IsAnswer, Memory, past_after_answer}
 use Rattle.auc_usim.specs.declared.answer.Answer.{Answer}
 use Rattle.auc_usim.specs.declared.answer.Answer.TheVariants as answer
 use Rattle.auc_vector.specs.declared.notes.UsimNote.{UsimNote}
@@ -35,7 +35,7 @@ use Rattle.auc_vector.specs.declared.turn.Turn.{Turn}
 use Rattle.auc_world.proofs.Facts.{accepted-append}
 use Rattle.auc_world.specs.Came.{Came, Presented}
 use Rattle.auc_world.specs.Event.{device_in, sqn_accepted, usim_in}
-use Rattle.auc_world.specs.Given.{AsksUsim, Before, UsimNotes, past_before, past_of}
+use Rattle.auc_world.specs.Given.{AsksUsim, Before, UsimNotes, past_before, past_by, past_of}
 use Rattle.auc_world.specs.Happened.{Told, peer_turn}
 use Rattle.auc_world.specs.Lines.{accepted, accepted_by}
 use Rattle.auc_world.specs.Net.{device_place, keeps_at}
@@ -44,7 +44,8 @@ use Rattle.auc_world.specs.World.{IsHanded, WorldState, memory_of, usim_at, usim
 use Rattle.auc_world.specs.declared.event.EventRecord.{EventRecord}
 use Rattle.auc_world.specs.declared.record.LineRecord.{LineRecord}
 use Rattle.auc_world.specs.declared.record.LineRecord.TheVariants.{Event as Happening}
-use Rattle.auc_jobs.specs.Usims.{AreBehind}
+use Rattle.auc_cards.specs.Usims.{IsOfRow}
+use Rattle.auc_jobs.specs.Usims.{AreBehind, HaveSecrets}
 use Rattle.auc_jobs.proofs.PlaceLemmas.{one_place, placed_row}
 use Rattle.auc_jobs.proofs.UsimLemmas.{Changes, changed_cases}
 
@@ -102,10 +103,10 @@ told_note set told keeps p c n is handed row_is turn =
     (challenged_row (peer_row p.delivery.session.peer told.seen) c (sym row_is ∙ handed))
 
 -- the past after an answer, by its note
-past_noted : (opening : ℕ) (sqns : List (List ℕ)) (a : Answer) → past_of opening (sqns ++ sqn_accepted (Some (note_of a))) ≡ past_after_answer (past_of opening sqns) a
-past_noted opening sqns answer.WrongMac = ap (past_of opening) (append-nil sqns)
-past_noted opening sqns (answer.SyncFailure auts sqn) = ap (past_of opening) (append-nil sqns)
-past_noted opening sqns (answer.Accepted res ck ik ak amf sqn) = fold_push (λ (past : Past) (s : List ℕ). (seq_of s, ind_of s) ∷ past) (opening_past opening) sqns sqn
+past_noted : (bits opening : ℕ) (sqns : List (List ℕ)) (a : Answer) → past_of bits opening (sqns ++ sqn_accepted (Some (note_of a))) ≡ past_after_answer bits (past_of bits opening sqns) a
+past_noted bits opening sqns answer.WrongMac = ap (past_of bits opening) (append-nil sqns)
+past_noted bits opening sqns (answer.SyncFailure auts sqn) = ap (past_of bits opening) (append-nil sqns)
+past_noted bits opening sqns (answer.Accepted res ck ik ak amf sqn) = fold_push (λ (past : Past) (s : List ℕ). (seq_of bits s, ind_of bits s) ∷ past) (opening_past bits opening) sqns sqn
 
 -- ---- the USIMs
 
@@ -115,6 +116,7 @@ pub record Hands (rows : List Row) (w new : WorldState) (told : Told) (c : Came)
   pub at : device_place rows w.net.devices p.delivery.session.sub ≡ Some p.delivery.session.device
   pub same : new.net.devices ≡ w.net.devices
   pub subscribers : AreSubscribers rows
+  pub secrets : HaveSecrets rows (usim_of rows w)
   pub handed : IsHanded p told w.devices new.devices
   pub reaches : device_in c ≡ Some p.delivery.session.sub
   pub usim : usim_in c ≡ told.notes.usim
@@ -137,61 +139,74 @@ module _ (rows : List Row) (w new : WorldState) (told : Told) (c : Came) (p : Pr
     here = ap (λ (ds : List Subscription). usim_at new.devices (device_place rows ds p.delivery.session.sub)) h.same ∙ ap (usim_at new.devices) h.at ∙ ap memory_of h.handed.here;
     others = λ i other. ap (λ (ds : List Subscription). usim_at new.devices (device_place rows ds i)) h.same ∙ elsewhere i other (device_place rows w.net.devices i) refl;
     secret = h.handed.secret;
+    bits = h.handed.bits;
+    age = h.handed.age;
   }
 
+  -- it is its row's
+  before_row : (row : Row) → slice_get rows p.delivery.session.sub ≡ Some row → IsOfRow row h.handed.before.usim
+  before_row row at = h.secrets p.delivery.session.sub row h.handed.before.usim at hands_changes.there
+
   -- what it remembers of its answers
-  remembers : (challenge : Option Challenge) (n : Option UsimNote) (row : Row) (lines : List LineRecord) → p.challenge ≡ challenge → told.notes.usim ≡ n
+  remembers : (challenge : Option Challenge) (n : Option UsimNote) (row : Row) (lines : List LineRecord) → IsOfRow row h.handed.before.usim → p.challenge ≡ challenge → told.notes.usim ≡ n
       → AsksDevice p.device challenge n h.handed.before.usim.array h.handed.after.usim.array
-      → Remembers h.handed.before.usim.array (past_of row.usim (accepted p.delivery.session.sub lines))
-      → Remembers h.handed.after.usim.array (past_of row.usim (accepted p.delivery.session.sub lines ++ sqn_accepted told.notes.usim))
-  remembers None n row lines handed is asks past =
-      subst (λ (array : List ℕ). Remembers array (past_of row.usim (accepted p.delivery.session.sub lines ++ sqn_accepted told.notes.usim))) (sym asks.1)
-      (subst (λ (sqns : List (List ℕ)). Remembers h.handed.before.usim.array (past_of row.usim sqns))
-      (sym (ap (λ (o : Option UsimNote). accepted p.delivery.session.sub lines ++ sqn_accepted o) (is ∙ asks.0) ∙ append-nil (accepted p.delivery.session.sub lines))) past)
-  remembers (Some challenge) None row lines handed is asks past = absurd asks
-  remembers (Some challenge) (Some n) row lines handed is asks past =
+      → Remembers h.handed.before.usim.array (past_by row p.delivery.session.sub lines)
+      → Remembers h.handed.after.usim.array (past_of row.bits row.usim (accepted row.bits p.delivery.session.sub lines ++ sqn_accepted told.notes.usim))
+  remembers None n row lines of handed is asks past =
+      subst (λ (array : ArrayValue). Remembers array (past_of row.bits row.usim (accepted row.bits p.delivery.session.sub lines ++ sqn_accepted told.notes.usim))) (sym asks.1)
+      (subst (λ (sqns : List (List ℕ)). Remembers h.handed.before.usim.array (past_of row.bits row.usim sqns))
+      (sym (ap (λ (o : Option UsimNote). accepted row.bits p.delivery.session.sub lines ++ sqn_accepted o) (is ∙ asks.0) ∙ append-nil (accepted row.bits p.delivery.session.sub lines))) past)
+  remembers (Some challenge) None row lines of handed is asks past = absurd asks
+  remembers (Some challenge) (Some n) row lines of handed is asks past =
+      let a : Answer = answer_noted p.device.secret challenge n in
       subst (λ (x : Past). Remembers h.handed.after.usim.array x)
-      (sym (ap (λ (o : Option UsimNote). past_of row.usim (accepted p.delivery.session.sub lines ++ sqn_accepted o)) (told_note h.set told (keeps_at w.net p.delivery.session.device) p challenge n is handed h.hands h.turn)
-      ∙ past_noted row.usim (accepted p.delivery.session.sub lines) (answer_noted p.device.secret challenge n)))
-      (asks (past_of row.usim (accepted p.delivery.session.sub lines)) past).1
+      (ap (λ (b : ℕ). past_after_answer b (past_by row p.delivery.session.sub lines) a) of.bits
+      ∙ sym (ap (λ (o : Option UsimNote). past_of row.bits row.usim (accepted row.bits p.delivery.session.sub lines ++ sqn_accepted o)) (told_note h.set told (keeps_at w.net p.delivery.session.device) p challenge n is handed h.hands h.turn)
+      ∙ past_noted row.bits row.usim (accepted row.bits p.delivery.session.sub lines) a))
+      (asks (past_by row p.delivery.session.sub lines) past).1
 
   -- what the line says that it accepted
-  accepted_own : (r : EventRecord) (lines : List LineRecord) → r.result ≡ c
-      → accepted p.delivery.session.sub (lines ++ Happening r ∷ []) ≡ accepted p.delivery.session.sub lines ++ sqn_accepted told.notes.usim
-  accepted_own r lines is =
-      accepted-append p.delivery.session.sub lines (Happening r ∷ [])
-      ∙ ap (λ (sqns : List (List ℕ)). accepted p.delivery.session.sub lines ++ sqns) (append-nil (accepted_by p.delivery.session.sub (Happening r))
+  accepted_own : (bits : ℕ) (r : EventRecord) (lines : List LineRecord) → r.result ≡ c
+      → accepted bits p.delivery.session.sub (lines ++ Happening r ∷ []) ≡ accepted bits p.delivery.session.sub lines ++ sqn_accepted told.notes.usim
+  accepted_own bits r lines is =
+      accepted-append bits p.delivery.session.sub lines (Happening r ∷ [])
+      ∙ ap (λ (sqns : List (List ℕ)). accepted bits p.delivery.session.sub lines ++ sqns) (append-nil (accepted_by bits p.delivery.session.sub (Happening r))
       ∙ rw (is, h.reaches, eq-eqb p.delivery.session.sub p.delivery.session.sub refl, h.usim) refl)
 
-  accepted_other : (i : ℕ) (r : EventRecord) (lines : List LineRecord) → r.result ≡ c → p.delivery.session.sub ≢ i → accepted i (lines ++ Happening r ∷ []) ≡ accepted i lines
-  accepted_other i r lines is other =
-      accepted-append i lines (Happening r ∷ []) ∙ ap (λ (sqns : List (List ℕ)). accepted i lines ++ sqns) (none (is_that i (device_in c)) (ap (is_that i) h.reaches ∙ ne_eqb p.delivery.session.sub i other))
-      ∙ append-nil (accepted i lines)
+  accepted_other : (bits i : ℕ) (r : EventRecord) (lines : List LineRecord) → r.result ≡ c → p.delivery.session.sub ≢ i → accepted bits i (lines ++ Happening r ∷ []) ≡ accepted bits i lines
+  accepted_other bits i r lines is other =
+      accepted-append bits i lines (Happening r ∷ []) ∙ ap (λ (sqns : List (List ℕ)). accepted bits i lines ++ sqns) (none (is_that i (device_in c)) (ap (is_that i) h.reaches ∙ ne_eqb p.delivery.session.sub i other))
+      ∙ append-nil (accepted bits i lines)
     where
-      none : (b : Bool) → is_that i (device_in c) ≡ false → accepted i (Happening r ∷ []) ≡ []
-      none b e = append-nil (accepted_by i (Happening r)) ∙ rw (is, e) refl
+      none : (b : Bool) → is_that i (device_in c) ≡ false → accepted bits i (Happening r ∷ []) ≡ []
+      none b e = append-nil (accepted_by bits i (Happening r)) ∙ rw (is, e) refl
 
   -- all of them after it
   pub hands_behind : (r : EventRecord) (lines : List LineRecord) → r.result ≡ c → AreBehind rows lines (usim_of rows w) → AreBehind rows (lines ++ Happening r ∷ []) (usim_of rows new)
   hands_behind r lines is behind i row usim at there = step (changed_cases (usim_of rows w) (usim_of rows new) p.delivery.session.sub i usim hands_changes there)
     where
       step : ((p.delivery.session.sub ≡ i) × (h.handed.after.usim ≡ usim)) ⊎ ((p.delivery.session.sub ≢ i) × (usim_of rows w i ≡ Some usim))
-          → Remembers usim.array (past_of row.usim (accepted i (lines ++ Happening r ∷ [])))
+          → Remembers usim.array (past_by row i (lines ++ Happening r ∷ []))
       step (inl (same, one)) =
-          subst (λ (m : Memory). Remembers m.array (past_of row.usim (accepted i (lines ++ Happening r ∷ [])))) one
-          (subst (λ (s : ℕ). Remembers h.handed.after.usim.array (past_of row.usim (accepted s (lines ++ Happening r ∷ [])))) same
-          (subst (λ (sqns : List (List ℕ)). Remembers h.handed.after.usim.array (past_of row.usim sqns)) (sym (accepted_own r lines is))
-          (remembers p.challenge told.notes.usim row lines refl refl h.handed.asked
-          (behind p.delivery.session.sub row h.handed.before.usim (subst (λ (s : ℕ). slice_get rows s ≡ Some row) (sym same) at) hands_changes.there))))
+          let there : slice_get rows p.delivery.session.sub ≡ Some row = subst (λ (s : ℕ). slice_get rows s ≡ Some row) (sym same) at in
+          subst (λ (m : Memory). Remembers m.array (past_by row i (lines ++ Happening r ∷ []))) one
+          (subst (λ (s : ℕ). Remembers h.handed.after.usim.array (past_by row s (lines ++ Happening r ∷ []))) same
+          (subst (λ (sqns : List (List ℕ)). Remembers h.handed.after.usim.array (past_of row.bits row.usim sqns)) (sym (accepted_own row.bits r lines is))
+          (remembers p.challenge told.notes.usim row lines (before_row row there) refl refl h.handed.asked
+          (behind p.delivery.session.sub row h.handed.before.usim there hands_changes.there))))
       step (inr (other, one)) =
-          subst (λ (sqns : List (List ℕ)). Remembers usim.array (past_of row.usim sqns)) (sym (accepted_other i r lines is other)) (behind i row usim at one)
+          subst (λ (sqns : List (List ℕ)). Remembers usim.array (past_of row.bits row.usim sqns)) (sym (accepted_other row.bits i r lines is other)) (behind i row usim at one)
 
   -- what it answered
-  notes : (past : Past) (challenge : Option Challenge) (n : Option UsimNote) → AsksDevice p.device challenge n h.handed.before.usim.array h.handed.after.usim.array
-      → Remembers h.handed.before.usim.array past → UsimNotes p.device.secret past challenge n
-  notes past None n asks remember = asks.0
-  notes past (Some challenge) None asks remember = asks
-  notes past (Some challenge) (Some n) asks remember = (asks past remember).0
+  notes : (row : Row) (past : Past) (challenge : Option Challenge) (n : Option UsimNote) → IsOfRow row h.handed.before.usim
+      → AsksDevice p.device challenge n h.handed.before.usim.array h.handed.after.usim.array
+      → Remembers h.handed.before.usim.array past → UsimNotes p.device.secret row past challenge n
+  notes row past None n of asks remember = asks.0
+  notes row past (Some challenge) None of asks remember = asks
+  notes row past (Some challenge) (Some n) of asks remember =
+      let a : Answer = answer_noted p.device.secret challenge n in
+      subst (λ (b : ℕ). IsAnswer p.device.secret b row.age past challenge.rand challenge.autn a) of.bits
+      (subst (λ (age : Option ℕ). IsAnswer p.device.secret h.handed.before.usim.array.bits age past challenge.rand challenge.autn a) of.age (asks past remember).0)
 
   pub hands_asked : (set : Setting) (before : Before) → set.rows ≡ rows → AreBehind rows (before.early ++ before.beside ++ before.own) (usim_of rows w) → AsksUsim set before p told
   hands_asked set before is behind =
@@ -200,6 +215,6 @@ module _ (rows : List Row) (w new : WorldState) (told : Told) (c : Came) (p : Pr
       record {
         row = row;
         there = ap (λ (rs : List Row). slice_get rs p.delivery.session.sub) is ∙ there;
-        answers = notes (past_before before row p.delivery.session.sub) p.challenge told.notes.usim h.handed.asked past;
+        answers = notes row (past_before before row p.delivery.session.sub) p.challenge told.notes.usim (before_row row there) h.handed.asked past;
         decrypts = h.handed.decrypts (past_before before row p.delivery.session.sub) past;
       }

@@ -1,17 +1,20 @@
 -- For jobs: what their lines have given so far, and what stands after them.
-use Rattle.std.proofs.Common.{◌≡◌, ℕ, Bool, true, false, List, [], ◌∷◌, ◌++◌, refl, sym, ◌∙◌, ap, subst, append_assoc, append-nil, inl, inr, ◌⊎◌, ◌≢◌, eqb}
+use Rattle.std.proofs.Common.{◌≡◌, ℕ, ◌<◌, ◌≤◌, Bool, true, false, List, [], ◌∷◌, ◌++◌, All, arith, refl, sym, ◌∙◌, ap, subst, append_assoc, append-nil, inl, inr, ◌⊎◌, ◌≢◌, eqb}
 use Rattle.std.specs.Prelude.{Option, Some, slice_get, ◌||◌}
+use Rattle.std.proofs.lemmas.Bool.{ne_eqb}
 use Rattle.std.proofs.lemmas.Bool.Decides.{eqb_tells}
+use Rattle.std.proofs.lemmas.List.Elements.{All-append, All-head, All-nil, All-tail}
 use Rattle.auc_edge.specs.declared.stop.Stop.{Stop}
 use Rattle.auc_history.specs.declared.entry.Entry.{Entry}
 use Rattle.auc_lines.specs.declared.part.Line.{Line}
 use Rattle.auc_sqn.specs.Past.{Remembers}
+use Rattle.auc_subs.specs.Subscriber.{top_at}
 use Rattle.auc_subs.specs.declared.row.Row.{Row}
 use Rattle.auc_world.specs.Entries.{entries_of_lines}
 use Rattle.auc_world.specs.Given.{Before, is_in, is_released, past_of, LineGives, JobGives}
 use Rattle.auc_world.specs.Net.{Net}
 use Rattle.auc_world.specs.Setting.{Setting}
-use Rattle.auc_world.specs.Lines.{numbers_of, held_of, accepted_by, accepted}
+use Rattle.auc_world.specs.Lines.{numbers_of, held_of, accepted_by, accepted, released_by}
 use Rattle.auc_usim.specs.Usim.{Memory}
 use Rattle.auc_world.specs.declared.record.GiveVerdict.{GiveVerdict}
 use Rattle.auc_world.specs.declared.record.GiveVerdict.TheVariants as given
@@ -19,29 +22,30 @@ use Rattle.auc_world.specs.declared.record.LineRecord.{LineRecord}
 use Rattle.auc_world.specs.declared.record.LineRecord.TheVariants.{Give}
 use Rattle.auc_world.specs.Released.{Released, has, AreReleased}
 use Rattle.auc_jobs.specs.InnerUsims.{Presents}
+use Rattle.auc_jobs.specs.Numbers.{AreNumbers}
 use Rattle.auc_jobs.specs.Usims.{AreBehind}
 use Rattle.auc_jobs.specs.InnerServing.{AreTold, IsTold, Stands, Adds, Serves, ServesLines, IsAnswered, AddsGive, GivesVerdict, before_at}
-use Rattle.auc_jobs.proofs.LineLemmas.{held_of-append, entries_of_lines-append}
+use Rattle.auc_jobs.proofs.LineLemmas.{held_of-append, entries_of_lines-append, numbers_of-append}
 use Rattle.auc_world.proofs.Facts.{accepted-append}
 use Rattle.auc_jobs.proofs.SayingLemmas.{told_quiet}
 
 -- ---- the USIMs
 
 -- lines that tell no acceptance leave the USIMs as they are
-pub behind_quiet : (rows : List Row) (before lines : List LineRecord) (usims : ℕ → Option Memory) → ((i : ℕ) → accepted i lines ≡ [])
+pub behind_quiet : (rows : List Row) (before lines : List LineRecord) (usims : ℕ → Option Memory) → ((bits i : ℕ) → accepted bits i lines ≡ [])
     → AreBehind rows before usims → AreBehind rows (before ++ lines) usims
 behind_quiet rows before lines usims quiet behind sub row usim at there =
-    let e : accepted sub (before ++ lines) ≡ accepted sub before =
-    accepted-append sub before lines ∙ rw (quiet sub) (append-nil (accepted sub before)) in
-    subst (λ (sqns : List (List ℕ)). Remembers usim.array (past_of row.usim sqns)) (sym e) (behind sub row usim at there)
+    let e : accepted row.bits sub (before ++ lines) ≡ accepted row.bits sub before =
+    accepted-append row.bits sub before lines ∙ rw (quiet row.bits sub) (append-nil (accepted row.bits sub before)) in
+    subst (λ (sqns : List (List ℕ)). Remembers usim.array (past_of row.bits row.usim sqns)) (sym e) (behind sub row usim at there)
 
 -- ---- a presented vector
 
 -- no acceptance is told where the vector is absent
-absent_quiet : (i sub n : ℕ) → accepted_by i (Give sub n given.Absent) ≡ []
-absent_quiet i sub n = step (eqb_tells sub i)
+absent_quiet : (bits i sub n : ℕ) → accepted_by bits i (Give sub n given.Absent) ≡ []
+absent_quiet bits i sub n = step (eqb_tells sub i)
   where
-    step : ((eqb sub i ≡ true) × (sub ≡ i)) ⊎ ((eqb sub i ≡ false) × (sub ≢ i)) → accepted_by i (Give sub n given.Absent) ≡ []
+    step : ((eqb sub i ≡ true) × (sub ≡ i)) ⊎ ((eqb sub i ≡ false) × (sub ≢ i)) → accepted_by bits i (Give sub n given.Absent) ≡ []
     step (inl (e, same)) = rw e refl
     step (inr (e, not)) = rw e refl
 
@@ -63,7 +67,23 @@ pub answered_absent : (rows : List Row) (released : Released) (early beside own 
     → IsAnswered rows (before_at early beside own) sub n given.Absent usims
 answered_absent rows released early beside own sub n usims are found behind = record {
   given = λ row at. rw (sym (released_is released early beside own sub n are) ∙ found) refl;
-  behind = behind_quiet rows (early ++ beside ++ own) (Give sub n given.Absent ∷ []) usims (λ i. rw (absent_quiet i sub n) refl) behind;
+  behind = behind_quiet rows (early ++ beside ++ own) (Give sub n given.Absent ∷ []) usims (λ bits i. rw (absent_quiet bits i sub n) refl) behind;
+}
+
+-- a number that is above the subscriber's greatest one is in no list of its numbers
+not_among : (top n : ℕ) (numbers : List ℕ) → top < n → All (λ m. m ≤ top) numbers → is_in n numbers ≡ false
+not_among top n [] high within = refl
+not_among top n (m ∷ numbers) high within =
+    let low = All-head (λ m. m ≤ top) m numbers within in
+    rw (ne_eqb m n (λ e. omega (arith, e, low, high)), not_among top n numbers high (All-tail (λ m. m ≤ top) m numbers within)) refl
+
+-- so it wasn't released
+pub answered_above : (rows : List Row) (early beside own : List LineRecord) (sub n : ℕ) (usims : ℕ → Option Memory)
+    → top_at rows sub < n → AreNumbers rows early → AreNumbers rows own → AreBehind rows (early ++ beside ++ own) usims
+    → IsAnswered rows (before_at early beside own) sub n given.Absent usims
+answered_above rows early beside own sub n usims high before here behind = record {
+  given = λ row at. rw (not_among (top_at rows sub) n (numbers_of sub early) high (before sub), not_among (top_at rows sub) n (numbers_of sub own) high (here sub)) refl;
+  behind = behind_quiet rows (early ++ beside ++ own) (Give sub n given.Absent ∷ []) usims (λ bits i. rw (absent_quiet bits i sub n) refl) behind;
 }
 
 -- the line of the answer
@@ -79,10 +99,21 @@ give_added set early beside own new sub n answer usims row at added is = record 
 
 -- ---- a line of a job
 
+-- no further line releases a number that is above its subscriber's greatest one
+pub numbers_added : (rows : List Row) (own lines new : List LineRecord) → new ≡ own ++ lines → AreNumbers rows own → AreNumbers rows lines → AreNumbers rows new
+numbers_added rows own lines new is before here sub =
+    subst (All (λ n. n ≤ top_at rows sub)) (sym (ap (numbers_of sub) is ∙ numbers_of-append sub own lines))
+    (All-append (λ n. n ≤ top_at rows sub) (numbers_of sub own) (numbers_of sub lines) (before sub) (here sub))
+
+-- a line that releases no number
+pub no_numbers : (rows : List Row) (line : LineRecord) → ((sub : ℕ) → released_by sub line ≡ []) → AreNumbers rows (line ∷ [])
+no_numbers rows line none sub =
+    subst (λ (ns : List ℕ). All (λ n. n ≤ top_at rows sub) (ns ++ [])) (sym (none sub)) (All-nil (λ n. n ≤ top_at rows sub))
+
 -- lines that were drawn, after a resynchronisation too
 pub serves_adds : (goes : ℕ → List Entry → List (ℕ × Stop) → Type 0) (rows : List Row) (early beside own new : List LineRecord) (old kept : ℕ → Option ℕ)
     (released : Released) (usims : ℕ → Option Memory) (Gives : List LineRecord → Type 0)
-    → Stands rows (before_at early beside own) old released usims → Adds goes kept beside own new Gives
+    → Stands rows (before_at early beside own) old released usims → Adds goes rows kept beside own new Gives
     → Serves goes rows (before_at early beside own) kept released usims Gives new
 serves_adds goes rows early beside own new old kept released usims Gives s a = record {
   lines = a.lines;
@@ -92,6 +123,7 @@ serves_adds goes rows early beside own new old kept released usims Gives s a = r
   stands = record {
     told = subst (AreTold kept) (append_assoc beside own a.lines ∙ ap (λ (lines : List LineRecord). beside ++ lines) (sym a.added)) a.said.told;
     earlier = s.earlier;
+    numbers = (s.numbers.0, numbers_added rows own a.lines new a.added s.numbers.1 a.numbers);
     pasts = subst (λ (lines : List LineRecord). AreBehind rows lines usims)
         (append_assoc (early ++ beside) own a.lines ∙ ap (λ (lines : List LineRecord). early ++ beside ++ lines) (sym a.added))
         (behind_quiet rows (early ++ beside ++ own) a.lines usims a.quiet s.pasts);
@@ -137,6 +169,7 @@ serves_give goes set early beside own new kept released old usims sub n answer s
         (append_assoc beside own (Give sub n answer ∷ []) ∙ ap (λ (lines : List LineRecord). beside ++ lines) (sym a.added))
         (told_quiet i (kept i) (beside ++ own) (Give sub n answer) (λ word. refl) (s.told i));
     earlier = s.earlier;
+    numbers = (s.numbers.0, numbers_added set.rows own (Give sub n answer ∷ []) new a.added s.numbers.1 (no_numbers set.rows (Give sub n answer) (λ i. refl)));
     pasts = a.behind;
   };
 }

@@ -89,9 +89,9 @@ stop_told seen may_leave faults journal after pass records since =
     }
 
 -- a keeper can begin a round over its journal
-pub can_keep : {D : Type 0} (rows : List Row) (openings : List ℕ) (workers : ℕ) (journal : JournalState D) (book : BookValue) (passes : List PassValue) (pass : KeeperValue)
-    → AreSubscribers rows → IsJournalOf rows journal → Opens openings (limits_of journal) workers book passes pass → CanKeep book.id pass.passes (Some journal) journal pass
-can_keep rows openings workers journal book passes pass subscribers is opens = record {
+pub can_keep : {D : Type 0} (rows : List Row) (openings tops : List ℕ) (workers : ℕ) (journal : JournalState D) (book : BookValue) (passes : List PassValue) (pass : KeeperValue)
+    → AreSubscribers rows → IsJournalOf rows journal → Opens openings tops (limits_of journal) workers book passes pass → CanKeep book.id pass.passes (Some journal) journal pass
+can_keep rows openings tops workers journal book passes pass subscribers is opens = record {
   own = opens.own;
   all = refl;
   begun = refl;
@@ -102,10 +102,10 @@ can_keep rows openings workers journal book passes pass subscribers is opens = r
 }
 
 -- what the workers of a round came to is of all its passes
-pub all_worked : (id : TableId) (shared : Shared) (openings limits : List ℕ) (workers : ℕ) (book : BookValue) (passes : List PassValue) (before after : KeeperValue) (all : List WorkerJobs)
-    → Opens openings limits workers book passes before → 1 ≤ workers → after.passes ≡ before.passes → (length all ≡ length passes) × All (IsDone id shared) all
-    → (1 ≤ length all) × (after.passes ≡ length all) × All (IsDone id shared) all
-all_worked id shared openings limits workers book passes before after all opens some kept done =
+pub all_worked : (id : TableId) (greatest : List ℕ) (shared : Shared) (openings tops limits : List ℕ) (workers : ℕ) (book : BookValue) (passes : List PassValue) (before after : KeeperValue) (all : List WorkerJobs)
+    → Opens openings tops limits workers book passes before → 1 ≤ workers → after.passes ≡ before.passes → (length all ≡ length passes) × All (IsDone id greatest shared) all
+    → (1 ≤ length all) × (after.passes ≡ length all) × All (IsDone id greatest shared) all
+all_worked id greatest shared openings tops limits workers book passes before after all opens some kept done =
     (omega (arith, done.0, opens.many, some), kept ∙ opens.all ∙ sym opens.many ∙ sym done.0, done.1)
 
 -- the limit at a row's place is what is reserved for its identity
@@ -144,7 +144,7 @@ drew_above {D} set stop round records before words after subscribers is limits f
 -- a round whose pieces go by the limits is served
 pub served_round : {D : Type 0} (seen : D → Option (List ℕ)) (may_leave : D → List ℕ → Type 0) (set : Setting) (state next : Standing) (jobs : List (List Line)) (journal after : JournalState D)
     (done : RoundPieces) (result : Result Ran NoMemory) → IfOk result (λ ran. (early : List LineRecord) → StandsAt set early state → LeadsOn set done.stop early state jobs ran.round done.words next)
-    → OnOk result (next.words ≡ reopened done.words) → IfOk result (λ ran. (ran.round.jobs ≡ done.jobs.records) × (ran.vectors ≡ done.jobs.vectors) × (ran.stop ≡ done.stop))
+    → OnOk result (next.words ≡ reopened set.rows done.words) → IfOk result (λ ran. (ran.round.jobs ≡ done.jobs.records) × (ran.vectors ≡ done.jobs.vectors) × (ran.stop ≡ done.stop))
     → after.imsis ≡ map (λ row. row.imsi) set.rows → GoesByLimits set done.stop done.jobs.records (limits_of journal) done.words (limits_of after) → StaysNear seen may_leave journal done.words after
     → IfOk result (λ ran. (early : List LineRecord) → StandsAt set early state → Serves seen may_leave set early state jobs ran.round ran.stop journal next after)
 served_round seen may_leave set state next jobs journal after done (Ok ran) lawful opens parts subscribers limits near = λ early stands.

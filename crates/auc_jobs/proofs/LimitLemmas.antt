@@ -1,8 +1,9 @@
 -- For a round with a journal: what its lines release and withhold, by the limits.
-use Rattle.std.proofs.Common.{◌≡◌, ◌⊎◌, ℕ, zero, suc, ◌<◌, ◌≤◌, Bool, List, [], ◌∷◌, ◌++◌, map, All, Option, Some, None, arith, refl, sym, subst, inl, inr, eq-eqb}
+use Rattle.std.proofs.Common.{◌≡◌, ◌⊎◌, ℕ, zero, suc, ◌<◌, ◌≤◌, Bool, List, [], ◌∷◌, ◌++◌, length, map, All, Option, Some, None, arith, refl, sym, subst, inl, inr, eq-eqb}
 use Rattle.std.specs.Prelude.{if◌then◌else◌}
 use Rattle.std.proofs.lemmas.List.Elements.{All-append, All-cons, All-head, All-map, All-nil, All-tail}
 use Rattle.auc_edge.specs.declared.stop.Stop.{Stop}
+use Rattle.auc_subs.specs.declared.row.Row.{Row}
 use Rattle.auc_world.specs.declared.record.LineRecord.{LineRecord}
 use Rattle.auc_world.specs.declared.record.LineRecord.TheVariants.{Vector, Withheld, Exhausted, Sync, Give, Further, Event as Happening}
 use Rattle.auc_world.specs.Lines.{numbers_of, withheld_of, held_by, held_of, all_lines}
@@ -75,12 +76,12 @@ some_same : (a b : Stop) → Some a ≡ Some b → b ≡ a
 some_same a b e = cc
 
 -- each line that withholds names the stop
-names : (stop : Stop) (count : ℕ) (lines : List LineRecord) (limit : ℕ → ℕ) → All (IsOwn count) lines
-    → ((sub : ℕ) → sub < count → All (λ h. (limit sub < h.0) × (Some stop ≡ Some h.1)) (held_of sub lines)) → All (NamesStop stop) lines
-names stop count [] limit own held = All-nil (NamesStop stop)
-names stop count (line ∷ lines) limit own held =
-    All-cons (NamesStop stop) line lines (here line (All-head (IsOwn count) line lines own) held)
-    (names stop count lines limit (All-tail (IsOwn count) line lines own)
+names : (stop : Stop) (rows : List Row) (lines : List LineRecord) (limit : ℕ → ℕ) → All (IsOwn rows) lines
+    → ((sub : ℕ) → sub < length rows → All (λ h. (limit sub < h.0) × (Some stop ≡ Some h.1)) (held_of sub lines)) → All (NamesStop stop) lines
+names stop rows [] limit own held = All-nil (NamesStop stop)
+names stop rows (line ∷ lines) limit own held =
+    All-cons (NamesStop stop) line lines (here line (All-head (IsOwn rows) line lines own) held)
+    (names stop rows lines limit (All-tail (IsOwn rows) line lines own)
     (λ sub known. all_back (λ h. (limit sub < h.0) × (Some stop ≡ Some h.1)) (held_by sub line) (held_of sub lines) (held sub known)))
   where
     of_number : (s : ℕ) (o : Option NumberNote) → All (λ h. (limit s < h.0) × (Some stop ≡ Some h.1)) (withheld_noted o) → NotesStop stop o
@@ -89,13 +90,13 @@ names stop count (line ∷ lines) limit own held =
     of_number s (Some (number.Exhausted word)) each = tt
     of_number s (Some (number.Withheld n cause)) each = some_same stop cause (All-head (λ h. (limit s < h.0) × (Some stop ≡ Some h.1)) (n, cause) [] each).1
 
-    of_event : (a : Option ℕ) (o : Option NumberNote) → IsOwnEvent count a o → ((sub : ℕ) → sub < count → All (λ h. (limit sub < h.0) × (Some stop ≡ Some h.1)) (withheld_noted (if is_that sub a then o else None)))
+    of_event : (a : Option ℕ) (o : Option NumberNote) → IsOwnEvent rows a o → ((sub : ℕ) → sub < length rows → All (λ h. (limit sub < h.0) × (Some stop ≡ Some h.1)) (withheld_noted (if is_that sub a then o else None)))
         → NotesStop stop o
     of_event None o own each = subst (NotesStop stop) (sym own) tt
     of_event (Some s) o own each =
         of_number s o (subst (λ (b : Bool). All (λ h. (limit s < h.0) × (Some stop ≡ Some h.1)) (withheld_noted (if b then o else None))) (eq-eqb s s refl) (each s own.0))
 
-    here : (line : LineRecord) → IsOwn count line → ((sub : ℕ) → sub < count → All (λ h. (limit sub < h.0) × (Some stop ≡ Some h.1)) (held_of sub (line ∷ lines))) → NamesStop stop line
+    here : (line : LineRecord) → IsOwn rows line → ((sub : ℕ) → sub < length rows → All (λ h. (limit sub < h.0) × (Some stop ≡ Some h.1)) (held_of sub (line ∷ lines))) → NamesStop stop line
     here (Vector s n) is held = tt
     here (Withheld s n cause) is held =
         let Q : ℕ × Stop → Type 0 = λ h. (limit s < h.0) × (Some stop ≡ Some h.1) in
@@ -109,21 +110,21 @@ names stop count (line ∷ lines) limit own held =
     here (Happening r) is held = of_event (asked_in r.result) (number_in r.result) is (λ sub known. all_front (λ h. (limit sub < h.0) × (Some stop ≡ Some h.1)) (held_by sub (Happening r)) (held_of sub lines) (held sub known))
 
 -- what some lines withhold, if what they name is so by the limits
-pub withholds_by : (stop : Option Stop) (count : ℕ) (lines : List LineRecord) (limit : ℕ → ℕ) → All (IsOwn count) lines → ((sub : ℕ) → sub < count → AreLimited sub (limit sub) stop lines) → Withholds stop lines
-withholds_by None count lines limit own limited = λ sub. none_held sub lines (by sub (side sub count))
+pub withholds_by : (stop : Option Stop) (rows : List Row) (lines : List LineRecord) (limit : ℕ → ℕ) → All (IsOwn rows) lines → ((sub : ℕ) → sub < length rows → AreLimited sub (limit sub) stop lines) → Withholds stop lines
+withholds_by None rows lines limit own limited = λ sub. none_held sub lines (by sub (side sub (length rows)))
   where
-    by : (sub : ℕ) → (sub < count) ⊎ (count ≤ sub) → held_of sub lines ≡ []
+    by : (sub : ℕ) → (sub < length rows) ⊎ (length rows ≤ sub) → held_of sub lines ≡ []
     by sub (inl known) = none_stopped (limit sub) (held_of sub lines) (limited sub known).withholds
-    by sub (inr high) = held_beyond count sub lines high own
-withholds_by (Some stop) count lines limit own limited = record {
-  causes = names stop count lines limit own (λ sub known. (limited sub known).withholds);
-  above = λ sub. by sub (side sub count);
+    by sub (inr high) = held_beyond rows sub lines high own
+withholds_by (Some stop) rows lines limit own limited = record {
+  causes = names stop rows lines limit own (λ sub known. (limited sub known).withholds);
+  above = λ sub. by sub (side sub (length rows));
 }
   where
-    by : (sub : ℕ) → (sub < count) ⊎ (count ≤ sub) → All (λ m. All (λ n. n < m) (numbers_of sub lines)) (withheld_of sub lines)
+    by : (sub : ℕ) → (sub < length rows) ⊎ (length rows ≤ sub) → All (λ m. All (λ n. n < m) (numbers_of sub lines)) (withheld_of sub lines)
     by sub (inl known) =
         subst (All (λ m. All (λ n. n < m) (numbers_of sub lines))) (sym (withheld_of-held_of sub lines))
         (All-map (λ m. All (λ n. n < m) (numbers_of sub lines)) (λ (h : ℕ × Stop). h.0) (held_of sub lines)
         (λ k h within. λ i n inside. let high = (limited sub known).withholds k h within in let low = (limited sub known).releases i n inside in omega (arith, low, high.0)))
     by sub (inr high) =
-        subst (All (λ m. All (λ n. n < m) (numbers_of sub lines))) (sym (none_held sub lines (held_beyond count sub lines high own))) (All-nil (λ m. All (λ n. n < m) (numbers_of sub lines)))
+        subst (All (λ m. All (λ n. n < m) (numbers_of sub lines))) (sym (none_held sub lines (held_beyond rows sub lines high own))) (All-nil (λ m. All (λ n. n < m) (numbers_of sub lines)))

@@ -16,11 +16,11 @@ pub not_given : (sub : ℕ) (job other : List Line) → AreApart job other → h
 not_given sub job other apart to = false_from_ne_true (holds sub job) (λ is. true≢false (sym to ∙ apart sub is))
 
 -- no USIM of the jobs that are left has accepted anything by a further job
-quiet_next : (sub : ℕ) (front lines : List LineRecord) → accepted sub front ≡ [] → accepted sub lines ≡ [] → accepted sub (front ++ lines) ≡ []
-quiet_next sub front lines before here = accepted-append sub front lines ∙ rw (before, here) refl
+quiet_next : (bits sub : ℕ) (front lines : List LineRecord) → accepted bits sub front ≡ [] → accepted bits sub lines ≡ [] → accepted bits sub (front ++ lines) ≡ []
+quiet_next bits sub front lines before here = accepted-append bits sub front lines ∙ rw (before, here) refl
 
 pub quiet_rest : (front lines : List LineRecord) (job : List Line) (next : List (List Line)) → All (IsQuiet front) (job ∷ next) → AllPairs AreApart (job ∷ next)
-    → ((sub : ℕ) → holds sub job ≡ false → accepted sub lines ≡ []) → All (IsQuiet (front ++ lines)) next
-quiet_rest front lines job next was apart quiet k d within sub to =
-    quiet_next sub front lines (All-tail (IsQuiet front) job next was k d within sub to)
-    (quiet sub (not_given sub job (get_or next k d) (AllPairs-head AreApart job next apart k d within) to))
+    → ((bits sub : ℕ) → holds sub job ≡ false → accepted bits sub lines ≡ []) → All (IsQuiet (front ++ lines)) next
+quiet_rest front lines job next was apart quiet k d within bits sub to =
+    quiet_next bits sub front lines (All-tail (IsQuiet front) job next was k d within bits sub to)
+    (quiet bits sub (not_given sub job (get_or next k d) (AllPairs-head AreApart job next apart k d within) to))

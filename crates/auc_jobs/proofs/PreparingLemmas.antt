@@ -30,11 +30,12 @@ step_from opening limit low less = by (nat_le (opening + 64) max_seq) refl
         above n test = grind (arith, nat_tests)
 
 -- a subscriber that needs a reservation may have it
-may_rise : (pass : KeeperValue) (sub opening : ℕ) (asked : Bool) → slice_index pass.seen sub ≡ opening → needs asked opening (slice_index pass.limits sub) ≡ true → MayRise pass sub (min (opening + 64) max_seq)
-may_rise pass sub opening asked seen needed =
-    let inner = and_parts asked (nat_lt opening max_seq && nat_le (slice_index pass.limits sub) opening) needed in
-    let tests = and_parts (nat_lt opening max_seq) (nat_le (slice_index pass.limits sub) opening) inner.1 in
-    let low = below opening max_seq tests.0 in
+may_rise : (pass : KeeperValue) (sub top opening : ℕ) (asked : Bool) → top ≤ max_seq → slice_index pass.seen sub ≡ opening → needs asked top opening (slice_index pass.limits sub) ≡ true → MayRise pass sub (min (opening + 64) max_seq)
+may_rise pass sub top opening asked most seen needed =
+    let inner = and_parts asked (nat_lt opening top && nat_le (slice_index pass.limits sub) opening) needed in
+    let tests = and_parts (nat_lt opening top) (nat_le (slice_index pass.limits sub) opening) inner.1 in
+    let under = below opening top tests.0 in
+    let low : opening < max_seq = omega (arith, under, most) in
     let less = at_most (slice_index pass.limits sub) opening tests.1 in
     record {
       above = omega (arith, low, less);
@@ -52,13 +53,13 @@ record IsFrom (pass : KeeperValue) (sub count : ℕ) (item : ℕ × ℕ) : Type 
 later : (pass : KeeperValue) (sub count : ℕ) (items : List (ℕ × ℕ)) → All (IsFrom pass (suc sub) count) items → All (IsFrom pass sub count) items
 later pass sub count items all = λ j d more. let is = all j d more in record { low = omega (arith, is.low); known = is.known; rise = is.rise }
 
-each_from : (pass : KeeperValue) (asked : ℕ → Bool) (count sub : ℕ) (openings : List ℕ) → sub + length openings ≡ count → ((i : ℕ) → i < length openings → slice_index pass.seen (sub + i) ≡ slice_index openings i)
-    → All (IsFrom pass sub count) (needed_from asked pass.limits sub openings)
-each_from pass asked count sub [] size seen = All-nil (IsFrom pass sub count)
-each_from pass asked count sub (opening ∷ openings) size seen =
-    by (needs (asked sub) opening (slice_index pass.limits sub)) refl
-    (later pass sub count (needed_from asked pass.limits (suc sub) openings)
-    (each_from pass asked count (suc sub) openings (omega (arith, size))
+each_from : (pass : KeeperValue) (asked : ℕ → Bool) (tops : List ℕ) (count sub : ℕ) (openings : List ℕ) → ((i : ℕ) → slice_index tops i ≤ max_seq) → sub + length openings ≡ count → ((i : ℕ) → i < length openings → slice_index pass.seen (sub + i) ≡ slice_index openings i)
+    → All (IsFrom pass sub count) (needed_from asked tops pass.limits sub openings)
+each_from pass asked tops count sub [] most size seen = All-nil (IsFrom pass sub count)
+each_from pass asked tops count sub (opening ∷ openings) most size seen =
+    by (needs (asked sub) (slice_index tops sub) opening (slice_index pass.limits sub)) refl
+    (later pass sub count (needed_from asked tops pass.limits (suc sub) openings)
+    (each_from pass asked tops count (suc sub) openings most (omega (arith, size))
     (λ i inside. ap (slice_index pass.seen) (next sub i) ∙ seen (suc i) (omega (arith, inside)))))
   where
     next : (a b : ℕ) → suc a + b ≡ a + suc b
@@ -67,19 +68,19 @@ each_from pass asked count sub (opening ∷ openings) size seen =
     here : slice_index pass.seen sub ≡ opening
     here = let at : sub + 0 ≡ sub = omega arith in ap (slice_index pass.seen) (sym at) ∙ seen 0 (omega arith)
 
-    by : (test : Bool) → needs (asked sub) opening (slice_index pass.limits sub) ≡ test → All (IsFrom pass sub count) (needed_from asked pass.limits (suc sub) openings)
-        → All (IsFrom pass sub count) (if test then (sub, min (opening + 64) max_seq) ∷ needed_from asked pass.limits (suc sub) openings else needed_from asked pass.limits (suc sub) openings)
+    by : (test : Bool) → needs (asked sub) (slice_index tops sub) opening (slice_index pass.limits sub) ≡ test → All (IsFrom pass sub count) (needed_from asked tops pass.limits (suc sub) openings)
+        → All (IsFrom pass sub count) (if test then (sub, min (opening + 64) max_seq) ∷ needed_from asked tops pass.limits (suc sub) openings else needed_from asked tops pass.limits (suc sub) openings)
     by true is rest =
-        All-cons (IsFrom pass sub count) (sub, min (opening + 64) max_seq) (needed_from asked pass.limits (suc sub) openings)
-        (record { low = omega arith; known = omega (arith, size); rise = may_rise pass sub opening (asked sub) here is }) rest
+        All-cons (IsFrom pass sub count) (sub, min (opening + 64) max_seq) (needed_from asked tops pass.limits (suc sub) openings)
+        (record { low = omega arith; known = omega (arith, size); rise = may_rise pass sub (slice_index tops sub) opening (asked sub) (most sub) here is }) rest
     by false is rest = rest
 
-apart_from : (pass : KeeperValue) (asked : ℕ → Bool) (count sub : ℕ) (openings : List ℕ) → sub + length openings ≡ count → ((i : ℕ) → i < length openings → slice_index pass.seen (sub + i) ≡ slice_index openings i)
-    → AllPairs (λ (a b : ℕ × ℕ). a.0 ≢ b.0) (needed_from asked pass.limits sub openings)
-apart_from pass asked count sub [] size seen = λ i j d low within. absurd (omega arith)
-apart_from pass asked count sub (opening ∷ openings) size seen =
-    by (needs (asked sub) opening (slice_index pass.limits sub))
-    (each_from pass asked count (suc sub) openings (omega (arith, size)) further) (apart_from pass asked count (suc sub) openings (omega (arith, size)) further)
+apart_from : (pass : KeeperValue) (asked : ℕ → Bool) (tops : List ℕ) (count sub : ℕ) (openings : List ℕ) → ((i : ℕ) → slice_index tops i ≤ max_seq) → sub + length openings ≡ count → ((i : ℕ) → i < length openings → slice_index pass.seen (sub + i) ≡ slice_index openings i)
+    → AllPairs (λ (a b : ℕ × ℕ). a.0 ≢ b.0) (needed_from asked tops pass.limits sub openings)
+apart_from pass asked tops count sub [] most size seen = λ i j d low within. absurd (omega arith)
+apart_from pass asked tops count sub (opening ∷ openings) most size seen =
+    by (needs (asked sub) (slice_index tops sub) opening (slice_index pass.limits sub))
+    (each_from pass asked tops count (suc sub) openings most (omega (arith, size)) further) (apart_from pass asked tops count (suc sub) openings most (omega (arith, size)) further)
   where
     next : (a b : ℕ) → suc a + b ≡ a + suc b
     next a b = omega arith
@@ -87,19 +88,19 @@ apart_from pass asked count sub (opening ∷ openings) size seen =
     further : (i : ℕ) → i < length openings → slice_index pass.seen (suc sub + i) ≡ slice_index openings i
     further i inside = ap (slice_index pass.seen) (next sub i) ∙ seen (suc i) (omega (arith, inside))
 
-    by : (test : Bool) → All (IsFrom pass (suc sub) count) (needed_from asked pass.limits (suc sub) openings) → AllPairs (λ (a b : ℕ × ℕ). a.0 ≢ b.0) (needed_from asked pass.limits (suc sub) openings)
-        → AllPairs (λ (a b : ℕ × ℕ). a.0 ≢ b.0) (if test then (sub, min (opening + 64) max_seq) ∷ needed_from asked pass.limits (suc sub) openings else needed_from asked pass.limits (suc sub) openings)
+    by : (test : Bool) → All (IsFrom pass (suc sub) count) (needed_from asked tops pass.limits (suc sub) openings) → AllPairs (λ (a b : ℕ × ℕ). a.0 ≢ b.0) (needed_from asked tops pass.limits (suc sub) openings)
+        → AllPairs (λ (a b : ℕ × ℕ). a.0 ≢ b.0) (if test then (sub, min (opening + 64) max_seq) ∷ needed_from asked tops pass.limits (suc sub) openings else needed_from asked tops pass.limits (suc sub) openings)
     by true each rest =
-        AllPairs-cons (λ (a b : ℕ × ℕ). a.0 ≢ b.0) (sub, min (opening + 64) max_seq) (needed_from asked pass.limits (suc sub) openings)
+        AllPairs-cons (λ (a b : ℕ × ℕ). a.0 ≢ b.0) (sub, min (opening + 64) max_seq) (needed_from asked tops pass.limits (suc sub) openings)
         (λ j d more same. omega (arith, (each j d more).low, same)) rest
     by false each rest = rest
 
 -- what a round needs, its keeper may reserve
-pub are_reservable : (jobs : List (List Line)) (openings limits : List ℕ) (pass : KeeperValue) (count : ℕ) → pass.seen ≡ openings → pass.limits ≡ limits → length openings ≡ count
-    → AreReservable count pass (needed_by jobs openings limits)
-are_reservable jobs openings limits pass count seen same size =
-    subst (λ (l : List ℕ). AreReservable count pass (needed_by jobs openings l)) same (record {
-      differ = apart_from pass (is_asked jobs) count 0 openings (omega (arith, size)) at;
+pub are_reservable : (jobs : List (List Line)) (tops openings limits : List ℕ) (pass : KeeperValue) (count : ℕ) → ((i : ℕ) → slice_index tops i ≤ max_seq) → pass.seen ≡ openings → pass.limits ≡ limits → length openings ≡ count
+    → AreReservable count pass (needed_by jobs tops openings limits)
+are_reservable jobs tops openings limits pass count most seen same size =
+    subst (λ (l : List ℕ). AreReservable count pass (needed_by jobs tops openings l)) same (record {
+      differ = apart_from pass (is_asked jobs) tops count 0 openings most (omega (arith, size)) at;
       known = λ j d more. (each j d more).known;
       rise = λ j d more. (each j d more).rise;
     })
@@ -107,8 +108,8 @@ are_reservable jobs openings limits pass count seen same size =
     at : (i : ℕ) → i < length openings → slice_index pass.seen (0 + i) ≡ slice_index openings i
     at i inside = let place : 0 + i ≡ i = omega arith in ap (slice_index pass.seen) place ∙ ap (λ (l : List ℕ). slice_index l i) seen
 
-    each : All (IsFrom pass 0 count) (needed_by jobs openings pass.limits)
-    each = each_from pass (is_asked jobs) count 0 openings (omega (arith, size)) at
+    each : All (IsFrom pass 0 count) (needed_by jobs tops openings pass.limits)
+    each = each_from pass (is_asked jobs) tops count 0 openings most (omega (arith, size)) at
 
 -- the first of what a keeper may reserve
 pub first_reservable : (count : ℕ) (pass : KeeperValue) (items : List (ℕ × ℕ)) (n : ℕ) → AreReservable count pass items → AreReservable count pass (take n items)

@@ -16,12 +16,13 @@ use Rattle.auc_sqn.specs.Past.{Remembers}
 use Rattle.auc_subs.specs.declared.row.Row.{Row}
 use Rattle.auc_usim.specs.Usim.{Memory}
 use Rattle.auc_world.specs.declared.record.LineRecord.{LineRecord}
-use Rattle.auc_world.specs.Given.{past_of}
+use Rattle.auc_world.specs.Given.{past_by, past_of}
 use Rattle.auc_world.specs.Lines.{accepted, all_lines}
 use Rattle.auc_world.specs.Net.{Net}
 use Rattle.auc_world.specs.Pieces.{IsQuiet}
 use Rattle.auc_world.specs.Start.{Kept, kept_by_jobs, kept_now, kept_with, put_back}
 use Rattle.auc_world.proofs.Facts.{accepted-append}
+use Rattle.auc_cards.specs.Usims.{IsOfRow}
 use Rattle.auc_jobs.specs.Usims.{AreOfRows, AreBehind}
 use Rattle.auc_jobs.specs.InnerRound.{IsSettled, AreSettled, left_in, left_on}
 use Rattle.auc_jobs.specs.InnerUsims.{OwnDevices, usim_in, put_at, ArePut, ArePutBack}
@@ -46,18 +47,18 @@ put_cases rows early lines old new job own sub usim settled put there =
     put_is (holds sub job) (own sub) (slice_get old sub) usim (settled.keyed sub) (sym (put.each sub inside) ∙ there)
 
 -- what it accepted
-own_accepted : (sub : ℕ) (early front lines : List LineRecord) → accepted sub front ≡ [] → accepted sub (early ++ lines) ≡ accepted sub (early ++ (front ++ lines))
-own_accepted sub early front lines quiet =
-    accepted-append sub early lines
-    ∙ sym (accepted-append sub early (front ++ lines)
-    ∙ ap (λ (sqns : List (List ℕ)). accepted sub early ++ sqns) (accepted-append sub front lines ∙ ap (λ (sqns : List (List ℕ)). sqns ++ accepted sub lines) quiet))
+own_accepted : (bits sub : ℕ) (early front lines : List LineRecord) → accepted bits sub front ≡ [] → accepted bits sub (early ++ lines) ≡ accepted bits sub (early ++ (front ++ lines))
+own_accepted bits sub early front lines quiet =
+    accepted-append bits sub early lines
+    ∙ sym (accepted-append bits sub early (front ++ lines)
+    ∙ ap (λ (sqns : List (List ℕ)). accepted bits sub early ++ sqns) (accepted-append bits sub front lines ∙ ap (λ (sqns : List (List ℕ)). sqns ++ accepted bits sub lines) quiet))
 
-old_accepted : (sub : ℕ) (early front lines : List LineRecord) → accepted sub lines ≡ [] → accepted sub (early ++ front) ≡ accepted sub (early ++ (front ++ lines))
-old_accepted sub early front lines quiet =
-    accepted-append sub early front
-    ∙ sym (accepted-append sub early (front ++ lines)
-    ∙ ap (λ (sqns : List (List ℕ)). accepted sub early ++ sqns)
-    (accepted-append sub front lines ∙ ap (λ (sqns : List (List ℕ)). accepted sub front ++ sqns) quiet ∙ append-nil (accepted sub front)))
+old_accepted : (bits sub : ℕ) (early front lines : List LineRecord) → accepted bits sub lines ≡ [] → accepted bits sub (early ++ front) ≡ accepted bits sub (early ++ (front ++ lines))
+old_accepted bits sub early front lines quiet =
+    accepted-append bits sub early front
+    ∙ sym (accepted-append bits sub early (front ++ lines)
+    ∙ ap (λ (sqns : List (List ℕ)). accepted bits sub early ++ sqns)
+    (accepted-append bits sub front lines ∙ ap (λ (sqns : List (List ℕ)). accepted bits sub front ++ sqns) quiet ∙ append-nil (accepted bits sub front)))
 
 -- a job's own USIMs were put back
 placed_job : (rows : List Row) (early front lines : List LineRecord) (old new : List Memory) (job : List Line) (own : ℕ → Option Memory) → IsQuiet front job
@@ -68,17 +69,17 @@ placed_job rows early front lines old new job own quiet settled put placed = rec
 }
   where
     secret : (sub : ℕ) (row : Row) (usim : Memory) → slice_get rows sub ≡ Some row
-        → ((holds sub job ≡ true) × (own sub ≡ Some usim)) ⊎ ((holds sub job ≡ false) × (slice_get old sub ≡ Some usim)) → usim.secret ≡ row.secret
+        → ((holds sub job ≡ true) × (own sub ≡ Some usim)) ⊎ ((holds sub job ≡ false) × (slice_get old sub ≡ Some usim)) → IsOfRow row usim
     secret sub row usim at (inl (gives, is)) = settled.secrets sub row usim at is
     secret sub row usim at (inr (other, is)) = placed.of_rows.secrets sub row usim at is
 
     remember : (sub : ℕ) (row : Row) (usim : Memory) → slice_get rows sub ≡ Some row
         → ((holds sub job ≡ true) × (own sub ≡ Some usim)) ⊎ ((holds sub job ≡ false) × (slice_get old sub ≡ Some usim))
-        → Remembers usim.array (past_of row.usim (accepted sub (early ++ (front ++ lines))))
+        → Remembers usim.array (past_by row sub (early ++ (front ++ lines)))
     remember sub row usim at (inl (gives, is)) =
-        subst (λ (sqns : List (List ℕ)). Remembers usim.array (past_of row.usim sqns)) (own_accepted sub early front lines (quiet sub gives)) (settled.behind sub row usim at is)
+        subst (λ (sqns : List (List ℕ)). Remembers usim.array (past_of row.bits row.usim sqns)) (own_accepted row.bits sub early front lines (quiet row.bits sub gives)) (settled.behind sub row usim at is)
     remember sub row usim at (inr (other, is)) =
-        subst (λ (sqns : List (List ℕ)). Remembers usim.array (past_of row.usim sqns)) (old_accepted sub early front lines (settled.quiet sub other)) (placed.behind sub row usim at is)
+        subst (λ (sqns : List (List ℕ)). Remembers usim.array (past_of row.bits row.usim sqns)) (old_accepted row.bits sub early front lines (settled.quiet row.bits sub other)) (placed.behind sub row usim at is)
 
 -- those of all jobs were
 pub placed_jobs : (rows : List Row) (early front : List LineRecord) (old new : List Memory) (jobs : List (List Line)) (records : List (List LineRecord)) (own : List OwnDevices)

@@ -10,6 +10,7 @@ use Rattle.auc_lines.specs.Sim.{SimValue}
 use Rattle.auc_lines.specs.Sites.{SitesValue}
 use Rattle.auc_lines.specs.declared.part.FivegLine.{FivegLine}
 use Rattle.auc_lines.specs.declared.sites.SiteEvent.{SiteEvent}
+use Rattle.auc_lines.specs.declared.part.Report.{Report}
 use Rattle.auc_random.specs.Random.{rand_of}
 use Rattle.auc_request.specs.Request.{is_separated}
 use Rattle.auc_sim.specs.declared.note.SimNote.{SimNote}
@@ -73,8 +74,8 @@ module _ (set : Setting) (sub : ℕ) (P : LineRecord → Type 0) (are : AreSo se
   follow_lines count (verdict.Beyond seen seq_ms) lines follow = none lines follow
   follow_lines count verdict.WrongMac lines follow = none lines follow
 
-  pub sync_lines : (seq : ℕ) (bit : Option ℕ) (count : ℕ) (lines : List LineRecord) → SyncGives set sub seq bit count lines → All P lines
-  sync_lines seq bit count lines gives =
+  pub sync_lines : (report : Report) (count : ℕ) (lines : List LineRecord) → SyncGives set sub report count lines → All P lines
+  sync_lines report count lines gives =
       subst (All P) (sym gives.lines_are) (All-cons P (Sync sub gives.answer) gives.more (are.sync gives.answer) (follow_lines count gives.answer gives.more gives.follows))
 
   -- a presented vector

@@ -1,5 +1,5 @@
 -- For a round: what its pieces make of its record, and of the state after it.
-use Rattle.std.proofs.Common.{◌≡◌, ℕ, zero, suc, ◌+◌, ◌-◌, ◌<◌, ◌≤◌, min, Bool, true, false, List, [], ◌∷◌, ◌++◌, length, get_or, refl, sym, ◌∙◌, ap, subst, arith, append-nil}
+use Rattle.std.proofs.Common.{◌≡◌, ℕ, zero, suc, ◌+◌, ◌-◌, ◌<◌, ◌≤◌, Bool, true, false, List, [], ◌∷◌, ◌++◌, length, get_or, refl, sym, ◌∙◌, ap, subst, arith, append-nil}
 use Rattle.std.specs.Prelude.{All, AllPairs, Option, Some, None, slice_get, slice_index, if◌then◌else◌, ◌==◌}
 use Rattle.std.proofs.lemmas.List.{length-append, length-map}
 use Rattle.std.proofs.lemmas.Grind.{flat_map-append}
@@ -14,6 +14,8 @@ use Rattle.auc_history.proofs.Facts.{split_counts_its_numbers}
 use Rattle.auc_lines.specs.declared.part.Line.{Line}
 use Rattle.auc_lines.specs.Part.{AreApart}
 use Rattle.auc_sqn.specs.Number.{max_seq}
+use Rattle.auc_subs.specs.Subscriber.{top_at}
+use Rattle.auc_subs.specs.declared.row.Row.{Row}
 use Rattle.auc_vector.specs.declared.notes.NumberNote.{NumberNote}
 use Rattle.auc_vector.specs.declared.notes.NumberNote.TheVariants as number
 use Rattle.auc_vector.specs.declared.notes.ResyncNote.{ResyncNote}
@@ -23,7 +25,7 @@ use Rattle.auc_world.specs.Entries.{is_reported, entries_of_line, entries_of_lin
 use Rattle.auc_world.specs.Given.{JobsGive}
 use Rattle.auc_world.specs.Setting.{Setting}
 use Rattle.auc_world.specs.Start.{Kept}
-use Rattle.auc_world.proofs.Facts.{jobs_give_after_all_lines, pieces_split_the_round}
+use Rattle.auc_world.proofs.Facts.{jobs_give_after_all_lines, length-reopened, pieces_split_the_round}
 use Rattle.auc_world.specs.Net.{Net}
 use Rattle.auc_world.specs.Pieces.{Piece, PiecesGive}
 use Rattle.auc_world.specs.Lines.{numbers_of, released_by, withheld_by, withheld_of, all_lines}
@@ -44,6 +46,7 @@ use Rattle.auc_jobs.specs.InnerRound.{ArePieces, AreServed, IsAdvanced, LeadsOn}
 use Rattle.auc_jobs.specs.InnerUsims.{OwnDevices}
 use Rattle.auc_jobs.specs.State.{Standing, StandsAt}
 use Rattle.auc_jobs.proofs.PutLemmas.{ArePlaced, length-put_all, placed_jobs, put_all_alike}
+use Rattle.auc_jobs.proofs.JobLemmas.{numbers_added}
 use Rattle.auc_jobs.proofs.LineLemmas.{entries_of_lines-append}
 
 -- the entries of all jobs are those of all lines
@@ -163,7 +166,8 @@ draws_lines sub before (line ∷ lines) =
 
 -- what the jobs of a round made of a subscriber, from an opening to a closing
 pub record Makes (sub opening closing : ℕ) (jobs : List (List LineRecord)) : Type 0 where
-  pub split : Splits max_seq opening closing (entries_of_jobs sub [] jobs)
+  pub top : ℕ
+  pub split : Splits top opening closing (entries_of_jobs sub [] jobs)
   pub bound : closing ≤ max_seq + 64
 
 -- the parts of its count
@@ -179,7 +183,7 @@ counts_made sub opening closing jobs m =
   where
     whole : closing ≡ opening + length (drawn (entries_of_lines sub [] (all_lines jobs))) + passed_in sub (all_lines jobs)
     whole =
-        let e = split_counts_its_numbers max_seq opening closing (entries_of_jobs sub [] jobs) m.split in
+        let e = split_counts_its_numbers m.top opening closing (entries_of_jobs sub [] jobs) m.split in
         let d = ap (λ (es : List Entry). length (drawn es)) (all_entries-of_jobs sub [] jobs) in
         let s = ap skipped (all_entries-of_jobs sub [] jobs) in
         let f = passes_lines sub [] (all_lines jobs) in omega (arith, e, d, s, f)
@@ -237,8 +241,9 @@ below_at (word ∷ words) (suc sub) bound within = below_at words sub bound (λ 
 pub pieces_make : (set : Setting) (early : List LineRecord) (stores : List Kept) (openings words : List ℕ) (jobs : List (List Line)) (records : List (List LineRecord)) (own : List OwnDevices) (sessions : List JobSessions) (sub : ℕ)
     → ArePieces set early stores openings jobs records own sessions words → All (λ word. word ≤ max_seq + 64) words → sub < length openings → Makes sub (slice_index openings sub) (slice_index words sub) records
 pieces_make set early stores openings words jobs records own sessions sub p bound known = record {
-  split = subst (λ (rs : List (List LineRecord)). Splits max_seq (slice_index openings sub) (slice_index words sub) (entries_of_jobs sub [] rs)) (sym p.lines)
-      (pieces_split_the_round max_seq (slice_index openings sub) (slice_index words sub) sub p.pieces (p.reports sub) (p.split sub known));
+  top = top_at set.rows sub;
+  split = subst (λ (rs : List (List LineRecord)). Splits (top_at set.rows sub) (slice_index openings sub) (slice_index words sub) (entries_of_jobs sub [] rs)) (sym p.lines)
+      (pieces_split_the_round (top_at set.rows sub) (slice_index openings sub) (slice_index words sub) sub p.pieces (p.reports sub) (p.split sub known));
   bound = below_at words sub (max_seq + 64) bound;
 }
 
@@ -262,6 +267,7 @@ lawful_round : (set : Setting) (stop : Option Stop) (early : List LineRecord) (s
     → length words ≡ length openings → length counts ≡ length openings → AreCounted (all_lines records) counts → closings ≡ counted_closings 0 openings words counts → Withholds stop (all_lines records)
     → AreVerdicts sessions verdicts → kept ≡ premise_from 1 sessions
     → IsLawfulRound set stop early stores openings jobs (record { number = number; jobs = records; closings = closings; sessions = verdicts; premise = kept }) words
+unfolding pieces_make
 lawful_round set stop early stores openings words jobs records own sessions counts number closings verdicts kept apart p bound size sizes counted is withholds agree holds = record {
   nets = p.nets;
   sizes = size;
@@ -286,7 +292,7 @@ lawful_round set stop early stores openings words jobs records own sessions coun
 pub leads_on : (set : Setting) (stop : Option Stop) (early : List LineRecord) (state new : Standing) (words : List ℕ) (jobs : List (List Line)) (records : List (List LineRecord)) (own : List OwnDevices) (sessions : List JobSessions) (counts : List Count)
     (number : ℕ) (closings : List Closing) (verdicts : List SessionVerdict) (kept : Premise) → AllPairs AreApart jobs → ArePieces set early state.kept state.words jobs records own sessions words → All (λ word. word ≤ max_seq + 64) words
     → length words ≡ length state.words → length counts ≡ length state.words → AreCounted (all_lines records) counts → closings ≡ counted_closings 0 state.words words counts → Withholds stop (all_lines records)
-    → AreVerdicts sessions verdicts → kept ≡ premise_from 1 sessions → IsAdvanced state records own words new
+    → AreVerdicts sessions verdicts → kept ≡ premise_from 1 sessions → IsAdvanced set.rows state records own words new
     → LeadsOn set stop early state jobs (record { number = number; jobs = records; closings = closings; sessions = verdicts; premise = kept }) words new
 unfolding lawful_round
 leads_on set stop early state new words jobs records own sessions counts number closings verdicts kept apart p bound size sizes counted is withholds agree holds advanced = record {
@@ -308,28 +314,30 @@ as_many_sessions set early stores openings words jobs records own sessions p =
     ap (λ (ss : List JobSessions). length ss) p.ends ∙ length-map p.nets job_sessions ∙ as_many_nets set early stores jobs p.pieces p.nets p.give
 
 -- the state after the round, by equal parts
-pub advanced_as : (a b : Standing) (records others : List (List LineRecord)) (own same : List OwnDevices) (words ends : List ℕ) (new : Standing) → a ≡ b → records ≡ others
-    → own ≡ same → words ≡ ends → IsAdvanced a records own words new → IsAdvanced b others same ends new
-advanced_as a b records others own same words ends new p q r s is =
-    subst (λ (x : Standing). IsAdvanced x others same ends new) p
-    (subst (λ (x : List (List LineRecord)). IsAdvanced a x same ends new) q
-    (subst (λ (x : List OwnDevices). IsAdvanced a records x ends new) r (subst (λ (x : List ℕ). IsAdvanced a records own x new) s is)))
+pub advanced_as : (rows same_rows : List Row) (a b : Standing) (records others : List (List LineRecord)) (own same : List OwnDevices) (words ends : List ℕ) (new : Standing) → rows ≡ same_rows → a ≡ b → records ≡ others
+    → own ≡ same → words ≡ ends → IsAdvanced rows a records own words new → IsAdvanced same_rows b others same ends new
+advanced_as rows same_rows a b records others own same words ends new m p q r s is =
+    subst (λ (x : List Row). IsAdvanced x b others same ends new) m
+    (subst (λ (x : Standing). IsAdvanced rows x others same ends new) p
+    (subst (λ (x : List (List LineRecord)). IsAdvanced rows a x same ends new) q
+    (subst (λ (x : List OwnDevices). IsAdvanced rows a records x ends new) r (subst (λ (x : List ℕ). IsAdvanced rows a records own x new) s is))))
 
 -- it is the next round's
 pub stands_after : (set : Setting) (early : List LineRecord) (state new : Standing) (jobs : List (List Line)) (records : List (List LineRecord)) (own : List OwnDevices) (sessions : List JobSessions) (words : List ℕ)
-    → AllPairs AreApart jobs → StandsAt set early state → AreServed set early state.kept state.words jobs records own sessions words → IsAdvanced state records own words new
+    → AllPairs AreApart jobs → StandsAt set early state → AreServed set early state.kept state.words jobs records own sessions words → IsAdvanced set.rows state records own words new
     → StandsAt set (early ++ all_lines records) new
 stands_after set early state new jobs records own sessions words apart stands served advanced = record {
   subscribers = record {
-    size = ap (λ (ws : List ℕ). length ws) advanced.opened ∙ length-map words (λ (word : ℕ). min word max_seq) ∙ served.size ∙ stands.subscribers.size;
+    size = ap (λ (ws : List ℕ). length ws) advanced.opened ∙ length-reopened set.rows words;
     numbers = advanced.within;
     secrets = placed.of_rows;
     kept = ap (λ (ks : List Kept). length ks) advanced.keeps ∙ length-put_all state.kept own ∙ stands.subscribers.kept;
   };
   pasts = placed.behind;
   earlier = advanced.noted early stands.earlier;
+  numbers = numbers_added set.rows early (all_lines records) (early ++ all_lines records) refl stands.numbers served.numbers;
 }
   where
     placed : ArePlaced set.rows (early ++ ([] ++ all_lines records)) new.usims
-    placed = placed_jobs set.rows early [] state.usims new.usims jobs records own apart (λ k d within sub to. refl) served.settled advanced.put
+    placed = placed_jobs set.rows early [] state.usims new.usims jobs records own apart (λ k d within bits sub to. refl) served.settled advanced.put
         (record { of_rows = stands.subscribers.secrets; behind = subst (λ (lines : List LineRecord). AreBehind set.rows lines (slice_get state.usims)) (sym (append-nil early)) stands.pasts })

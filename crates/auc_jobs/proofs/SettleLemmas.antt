@@ -1,5 +1,5 @@
 -- For a job: its lines with its own USIMs, after its worker's earlier lines.
-use Rattle.std.proofs.Common.{◌≡◌, ℕ, ◌<◌, true, List, [], ◌∷◌, ◌++◌, length, refl, sym, ◌∙◌, ap, subst, append-nil}
+use Rattle.std.proofs.Common.{◌≡◌, ℕ, ◌<◌, ◌≤◌, true, List, [], ◌∷◌, ◌++◌, length, refl, sym, ◌∙◌, ap, subst, append-nil}
 use Rattle.std.specs.Prelude.{Option, Some, None, All}
 use Rattle.std.proofs.lemmas.List.Elements.{All-append, All-nil}
 use Rattle.auc_edge.specs.declared.stop.Stop.{Stop}
@@ -8,6 +8,7 @@ use Rattle.auc_lines.specs.declared.part.Line.{Line}
 use Rattle.auc_lines.specs.declared.part.Line.TheVariants as line
 use Rattle.auc_lines.specs.Part.{holds}
 use Rattle.auc_sqn.specs.Past.{Remembers}
+use Rattle.auc_subs.specs.Subscriber.{top_at}
 use Rattle.auc_subs.specs.declared.row.Row.{Row}
 use Rattle.auc_usim.specs.Usim.{Memory}
 use Rattle.auc_world.specs.declared.record.LineRecord.{LineRecord}
@@ -44,9 +45,9 @@ pub copies_secrets : (rows : List Row) (usims : List Memory) (job : List Line) (
 copies_secrets rows usims job own are copies sub row usim at there = are.secrets sub row usim at ((copies_found usims job own sub usim copies there).1)
 
 -- what a USIM accepted by lines before a job, of which those of the round accepted nothing
-quiet_before : (sub : ℕ) (early beside : List LineRecord) → accepted sub beside ≡ [] → accepted sub ((early ++ beside) ++ []) ≡ accepted sub early
-quiet_before sub early beside quiet =
-    ap (accepted sub) (append-nil (early ++ beside)) ∙ accepted-append sub early beside ∙ ap (λ (sqns : List (List ℕ)). accepted sub early ++ sqns) quiet ∙ append-nil (accepted sub early)
+quiet_before : (bits sub : ℕ) (early beside : List LineRecord) → accepted bits sub beside ≡ [] → accepted bits sub ((early ++ beside) ++ []) ≡ accepted bits sub early
+quiet_before bits sub early beside quiet =
+    ap (accepted bits sub) (append-nil (early ++ beside)) ∙ accepted-append bits sub early beside ∙ ap (λ (sqns : List (List ℕ)). accepted bits sub early ++ sqns) quiet ∙ append-nil (accepted bits sub early)
 
 -- so its copies remember what all lines before it say
 pub begins_stands : (rows : List Row) (early beside : List LineRecord) (kept : ℕ → Option ℕ) (released : Released) (usims : List Memory) (job : List Line) (own : ℕ → Option Memory)
@@ -54,21 +55,22 @@ pub begins_stands : (rows : List Row) (early beside : List LineRecord) (kept : �
 begins_stands rows early beside kept released usims job own copies begins = record {
   told = λ sub. rw (append-nil beside) (begins.told sub);
   earlier = begins.earlier;
+  numbers = (begins.numbers, λ sub. All-nil (λ n. n ≤ top_at rows sub));
   pasts = λ sub row usim at there.
       let found = copies_found usims job own sub usim copies there in
-      subst (λ (sqns : List (List ℕ)). Remembers usim.array (past_of row.usim sqns)) (sym (quiet_before sub early beside (begins.quiet sub found.0)))
+      subst (λ (sqns : List (List ℕ)). Remembers usim.array (past_of row.bits row.usim sqns)) (sym (quiet_before row.bits sub early beside (begins.quiet row.bits sub found.0)))
       (begins.pasts sub row usim at found.1);
 }
 
 -- ---- after the job
 
 -- what a USIM accepted by the lines of a job, without those beside it
-quiet_beside : (sub : ℕ) (early beside lines : List LineRecord) → accepted sub beside ≡ [] → accepted sub ((early ++ beside) ++ lines) ≡ accepted sub (early ++ lines)
-quiet_beside sub early beside lines quiet =
-    accepted-append sub (early ++ beside) lines
-    ∙ ap (λ (sqns : List (List ℕ)). sqns ++ accepted sub lines)
-    (accepted-append sub early beside ∙ ap (λ (sqns : List (List ℕ)). accepted sub early ++ sqns) quiet ∙ append-nil (accepted sub early))
-    ∙ sym (accepted-append sub early lines)
+quiet_beside : (bits sub : ℕ) (early beside lines : List LineRecord) → accepted bits sub beside ≡ [] → accepted bits sub ((early ++ beside) ++ lines) ≡ accepted bits sub (early ++ lines)
+quiet_beside bits sub early beside lines quiet =
+    accepted-append bits sub (early ++ beside) lines
+    ∙ ap (λ (sqns : List (List ℕ)). sqns ++ accepted bits sub lines)
+    (accepted-append bits sub early beside ∙ ap (λ (sqns : List (List ℕ)). accepted bits sub early ++ sqns) quiet ∙ append-nil (accepted bits sub early))
+    ∙ sym (accepted-append bits sub early lines)
 
 -- a USIM that is there is among those of its job
 given_there : (job : List Line) (own : ℕ → Option Memory) (sub : ℕ) (usim : Memory) → has_usim own sub ≡ holds sub job → own sub ≡ Some usim → holds sub job ≡ true
@@ -76,7 +78,7 @@ given_there job own sub usim keyed there = sym keyed ∙ rw there refl
 
 -- the job's lines and its own USIMs
 pub job_settles : (goes : ℕ → List Entry → List (ℕ × Stop) → Type 0) (set : Setting) (early beside : List LineRecord) (old kept : ℕ → Option ℕ) (released : Released) (usims : List Memory) (stores : List Kept)
-    (job : List Line) (lines : List LineRecord) (copies : ℕ → Option Memory) (own : OwnDevices) → length usims ≡ length set.rows → All (IsKnownLine (length set.rows)) job → AreCopies usims job copies
+    (job : List Line) (lines : List LineRecord) (copies : ℕ → Option Memory) (own : OwnDevices) → length usims ≡ length set.rows → All (IsKnownLine set.rows) job → AreCopies usims job copies
     → ((sub : ℕ) → has_usim (usim_in own) sub ≡ has_usim copies sub) → HaveSecrets set.rows (usim_in own) → JobBegins set.rows early beside old released usims job
     → (net : Net) (sessions : JobSessions) → sessions ≡ job_sessions net → left_on own ≡ left_in net
     → ServesLines goes set early beside kept released (usim_in own) (start_of set stores job) job lines net → ServesJob goes set early beside kept stores job lines own sessions
@@ -91,14 +93,14 @@ job_settles goes set early beside old kept released usims stores job lines copie
     keyed = keyed;
     secrets = secrets;
     behind = λ sub row usim at there.
-        subst (λ (sqns : List (List ℕ)). Remembers usim.array (past_of row.usim sqns))
-        (quiet_beside sub early beside lines (begins.quiet sub (given_there job (usim_in own) sub usim (keyed sub) there))) (s.stands.pasts sub row usim at there);
-    quiet = λ sub other. job_quiet set (before_at early beside []) stores job sub lines net s.given other;
+        subst (λ (sqns : List (List ℕ)). Remembers usim.array (past_of row.bits row.usim sqns))
+        (quiet_beside row.bits sub early beside lines (begins.quiet row.bits sub (given_there job (usim_in own) sub usim (keyed sub) there))) (s.stands.pasts sub row usim at there);
+    quiet = λ bits sub other. job_quiet set (before_at early beside []) stores job bits sub lines net s.given other;
   };
 }
   where
     keyed : (sub : ℕ) → has_usim (usim_in own) sub ≡ holds sub job
-    keyed sub = same sub ∙ copies_keyed (length set.rows) usims job copies sub size known are
+    keyed sub = same sub ∙ copies_keyed set.rows usims job copies sub size known are
 
 -- ---- the vectors that a job's lines release
 
@@ -114,16 +116,16 @@ requests_releasable set sub = record {
 }
 
 -- those of a line
-event_releasable : (set : Setting) (e : Event) (c : Came) → IsOwnEvent (length set.rows) (asked_in c) (number_in c) → IsReleasableLine set (Happening (record { event = e; result = c }))
+event_releasable : (set : Setting) (e : Event) (c : Came) → IsOwnEvent set.rows (asked_in c) (number_in c) → IsReleasableLine set (Happening (record { event = e; result = c }))
 event_releasable set e c own = by (asked_in c) (number_in c) own
   where
-    of_number : (s : ℕ) (o : Option NumberNote) → s < length set.rows → IsOwnNumber o → IsReleasableNumber set (number_with (Some s) o)
+    of_number : (s : ℕ) (o : Option NumberNote) → s < length set.rows → IsOwnNumber (top_at set.rows s) o → IsReleasableNumber set (number_with (Some s) o)
     of_number s None known is = tt
     of_number s (Some (number.Drew n)) known is = record { known = known; first = is.0; last = is.1 }
     of_number s (Some (number.Exhausted word)) known is = tt
     of_number s (Some (number.Withheld n stop)) known is = tt
 
-    by : (a : Option ℕ) (o : Option NumberNote) → IsOwnEvent (length set.rows) a o → IsReleasableNumber set (number_with a o)
+    by : (a : Option ℕ) (o : Option NumberNote) → IsOwnEvent set.rows a o → IsReleasableNumber set (number_with a o)
     by None o own = tt
     by (Some s) o own = of_number s o own.0 own.1
 
@@ -137,7 +139,7 @@ line_releasable set before net next (line.Plain session) lines gives = plain_lin
 line_releasable set before net next (line.Tamper packet place byte) lines gives = event_lines set (IsReleasableLine set) (event_releasable set) before net next (event.Tamper packet place byte) lines gives
 line_releasable set before net next (line.Cut packet count) lines gives = event_lines set (IsReleasableLine set) (event_releasable set) before net next (event.Cut packet count) lines gives
 line_releasable set before net next (line.Draw sub count) lines (gives, is) = draw_lines set sub (IsReleasableLine set) (requests_releasable set sub) count lines gives
-line_releasable set before net next (line.Sync sub seq bit count) lines (gives, is) = sync_lines set sub (IsReleasableLine set) (requests_releasable set sub) seq bit count lines gives
+line_releasable set before net next (line.Sync sub report count) lines (gives, is) = sync_lines set sub (IsReleasableLine set) (requests_releasable set sub) report count lines gives
 line_releasable set before net next (line.Give sub n) lines (gives, is) = give_lines set sub (IsReleasableLine set) (requests_releasable set sub) before n lines gives
 line_releasable set before net next (line.Eps sub snid) lines (gives, is) = eps_lines set sub (IsReleasableLine set) (requests_releasable set sub) snid lines gives
 line_releasable set before net next (line.Fiveg fiveg) lines (gives, is) = fiveg_lines set fiveg (IsReleasableLine set) (requests_releasable set fiveg.sub) before lines gives

@@ -85,6 +85,6 @@ module _ {C : Type 0} (kept : C → ℕ → Option ℕ) (goes : C → ℕ → Li
       (e ∙ ap (λ (ls : List LineRecord). if inside.full then vectors_in inside.set ls else []) (sym a))
 
 -- the lines of the job of a place are known
-pub known_at : (inside shared : Shared) (job : ℕ) (asked : List Line) → inside ≡ shared → IsServable shared → slice_get inside.jobs job ≡ Some asked → AreKnown (length inside.set.rows) asked
+pub known_at : (inside shared : Shared) (job : ℕ) (asked : List Line) → inside ≡ shared → IsServable shared → slice_get inside.jobs job ≡ Some asked → AreKnown inside.set.rows asked
 known_at inside shared job asked is servable there =
-    all_at (AreKnown (length inside.set.rows)) inside.jobs job asked (subst (λ (s : Shared). AreAllKnown (length s.set.rows) s.jobs) (sym is) servable.known) there
+    all_at (AreKnown inside.set.rows) inside.jobs job asked (subst (λ (s : Shared). AreAllKnown s.set.rows s.jobs) (sym is) servable.known) there

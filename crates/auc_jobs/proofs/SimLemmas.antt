@@ -13,8 +13,7 @@ use Rattle.auc_sim.specs.Session.{SimInputs, SimRuns}
 use Rattle.auc_sim.specs.Triplets.{of_vector}
 use Rattle.auc_sim.specs.declared.note.SimNote.{SimNote}
 use Rattle.auc_sim.specs.declared.parts.Triplet.{Triplet}
-use Rattle.auc_sqn.specs.Number.{max_seq}
-use Rattle.auc_subs.specs.Subscriber.{AreSubscribers, IsRow}
+use Rattle.auc_subs.specs.Subscriber.{AreSubscribers, IsRow, top_at}
 use Rattle.auc_subs.specs.declared.row.Row.{Row}
 use Rattle.auc_world.specs.Lines.{numbers_of}
 use Rattle.auc_world.specs.Setting.{Setting}
@@ -30,10 +29,10 @@ use Rattle.auc_jobs.proofs.LineLemmas.{all_at}
 -- ---- numbers
 
 -- a number that was drawn
-pub numbers_one : (number : Option ℕ) (n : ℕ) → number ≡ Some n → IfSome number (λ m. (1 ≤ m) × (m ≤ max_seq)) → All IsNumber (n ∷ [])
-numbers_one number n some within =
-    let (first, last) = subst (λ (o : Option ℕ). IfSome o (λ m. (1 ≤ m) × (m ≤ max_seq))) some within in
-    All-cons IsNumber n [] (record { first = first; last = last }) (All-nil IsNumber)
+pub numbers_one : (rows : List Row) (sub : ℕ) (number : Option ℕ) (n : ℕ) → number ≡ Some n → IfSome number (λ m. (1 ≤ m) × (m ≤ top_at rows sub)) → All (IsNumber rows sub) (n ∷ [])
+numbers_one rows sub number n some within =
+    let (first, last) = subst (λ (o : Option ℕ). IfSome o (λ m. (1 ≤ m) × (m ≤ top_at rows sub))) some within in
+    All-cons (IsNumber rows sub) n [] (record { first = first; last = last }) (All-nil (IsNumber rows sub))
 
 -- ---- triplets
 

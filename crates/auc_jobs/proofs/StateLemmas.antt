@@ -1,14 +1,14 @@
 -- For the state: the numbers of the rows, and the released ones.
-use Rattle.std.proofs.Common.{◌≡◌, ℕ, Bool, ◌+◌, ◌<◌, ◌≤◌, List, [], ◌∷◌, ◌++◌, length, map, take, refl, sym, ◌∙◌, ap, subst}
-use Rattle.std.specs.Prelude.{All, AllPairs, Some, slice_get}
+use Rattle.std.proofs.Common.{◌≡◌, ℕ, zero, suc, Bool, ◌+◌, ◌<◌, ◌≤◌, List, [], ◌∷◌, ◌++◌, length, map, take, arith, refl, sym, ◌∙◌, ap, subst}
+use Rattle.std.specs.Prelude.{AllPairs, Some, slice_get, slice_index}
 use Rattle.std.proofs.lemmas.List.{take_more, take_all, map-append, length-map}
-use Rattle.std.proofs.lemmas.List.Elements.{All-weaker, All-map}
+use Rattle.std.proofs.lemmas.List.Elements.{All-nil}
 use Rattle.std.proofs.lemmas.Option.{get_or_from_slice_get}
 use Rattle.auc_lines.specs.declared.part.Line.{Line}
 use Rattle.auc_lines.specs.Part.{AreApart}
-use Rattle.auc_sqn.specs.Number.{max_seq}
 use Rattle.auc_subs.specs.declared.row.Row.{Row}
-use Rattle.auc_subs.specs.Subscriber.{AreSubscribers, IsRow}
+use Rattle.auc_subs.specs.Subscriber.{AreSubscribers, top_at}
+use Rattle.auc_subs.proofs.Facts.{drawn_within}
 use Rattle.auc_world.specs.Setting.{Setting}
 use Rattle.auc_world.specs.Start.{Kept, fresh_kept}
 use Rattle.auc_world.specs.declared.record.LineRecord.{LineRecord}
@@ -16,6 +16,7 @@ use Rattle.auc_jobs.specs.Usims.{AreOfRows, AreBehind}
 use Rattle.auc_jobs.specs.InnerSharing.{Shared, Begins, IsServable}
 use Rattle.auc_jobs.specs.Serving.{AreAllKnown}
 use Rattle.auc_jobs.specs.State.{Standing, StandsAt}
+use Rattle.auc_jobs.proofs.LineLemmas.{some_at}
 
 -- the numbers of the first rows and of one more
 pub map-take_more : (rows : List Row) (sub : ℕ) (row : Row) (words : List ℕ) → words ≡ map (λ row. row.seq) (take sub rows)
@@ -25,38 +26,52 @@ map-take_more rows sub row words so_far here inside =
     ∙ sym (ap (map (λ (r : Row). r.seq)) (take_more rows sub row inside ∙ ap (λ (r : Row). take sub rows ++ r ∷ []) (get_or_from_slice_get rows sub row row here))
     ∙ map-append (λ (r : Row). r.seq) (take sub rows) (row ∷ []))
 
--- the rows' numbers are at most the greatest
-pub first_within : (rows : List Row) → AreSubscribers rows → All (λ number. number ≤ max_seq) (map (λ row. row.seq) rows)
-first_within rows subscribers = All-map (λ n. n ≤ max_seq) (λ (row : Row). row.seq) rows (All-weaker IsRow (λ row. row.seq ≤ max_seq) (λ row is. is.drawn) rows subscribers.each)
+-- the rows' numbers are at most the greatest of their subscribers
+pub first_within : (rows : List Row) (sub : ℕ) → AreSubscribers rows → sub < length rows → slice_index (map (λ row. row.seq) rows) sub ≤ top_at rows sub
+first_within rows sub subscribers inside =
+    let (row, here) = some_at rows sub inside in
+    let low = drawn_within rows subscribers sub row here in
+    let same : slice_index (map (λ (r : Row). r.seq) rows) sub ≡ row.seq = at rows sub row here in
+    omega (arith, low, same)
+  where
+    at : (rs : List Row) (place : ℕ) (row : Row) → slice_get rs place ≡ Some row → slice_index (map (λ (r : Row). r.seq) rs) place ≡ row.seq
+    at [] place row here = let no : ⊥ = cc in absurd no
+    at (first ∷ rs) zero row here = ap (λ (r : Row). r.seq) (one first row here)
+      where
+        one : (a b : Row) → Some a ≡ Some b → a ≡ b
+        one a b e = cc
+    at (first ∷ rs) (suc place) row here = at rs place row here
 
-pub words_within : (rows : List Row) (words : List ℕ) (sub : ℕ) → AreSubscribers rows → words ≡ map (λ row. row.seq) (take sub rows) → length rows ≤ sub
-    → All (λ number. number ≤ max_seq) words
-words_within rows words sub subscribers is all =
-    subst (λ (ws : List ℕ). All (λ number. number ≤ max_seq) ws) (sym (is ∙ ap (map (λ (r : Row). r.seq)) (take_all sub rows all))) (first_within rows subscribers)
+pub words_within : (rows : List Row) (words : List ℕ) (count : ℕ) → AreSubscribers rows → words ≡ map (λ row. row.seq) (take count rows) → length rows ≤ count
+    → (sub : ℕ) → sub < length rows → slice_index words sub ≤ top_at rows sub
+words_within rows words count subscribers is all sub inside =
+    subst (λ (ws : List ℕ). slice_index ws sub ≤ top_at rows sub) (sym (is ∙ ap (map (λ (r : Row). r.seq)) (take_all count rows all))) (first_within rows sub subscribers inside)
 
 -- the state before the first round
 pub stands_first : (rows : List Row) (set : Setting) (state : Standing) → set.rows ≡ rows → state.words ≡ map (λ row. row.seq) rows
-    → All (λ word. word ≤ max_seq) state.words → AreOfRows rows state.usims → state.kept ≡ map (λ row. fresh_kept) rows → AreBehind rows [] (slice_get state.usims) → state.released ≡ [] → StandsAt set [] state
+    → ((sub : ℕ) → sub < length rows → slice_index state.words sub ≤ top_at rows sub) → AreOfRows rows state.usims → state.kept ≡ map (λ row. fresh_kept) rows → AreBehind rows [] (slice_get state.usims) → state.released ≡ [] → StandsAt set [] state
 stands_first rows set state is words within of_rows fresh behind none = record {
   subscribers = record {
     size = ap (λ (ws : List ℕ). length ws) words ∙ length-map rows (λ (row : Row). row.seq) ∙ ap (λ (rs : List Row). length rs) (sym is);
-    numbers = within;
+    numbers = rw is within;
     secrets = rw is of_rows;
     kept = ap (λ (ks : List Kept). length ks) fresh ∙ length-map rows (λ (row : Row). fresh_kept) ∙ ap (λ (rs : List Row). length rs) (sym is);
   };
   pasts = rw is behind;
   earlier = λ sub n. rw none refl;
+  numbers = λ sub. All-nil (λ n. n ≤ top_at set.rows sub);
 }
 
 -- at other words it still stands after the same lines
-pub stands_opened : (inside old : Standing) (words : List ℕ) → inside ≡ old → length words ≡ length old.words → All (λ word. word ≤ max_seq) words
-    → (set : Setting) (early : List LineRecord) → StandsAt set early old → StandsAt set early (record { words = words; usims = inside.usims; kept = inside.kept; released = inside.released })
-stands_opened inside old words same size within set early stands =
+pub stands_opened : (inside old : Standing) (words : List ℕ) → inside ≡ old → length words ≡ length old.words
+    → (set : Setting) (early : List LineRecord) → ((sub : ℕ) → sub < length set.rows → slice_index words sub ≤ top_at set.rows sub) → StandsAt set early old → StandsAt set early (record { words = words; usims = inside.usims; kept = inside.kept; released = inside.released })
+stands_opened inside old words same size set early within stands =
     let s : StandsAt set early inside = subst (StandsAt set early) (sym same) stands in
     record {
       subscribers = record { size = size ∙ stands.subscribers.size; numbers = within; secrets = s.subscribers.secrets; kept = s.subscribers.kept };
       pasts = s.pasts;
       earlier = s.earlier;
+      numbers = s.numbers;
     }
 
 -- ---- a round's beginning
@@ -67,7 +82,7 @@ beginning set state jobs full = record { set = set; released = state.released; u
 
 -- its jobs can be served
 pub servable : (set : Setting) (state : Standing) (jobs : List (List Line)) (full : Bool) (shared : Shared) → shared ≡ beginning set state jobs full
-    → ((early : List LineRecord) × StandsAt set early state) → AreAllKnown (length set.rows) jobs → length jobs ≤ 200000 → AllPairs AreApart jobs → AreSubscribers set.rows → length set.realm ≤ 255 → IsServable shared
+    → ((early : List LineRecord) × StandsAt set early state) → AreAllKnown set.rows jobs → length jobs ≤ 200000 → AllPairs AreApart jobs → AreSubscribers set.rows → length set.realm ≤ 255 → IsServable shared
 servable set state jobs full shared is (early, stands) known few apart subscribers realm =
     subst IsServable (sym is) (record {
       rows = stands.subscribers.secrets;
@@ -77,17 +92,22 @@ servable set state jobs full shared is (early, stands) known few apart subscribe
       few = few;
       known = known;
       apart = apart;
-      begins = (early, record { earlier = stands.earlier; pasts = stands.pasts });
+      begins = (early, record { earlier = stands.earlier; numbers = stands.numbers; pasts = stands.pasts });
     })
 
 -- it begins after the lines of the earlier rounds
 pub begins_with : (set : Setting) (early : List LineRecord) (state : Standing) (jobs : List (List Line)) (full : Bool) (shared : Shared) → shared ≡ beginning set state jobs full
     → StandsAt set early state → Begins shared early
-begins_with set early state jobs full shared is stands = subst (λ (s : Shared). Begins s early) (sym is) (record { earlier = stands.earlier; pasts = stands.pasts })
+begins_with set early state jobs full shared is stands = subst (λ (s : Shared). Begins s early) (sym is) (record { earlier = stands.earlier; numbers = stands.numbers; pasts = stands.pasts })
 
 -- a book can be opened at its words
 pub openings_fit : (set : Setting) (state : Standing) (words : List ℕ) → words ≡ state.words → length set.rows ≤ 65536 → ((early : List LineRecord) × StandsAt set early state)
-    → (length words ≡ length set.rows) × (length words ≤ 65536) × All (λ number. number ≤ max_seq) words
+    → (length words ≡ length set.rows) × (length words ≤ 65536)
 openings_fit set state words is limit (early, stands) =
-    subst (λ (ws : List ℕ). (length ws ≡ length set.rows) × (length ws ≤ 65536) × All (λ number. number ≤ max_seq) ws) (sym is)
-    (stands.subscribers.size, subst (λ (n : ℕ). n ≤ 65536) (sym stands.subscribers.size) limit, stands.subscribers.numbers)
+    subst (λ (ws : List ℕ). (length ws ≡ length set.rows) × (length ws ≤ 65536)) (sym is)
+    (stands.subscribers.size, subst (λ (n : ℕ). n ≤ 65536) (sym stands.subscribers.size) limit)
+
+pub numbers_fit : (set : Setting) (state : Standing) (words : List ℕ) → words ≡ state.words → ((early : List LineRecord) × StandsAt set early state)
+    → (sub : ℕ) → sub < length set.rows → slice_index words sub ≤ top_at set.rows sub
+numbers_fit set state words is (early, stands) =
+    subst (λ (ws : List ℕ). (sub : ℕ) → sub < length set.rows → slice_index ws sub ≤ top_at set.rows sub) (sym is) stands.subscribers.numbers

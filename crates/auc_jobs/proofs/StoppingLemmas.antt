@@ -1,5 +1,5 @@
 -- For a round with a journal: the stop that its lines tell, and the number that they withhold for it.
-use Rattle.std.proofs.Common.{◌≡◌, ◌⊎◌, ℕ, zero, suc, ◌<◌, ◌==◌, Bool, true, false, List, [], ◌∷◌, ◌++◌, map, All, Contains, arith, refl, sym, ap, ◌∙◌, subst, inl, inr, eq-eqb}
+use Rattle.std.proofs.Common.{◌≡◌, ◌⊎◌, ℕ, zero, suc, ◌<◌, ◌==◌, Bool, true, false, List, [], ◌∷◌, ◌++◌, length, map, All, Contains, arith, refl, sym, ap, ◌∙◌, subst, inl, inr, eq-eqb}
 use Rattle.std.specs.Prelude.{◌↔◌, ◌||◌, Option, Some, None, if◌then◌else◌}
 use Rattle.std.specs.List.{list_any}
 use Rattle.std.proofs.lemmas.Grind.{flat_map-append}
@@ -12,6 +12,7 @@ use Rattle.auc_history.specs.declared.entry.Entry.TheVariants.{Drawn}
 use Rattle.auc_history.specs.History.{drawn, drawn_by}
 use Rattle.auc_history.specs.Split.{all_entries}
 use Rattle.auc_lines.specs.Part.{is_that}
+use Rattle.auc_subs.specs.declared.row.Row.{Row}
 use Rattle.auc_vector.specs.Notes.{withheld_noted}
 use Rattle.auc_vector.specs.declared.notes.NumberNote.{NumberNote}
 use Rattle.auc_vector.specs.declared.notes.NumberNote.TheVariants as number
@@ -72,46 +73,46 @@ abbrev Has : List (ℕ × Stop) → ℕ → Stop → Type 0
 Has held n stop = Contains held (n, stop)
 
 -- if one does, a number of a subscriber is withheld
-abbrev Holds : ℕ → List LineRecord → Type 0
-Holds count lines = (sub : ℕ) × (sub < count) × (number : ℕ) × (stop : Stop) × Has (held_of sub lines) number stop
+abbrev Holds : List Row → List LineRecord → Type 0
+Holds rows lines = (sub : ℕ) × (sub < length rows) × (number : ℕ) × (stop : Stop) × Has (held_of sub lines) number stop
 
-abbrev HoldsOne : ℕ → LineRecord → Type 0
-HoldsOne count line = (sub : ℕ) × (sub < count) × (number : ℕ) × (stop : Stop) × Has (held_by sub line) number stop
+abbrev HoldsOne : List Row → LineRecord → Type 0
+HoldsOne rows line = (sub : ℕ) × (sub < length rows) × (number : ℕ) × (stop : Stop) × Has (held_by sub line) number stop
 
-abbrev HoldsNote : ℕ → Option ℕ → Option NumberNote → Type 0
-HoldsNote count a note = (sub : ℕ) × (sub < count) × (number : ℕ) × (stop : Stop) × Has (withheld_noted (if is_that sub a then note else None)) number stop
+abbrev HoldsNote : List Row → Option ℕ → Option NumberNote → Type 0
+HoldsNote rows a note = (sub : ℕ) × (sub < length rows) × (number : ℕ) × (stop : Stop) × Has (withheld_noted (if is_that sub a then note else None)) number stop
 
 one : (n : ℕ) (stop : Stop) → Has ((n, stop) ∷ []) n stop
 one n stop = (0, omega arith, refl)
 
-line_holds : (count : ℕ) (line : LineRecord) → IsOwn count line → withholds line ≡ true → HoldsOne count line
-line_holds count (Vector s n) own some = cc
-line_holds count (Withheld s n stop) own some =
+line_holds : (rows : List Row) (line : LineRecord) → IsOwn rows line → withholds line ≡ true → HoldsOne rows line
+line_holds rows (Vector s n) own some = cc
+line_holds rows (Withheld s n stop) own some =
     (s, own, n, stop, subst (λ (b : Bool). Has (if b then (n, stop) ∷ [] else []) n stop) (sym (eq-eqb s s refl)) (one n stop))
-line_holds count (Exhausted s word) own some = cc
-line_holds count (Sync s answer) own some = cc
-line_holds count (Give s n answer) own some = cc
-line_holds count (Further said) own some = cc
-line_holds count (Happening r) own some = of_event (asked_in r.result) (number_in r.result) own some
+line_holds rows (Exhausted s word) own some = cc
+line_holds rows (Sync s answer) own some = cc
+line_holds rows (Give s n answer) own some = cc
+line_holds rows (Further said) own some = cc
+line_holds rows (Happening r) own some = of_event (asked_in r.result) (number_in r.result) own some
   where
-    of_number : (s : ℕ) → s < count → (note : Option NumberNote) → is_withheld note ≡ true → HoldsNote count (Some s) note
+    of_number : (s : ℕ) → s < length rows → (note : Option NumberNote) → is_withheld note ≡ true → HoldsNote rows (Some s) note
     of_number s known None some = cc
     of_number s known (Some (number.Drew n)) some = cc
     of_number s known (Some (number.Exhausted word)) some = cc
     of_number s known (Some (number.Withheld n stop)) some =
         (s, known, n, stop, subst (λ (b : Bool). Has (withheld_noted (if b then Some (number.Withheld n stop) else None)) n stop) (sym (eq-eqb s s refl)) (one n stop))
 
-    of_event : (a : Option ℕ) (note : Option NumberNote) → IsOwnEvent count a note → is_withheld note ≡ true → HoldsNote count a note
+    of_event : (a : Option ℕ) (note : Option NumberNote) → IsOwnEvent rows a note → is_withheld note ≡ true → HoldsNote rows a note
     of_event None said own some = let no : is_withheld said ≡ false = ap is_withheld own in let bad : ⊥ = cc in absurd bad
     of_event (Some s) said own some = of_number s own.0 said some
 
-lines_hold : (count : ℕ) (lines : List LineRecord) → All (IsOwn count) lines → list_any withholds lines ≡ true → Holds count lines
-lines_hold count [] own some = cc
-lines_hold count (line ∷ lines) own some = by (λ later. lines_hold count lines (All-tail (IsOwn count) line lines own) later) (either (withholds line) (list_any withholds lines) some)
+lines_hold : (rows : List Row) (lines : List LineRecord) → All (IsOwn rows) lines → list_any withholds lines ≡ true → Holds rows lines
+lines_hold rows [] own some = cc
+lines_hold rows (line ∷ lines) own some = by (λ later. lines_hold rows lines (All-tail (IsOwn rows) line lines own) later) (either (withholds line) (list_any withholds lines) some)
   where
-    by : (list_any withholds lines ≡ true → Holds count lines) → (withholds line ≡ true) ⊎ (list_any withholds lines ≡ true) → Holds count (line ∷ lines)
+    by : (list_any withholds lines ≡ true → Holds rows lines) → (withholds line ≡ true) ⊎ (list_any withholds lines ≡ true) → Holds rows (line ∷ lines)
     by rest (inl here) =
-        let (sub, known, n, stop, has) = line_holds count line (All-head (IsOwn count) line lines own) here in
+        let (sub, known, n, stop, has) = line_holds rows line (All-head (IsOwn rows) line lines own) here in
         (sub, known, n, stop, Contains-append_left (held_by sub line) (held_of sub lines) (n, stop) has)
     by rest (inr later) =
         let (sub, known, n, stop, has) = rest later in
@@ -150,13 +151,13 @@ full_told (Some Fault) records told = told
 full_told (Some Full) records told = refl
 
 -- and only if a number is withheld for it
-pub full_holds : (stop : Option Stop) (count : ℕ) (records : List (List LineRecord)) (limit : ℕ → ℕ) → All (IsOwn count) (all_lines records)
-    → ((sub : ℕ) → sub < count → AreLimited sub (limit sub) stop (all_lines records)) → told_stop stop records ≡ Some Full → HoldsFull count (all_lines records)
-full_holds None count records limit own limited told = let bad : ⊥ = cc in absurd bad
-full_holds (Some Fault) count records limit own limited told = let bad : ⊥ = cc in absurd bad
-full_holds (Some Full) count records limit own limited told =
+pub full_holds : (stop : Option Stop) (rows : List Row) (records : List (List LineRecord)) (limit : ℕ → ℕ) → All (IsOwn rows) (all_lines records)
+    → ((sub : ℕ) → sub < length rows → AreLimited sub (limit sub) stop (all_lines records)) → told_stop stop records ≡ Some Full → HoldsFull (length rows) (all_lines records)
+full_holds None rows records limit own limited told = let bad : ⊥ = cc in absurd bad
+full_holds (Some Fault) rows records limit own limited told = let bad : ⊥ = cc in absurd bad
+full_holds (Some Full) rows records limit own limited told =
     let some = tells (list_any (list_any withholds) records) told in
-    let (sub, known, n, stop, has) = lines_hold count (all_lines records) own (sym (any_line records) ∙ some) in
+    let (sub, known, n, stop, has) = lines_hold rows (all_lines records) own (sym (any_line records) ∙ some) in
     let cause = All-contains (λ held. (limit sub < held.0) × (Some Full ≡ Some held.1)) (held_of sub (all_lines records)) (n, stop) (limited sub known).withholds has in
     (sub, known, n, subst (λ (s : Stop). Contains (held_of sub (all_lines records)) (n, s)) (same stop Full cause.1) has)
   where

@@ -33,19 +33,21 @@ use Rattle.auc_jobs.specs.declared.giving.UsimKeys.{UsimKeys}
 use Rattle.auc_jobs.specs.InnerServing.{Adds, AreTold, GivesVerdict, IsNext}
 use Rattle.auc_jobs.specs.InnerUsims.{usim_keys, verdict_by}
 use Rattle.auc_jobs.proofs.DrawingLemmas.{next_ends, next_then}
+use Rattle.auc_jobs.proofs.JobLemmas.{no_numbers}
 use Rattle.auc_jobs.proofs.SayingLemmas.{say_one, told_quiet}
 
 -- ---- what follows from a vector
 
 -- its line asks nothing of the centre
-pub further_adds : (goes : ℕ → List Entry → List (ℕ × Stop) → Type 0) (kept : ℕ → Option ℕ) (beside old new : List LineRecord) (said : Said) → ((i : ℕ) → goes i [] [])
-    → AreTold kept (beside ++ old) → new ≡ old ++ Further said ∷ [] → Adds goes kept beside old new (λ lines. lines ≡ Further said ∷ [])
-further_adds goes kept beside old new said stays told pushed = record {
+pub further_adds : (goes : ℕ → List Entry → List (ℕ × Stop) → Type 0) (rows : List Row) (kept : ℕ → Option ℕ) (beside old new : List LineRecord) (said : Said) → ((i : ℕ) → goes i [] [])
+    → AreTold kept (beside ++ old) → new ≡ old ++ Further said ∷ [] → Adds goes rows kept beside old new (λ lines. lines ≡ Further said ∷ [])
+further_adds goes rows kept beside old new said stays told pushed = record {
   lines = Further said ∷ [];
   added = pushed;
   given = refl;
   said = say_one goes kept (beside ++ old) (Further said) (record { made = stays; told = λ i. told_quiet i (kept i) (beside ++ old) (Further said) (λ word. refl) (told i) });
-  quiet = λ i. refl;
+  quiet = λ bits i. refl;
+  numbers = no_numbers rows (Further said) (λ i. refl);
 }
 
 -- ---- EPS

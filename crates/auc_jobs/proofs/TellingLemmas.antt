@@ -14,7 +14,8 @@ use Rattle.auc_history.specs.Split.{times}
 use Rattle.auc_history.proofs.Facts.{AllPairs-head, AllPairs-tail, times-append, times-cons, times_at}
 use Rattle.auc_lines.specs.declared.part.Line.{Line}
 use Rattle.auc_lines.specs.declared.part.Line.TheVariants as asked
-use Rattle.auc_sqn.specs.Number.{max_seq}
+use Rattle.auc_subs.specs.Subscriber.{top_at}
+use Rattle.auc_subs.specs.declared.row.Row.{Row}
 use Rattle.auc_world.specs.declared.record.LineRecord.{LineRecord}
 use Rattle.auc_world.specs.declared.record.LineRecord.TheVariants.{Vector, Withheld, Exhausted, Sync, Give, Further, Event as Happening}
 use Rattle.auc_lines.specs.Part.{is_that}
@@ -53,18 +54,18 @@ all_last front back whole is = λ k d within.
 
 -- ---- what the lines of a job name
 
--- a line names one of so many subscribers, and the number of a vector is one
-abbrev pub IsOwn : ℕ → LineRecord → Type 0
-IsOwn count (Vector s n) = (s < count) × (n ≤ max_seq)
-IsOwn count (Withheld s n stop) = s < count
-IsOwn count (Exhausted s word) = Unit {0}
-IsOwn count (Sync s answer) = Unit {0}
-IsOwn count (Give s n answer) = Unit {0}
-IsOwn count (Further said) = Unit {0}
-IsOwn count (Happening r) = IsOwnEvent count (asked_in r.result) (number_in r.result)
+-- a line names the subscriber of a row, and the number of a vector is one of the subscriber's
+abbrev pub IsOwn : List Row → LineRecord → Type 0
+IsOwn rows (Vector s n) = (s < length rows) × (n ≤ top_at rows s)
+IsOwn rows (Withheld s n stop) = s < length rows
+IsOwn rows (Exhausted s word) = Unit {0}
+IsOwn rows (Sync s answer) = Unit {0}
+IsOwn rows (Give s n answer) = Unit {0}
+IsOwn rows (Further said) = Unit {0}
+IsOwn rows (Happening r) = IsOwnEvent rows (asked_in r.result) (number_in r.result)
 
 -- the lines of a subscriber's requests
-requests_own : (set : Setting) (sub : ℕ) → sub < length set.rows → AreSo set sub (IsOwn (length set.rows))
+requests_own : (set : Setting) (sub : ℕ) → sub < length set.rows → AreSo set sub (IsOwn set.rows)
 requests_own set sub known = record {
   vector = λ n is. (known, is.last);
   withheld = λ n stop. known;
@@ -75,72 +76,80 @@ requests_own set sub known = record {
 }
 
 -- those of a line
-line_own : (set : Setting) (before : Before) (net next : Net) (line : Line) (lines : List LineRecord) → IsKnownLine (length set.rows) line → LineGives set before net line lines next → All (IsOwn (length set.rows)) lines
-line_own set before net next (asked.Draw sub count) lines known (gives, is) = draw_lines set sub (IsOwn (length set.rows)) (requests_own set sub known) count lines gives
-line_own set before net next (asked.Sync sub seq bit count) lines known (gives, is) = sync_lines set sub (IsOwn (length set.rows)) (requests_own set sub known.0) seq bit count lines gives
-line_own set before net next (asked.Give sub n) lines known (gives, is) = give_lines set sub (IsOwn (length set.rows)) (requests_own set sub known.0) before n lines gives
-line_own set before net next (asked.Eps sub snid) lines known (gives, is) = eps_lines set sub (IsOwn (length set.rows)) (requests_own set sub known) snid lines gives
-line_own set before net next (asked.Fiveg fiveg) lines known (gives, is) = fiveg_lines set fiveg (IsOwn (length set.rows)) (requests_own set fiveg.sub known.sub) before lines gives
-line_own set before net next (asked.Sites sites) lines known (gives, is) = sites_lines set sites (IsOwn (length set.rows)) (requests_own set sites.sub known.0) lines gives
-line_own set before net next (asked.Sim sim) lines known (gives, is) = sim_lines set sim (IsOwn (length set.rows)) (requests_own set sim.sub known.0) lines gives
-line_own set before net next (asked.Session opened) lines known gives = event_lines set (IsOwn (length set.rows)) (λ e c own. own) before net next (event.Open opened) lines gives
-line_own set before net next (asked.Start session) lines known gives = event_lines set (IsOwn (length set.rows)) (λ e c own. own) before net next (event.Start session) lines gives
-line_own set before net next (asked.Deliver session at' packet) lines known gives = event_lines set (IsOwn (length set.rows)) (λ e c own. own) before net next (event.Deliver session at' packet) lines gives
-line_own set before net next (asked.Repeat session) lines known gives = event_lines set (IsOwn (length set.rows)) (λ e c own. own) before net next (event.Repeat session) lines gives
-line_own set before net next (asked.GiveUp session at') lines known gives = event_lines set (IsOwn (length set.rows)) (λ e c own. own) before net next (event.GiveUp session at') lines gives
-line_own set before net next (asked.Plain session) lines known gives = plain_lines set (IsOwn (length set.rows)) (λ e c own. own) before net next session lines gives
-line_own set before net next (asked.Tamper packet place byte) lines known gives = event_lines set (IsOwn (length set.rows)) (λ e c own. own) before net next (event.Tamper packet place byte) lines gives
-line_own set before net next (asked.Cut packet count) lines known gives = event_lines set (IsOwn (length set.rows)) (λ e c own. own) before net next (event.Cut packet count) lines gives
+line_own : (set : Setting) (before : Before) (net next : Net) (line : Line) (lines : List LineRecord) → IsKnownLine set.rows line → LineGives set before net line lines next → All (IsOwn set.rows) lines
+line_own set before net next (asked.Draw sub count) lines known (gives, is) = draw_lines set sub (IsOwn set.rows) (requests_own set sub known) count lines gives
+line_own set before net next (asked.Sync sub report count) lines known (gives, is) = sync_lines set sub (IsOwn set.rows) (requests_own set sub known.0) report count lines gives
+line_own set before net next (asked.Give sub n) lines known (gives, is) = give_lines set sub (IsOwn set.rows) (requests_own set sub known.0) before n lines gives
+line_own set before net next (asked.Eps sub snid) lines known (gives, is) = eps_lines set sub (IsOwn set.rows) (requests_own set sub known) snid lines gives
+line_own set before net next (asked.Fiveg fiveg) lines known (gives, is) = fiveg_lines set fiveg (IsOwn set.rows) (requests_own set fiveg.sub known.sub) before lines gives
+line_own set before net next (asked.Sites sites) lines known (gives, is) = sites_lines set sites (IsOwn set.rows) (requests_own set sites.sub known.0) lines gives
+line_own set before net next (asked.Sim sim) lines known (gives, is) = sim_lines set sim (IsOwn set.rows) (requests_own set sim.sub known.0) lines gives
+line_own set before net next (asked.Session opened) lines known gives = event_lines set (IsOwn set.rows) (λ e c own. own) before net next (event.Open opened) lines gives
+line_own set before net next (asked.Start session) lines known gives = event_lines set (IsOwn set.rows) (λ e c own. own) before net next (event.Start session) lines gives
+line_own set before net next (asked.Deliver session at' packet) lines known gives = event_lines set (IsOwn set.rows) (λ e c own. own) before net next (event.Deliver session at' packet) lines gives
+line_own set before net next (asked.Repeat session) lines known gives = event_lines set (IsOwn set.rows) (λ e c own. own) before net next (event.Repeat session) lines gives
+line_own set before net next (asked.GiveUp session at') lines known gives = event_lines set (IsOwn set.rows) (λ e c own. own) before net next (event.GiveUp session at') lines gives
+line_own set before net next (asked.Plain session) lines known gives = plain_lines set (IsOwn set.rows) (λ e c own. own) before net next session lines gives
+line_own set before net next (asked.Tamper packet place byte) lines known gives = event_lines set (IsOwn set.rows) (λ e c own. own) before net next (event.Tamper packet place byte) lines gives
+line_own set before net next (asked.Cut packet count) lines known gives = event_lines set (IsOwn set.rows) (λ e c own. own) before net next (event.Cut packet count) lines gives
 
 -- and those of a job
-pub job_own : (set : Setting) (before : Before) (net last : Net) (job : List Line) (lines : List LineRecord) → AreKnown (length set.rows) job → JobGives set before net job lines last → All (IsOwn (length set.rows)) lines
-job_own set before net last [] lines known (gives, is) = subst (All (IsOwn (length set.rows))) (sym gives) (All-nil (IsOwn (length set.rows)))
+pub job_own : (set : Setting) (before : Before) (net last : Net) (job : List Line) (lines : List LineRecord) → AreKnown set.rows job → JobGives set before net job lines last → All (IsOwn set.rows) lines
+job_own set before net last [] lines known (gives, is) = subst (All (IsOwn set.rows)) (sym gives) (All-nil (IsOwn set.rows))
 job_own set before net last (line ∷ job) lines known (front, rest, next, is, here, more) =
-    subst (All (IsOwn (length set.rows))) (sym is)
-    (All-append (IsOwn (length set.rows)) front rest (line_own set before net next line front (All-head (IsKnownLine (length set.rows)) line job known) here)
-    (job_own set (behind before front) next last job rest (All-tail (IsKnownLine (length set.rows)) line job known) more))
+    subst (All (IsOwn set.rows)) (sym is)
+    (All-append (IsOwn set.rows) front rest (line_own set before net next line front (All-head (IsKnownLine set.rows) line job known) here)
+    (job_own set (behind before front) next last job rest (All-tail (IsKnownLine set.rows) line job known) more))
+
+-- a number is one of a subscriber's
+abbrev IsWithin : List Row → ℕ → ℕ → Type 0
+IsWithin rows sub n = n ≤ top_at rows sub
 
 -- the released numbers are such
-numbers_within : (count sub : ℕ) (lines : List LineRecord) → All (IsOwn count) lines → All (λ n. n ≤ max_seq) (numbers_of sub lines)
-numbers_within count sub [] own = All-nil (λ n. n ≤ max_seq)
-numbers_within count sub (line ∷ lines) own =
-    All-append (λ n. n ≤ max_seq) (released_by sub line) (numbers_of sub lines) (here line (All-head (IsOwn count) line lines own)) (numbers_within count sub lines (All-tail (IsOwn count) line lines own))
+pub numbers_within : (rows : List Row) (sub : ℕ) (lines : List LineRecord) → All (IsOwn rows) lines → All (λ n. n ≤ top_at rows sub) (numbers_of sub lines)
+numbers_within rows sub [] own = All-nil (λ n. n ≤ top_at rows sub)
+numbers_within rows sub (line ∷ lines) own =
+    All-append (IsWithin rows sub) (released_by sub line) (numbers_of sub lines) (here line (All-head (IsOwn rows) line lines own)) (numbers_within rows sub lines (All-tail (IsOwn rows) line lines own))
   where
-    by : (b : Bool) (n : ℕ) → n ≤ max_seq → All (λ m. m ≤ max_seq) (if b then n ∷ [] else [])
-    by true n low = All-cons (λ m. m ≤ max_seq) n [] low (All-nil (λ m. m ≤ max_seq))
-    by false n low = All-nil (λ m. m ≤ max_seq)
+    -- of a subscriber by which the numbers are tested
+    moved : (s n : ℕ) → (s == sub) ≡ true → n ≤ top_at rows s → n ≤ top_at rows sub
+    moved s n same low = subst (λ (k : ℕ). n ≤ top_at rows k) (eqb-true s sub same) low
 
-    of_number : (b : Bool) (o : Option NumberNote) → IsOwnNumber o → All (λ m. m ≤ max_seq) (number_released (if b then o else None))
-    of_number false o is = All-nil (λ m. m ≤ max_seq)
-    of_number true None is = All-nil (λ m. m ≤ max_seq)
-    of_number true (Some (number.Drew n)) is = All-cons (λ m. m ≤ max_seq) n [] is.1 (All-nil (λ m. m ≤ max_seq))
-    of_number true (Some (number.Exhausted word)) is = All-nil (λ m. m ≤ max_seq)
-    of_number true (Some (number.Withheld n stop)) is = All-nil (λ m. m ≤ max_seq)
+    by : (b : Bool) (s n : ℕ) → (s == sub) ≡ b → n ≤ top_at rows s → All (IsWithin rows sub) (if b then n ∷ [] else [])
+    by true s n same low = All-cons (IsWithin rows sub) n [] (moved s n same low) (All-nil (IsWithin rows sub))
+    by false s n same low = All-nil (IsWithin rows sub)
 
-    of_event : (a : Option ℕ) (o : Option NumberNote) → IsOwnEvent count a o → All (λ m. m ≤ max_seq) (number_released (if is_that sub a then o else None))
-    of_event None o is = All-nil (λ m. m ≤ max_seq)
-    of_event (Some s) o is = of_number (s == sub) o is.1
+    of_number : (b : Bool) (s : ℕ) (o : Option NumberNote) → (s == sub) ≡ b → IsOwnNumber (top_at rows s) o → All (IsWithin rows sub) (number_released (if b then o else None))
+    of_number false s o same is = All-nil (IsWithin rows sub)
+    of_number true s None same is = All-nil (IsWithin rows sub)
+    of_number true s (Some (number.Drew n)) same is = All-cons (IsWithin rows sub) n [] (moved s n same is.1) (All-nil (IsWithin rows sub))
+    of_number true s (Some (number.Exhausted word)) same is = All-nil (IsWithin rows sub)
+    of_number true s (Some (number.Withheld n stop)) same is = All-nil (IsWithin rows sub)
 
-    here : (line : LineRecord) → IsOwn count line → All (λ n. n ≤ max_seq) (released_by sub line)
-    here (Vector s n) is = by (s == sub) n is.1
-    here (Withheld s n stop) is = All-nil (λ n. n ≤ max_seq)
-    here (Exhausted s word) is = All-nil (λ n. n ≤ max_seq)
-    here (Sync s answer) is = All-nil (λ n. n ≤ max_seq)
-    here (Give s n answer) is = All-nil (λ n. n ≤ max_seq)
-    here (Further said) is = All-nil (λ n. n ≤ max_seq)
+    of_event : (a : Option ℕ) (o : Option NumberNote) → IsOwnEvent rows a o → All (IsWithin rows sub) (number_released (if is_that sub a then o else None))
+    of_event None o is = All-nil (IsWithin rows sub)
+    of_event (Some s) o is = of_number (s == sub) s o refl is.1
+
+    here : (line : LineRecord) → IsOwn rows line → All (IsWithin rows sub) (released_by sub line)
+    here (Vector s n) is = by (s == sub) s n refl is.1
+    here (Withheld s n stop) is = All-nil (IsWithin rows sub)
+    here (Exhausted s word) is = All-nil (IsWithin rows sub)
+    here (Sync s answer) is = All-nil (IsWithin rows sub)
+    here (Give s n answer) is = All-nil (IsWithin rows sub)
+    here (Further said) is = All-nil (IsWithin rows sub)
     here (Happening r) is = of_event (asked_in r.result) (number_in r.result) is
 
 -- nothing is withheld from a subscriber beyond them
-pub held_beyond : (count sub : ℕ) (lines : List LineRecord) → count ≤ sub → All (IsOwn count) lines → held_of sub lines ≡ []
-held_beyond count sub [] high own = refl
-held_beyond count sub (line ∷ lines) high own =
-    ap (λ (hs : List (ℕ × Stop)). hs ++ held_of sub lines) (here line (All-head (IsOwn count) line lines own)) ∙ held_beyond count sub lines high (All-tail (IsOwn count) line lines own)
+pub held_beyond : (rows : List Row) (sub : ℕ) (lines : List LineRecord) → length rows ≤ sub → All (IsOwn rows) lines → held_of sub lines ≡ []
+held_beyond rows sub [] high own = refl
+held_beyond rows sub (line ∷ lines) high own =
+    ap (λ (hs : List (ℕ × Stop)). hs ++ held_of sub lines) (here line (All-head (IsOwn rows) line lines own)) ∙ held_beyond rows sub lines high (All-tail (IsOwn rows) line lines own)
   where
-    of_event : (a : Option ℕ) (o : Option NumberNote) → IsOwnEvent count a o → withheld_noted (if is_that sub a then o else None) ≡ []
+    of_event : (a : Option ℕ) (o : Option NumberNote) → IsOwnEvent rows a o → withheld_noted (if is_that sub a then o else None) ≡ []
     of_event None o is = refl
     of_event (Some s) o is = rw (ne_eqb s sub (λ e. omega (arith, e, is.0, high))) refl
 
-    here : (line : LineRecord) → IsOwn count line → held_by sub line ≡ []
+    here : (line : LineRecord) → IsOwn rows line → held_by sub line ≡ []
     here (Vector s n) is = refl
     here (Withheld s n stop) is = rw (ne_eqb s sub (λ e. omega (arith, e, is, high))) refl
     here (Exhausted s word) is = refl
@@ -263,16 +272,16 @@ counts_in n numbers (k, within, at) = subst (λ (m : ℕ). 1 ≤ times m numbers
 -- ---- a job
 
 -- if each drawn number is told, each number that the lines of a job release was released
-pub job_released : (count sub : ℕ) (before lines : List LineRecord) (released : List ℕ) → All (IsOwn count) lines → IsInOrder (entries_of_lines sub before lines)
-    → All (IsTold (held_of sub lines) released) (drawn (entries_of_lines sub before lines)) → All (Contains released) (numbers_of sub lines)
-job_released count sub before lines released own ordered told = λ k d within.
+pub job_released : (rows : List Row) (sub : ℕ) (before lines : List LineRecord) (released : List ℕ) → All (IsOwn rows) lines → IsInOrder (entries_of_lines sub before lines)
+    → All (IsTold (top_at rows sub) (held_of sub lines) released) (drawn (entries_of_lines sub before lines)) → All (Contains released) (numbers_of sub lines)
+job_released rows sub before lines released own ordered told = λ k d within.
     let n = get_or (numbers_of sub lines) k d in
-    by n (numbers_within count sub lines own k d within) (All-contains_itself (numbers_of sub lines) k d within) (told_at n (drew_lines sub before lines k d within))
+    by n (numbers_within rows sub lines own k d within) (All-contains_itself (numbers_of sub lines) k d within) (told_at n (drew_lines sub before lines k d within))
   where
-    told_at : (n : ℕ) → Contains (drawn (entries_of_lines sub before lines)) n → IsTold (held_of sub lines) released n
-    told_at n (j, inside, at) = subst (IsTold (held_of sub lines) released) at (told j n inside)
+    told_at : (n : ℕ) → Contains (drawn (entries_of_lines sub before lines)) n → IsTold (top_at rows sub) (held_of sub lines) released n
+    told_at n (j, inside, at) = subst (IsTold (top_at rows sub) (held_of sub lines) released) at (told j n inside)
 
-    by : (n : ℕ) → n ≤ max_seq → Contains (numbers_of sub lines) n → IsTold (held_of sub lines) released n → Contains released n
+    by : (n : ℕ) → n ≤ top_at rows sub → Contains (numbers_of sub lines) n → IsTold (top_at rows sub) (held_of sub lines) released n → Contains released n
     by n low here (inl high) = absurd (omega (arith, low, high))
     by n low here (inr (inr there)) = there
     by n low here (inr (inl held)) =

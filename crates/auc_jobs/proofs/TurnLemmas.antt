@@ -1,11 +1,11 @@
 -- For a worker: what it claimed and served, job by job.
-use Rattle.std.proofs.Common.{◌≡◌, ℕ, zero, suc, ◌+◌, ◌<◌, ◌≤◌, Bool, true, false, List, [], ◌∷◌, ◌++◌, length, get_or, map, All, AllPairs, Any, Contains, Option, Some, None, flat_map, slice_get, arith, refl, sym, ap, ◌∙◌, subst, inl, inr, append-nil, append_assoc}
+use Rattle.std.proofs.Common.{◌≡◌, ℕ, zero, suc, ◌+◌, ◌<◌, ◌≤◌, Bool, true, false, List, [], ◌∷◌, ◌++◌, length, get_or, map, All, AllPairs, Any, Contains, Option, Some, None, flat_map, slice_get, slice_index, arith, refl, sym, ap, ◌∙◌, subst, inl, inr, append-nil, append_assoc}
 use Rattle.std.proofs.lemmas.Grind.{flat_map-append}
 use Rattle.std.proofs.lemmas.List.{length-append, map-append}
 use Rattle.std.proofs.lemmas.List.Elements.{All-cons, All-head, All-nil, All-push, All-tail}
 use Rattle.std.proofs.lemmas.List.Quantifiers.{all_pairs_push}
 use Rattle.std.proofs.lemmas.Option.{get_or_from_slice_get}
-use Rattle.auc_centre.specs.Adds.{Adds}
+use Rattle.auc_centre.specs.Adds.{Adds, IsTold as IsNumberTold, kept_by}
 use Rattle.auc_draw.specs.declared.rule.Deed.{Deed}
 use Rattle.auc_draw.specs.declared.rule.Deed.TheVariants.{Claimed}
 use Rattle.auc_draw.specs.Deeds.{entries_of, claims_of, kept_word, kept_of, released_in, released_of, held_by as pass_held_by, held_of as pass_held}
@@ -13,10 +13,12 @@ use Rattle.auc_draw.specs.Pass.{ClaimsJob, EndsClaims}
 use Rattle.auc_draw.specs.Values.{PassValue}
 use Rattle.auc_draw.proofs.Facts.{claims_more, entries_claimed}
 use Rattle.auc_history.specs.declared.entry.Entry.{Entry}
-use Rattle.auc_history.specs.History.{IsInOrder}
+use Rattle.auc_history.specs.History.{IsInOrder, drawn}
 use Rattle.auc_history.proofs.Facts.{AllPairs-head, AllPairs-tail}
 use Rattle.auc_lines.specs.declared.part.Line.{Line}
 use Rattle.auc_lines.specs.Part.{AreApart, holds}
+use Rattle.auc_subs.specs.Subscriber.{tops_of}
+use Rattle.auc_world.specs.Entries.{entries_of_lines}
 use Rattle.auc_world.specs.declared.record.LineRecord.{LineRecord}
 use Rattle.auc_world.specs.Lines.{accepted, held_of, numbers_of}
 use Rattle.auc_world.specs.Start.{start_of}
@@ -93,7 +95,7 @@ between_first shared early pass done deeds ended none begins =
         settled = All-nil (IsSettledAt shared early);
         printed = All-nil (λ (c : ClaimedJob). IsPrinted shared c.served);
       };
-      told = λ sub. told_none sub (kept_of pass.deeds sub) (ap (λ (ds : List Deed). kept_of ds sub) deeds);
+      told = λ sub. told_none sub (kept_by pass sub) (ap (λ (ds : List Deed). kept_of (slice_index pass.tops sub) ds sub) deeds);
       earlier = begins;
     })
 
@@ -105,21 +107,23 @@ apart_at jobs i j a b apart below within at_i at_j =
     subst (λ (x : List Line). AreApart x b) (get_or_from_slice_get jobs i a a at_i) (subst (λ (y : List Line). AreApart (get_or jobs i a) y) (get_or_from_slice_get jobs j b a at_j) (apart i j a below within))
 
 -- by the lines of a worker's earlier jobs the USIMs of a later one accepted nothing
-quiet_turns : (shared : Shared) (early earlier : List LineRecord) (done : List ClaimedJob) (job sub : ℕ) (asked : List Line) → AllPairs AreApart shared.jobs → job < length shared.jobs
-    → slice_get shared.jobs job ≡ Some asked → holds sub asked ≡ true → All (λ c. c.job < job) done → All (IsGiven shared early) (turns earlier done) → accepted sub (lines_done done) ≡ []
-quiet_turns shared early earlier [] job sub asked apart within at gives below given = refl
-quiet_turns shared early earlier (c ∷ done) job sub asked apart within at gives below given =
+quiet_turns : (shared : Shared) (early earlier : List LineRecord) (done : List ClaimedJob) (job bits sub : ℕ) (asked : List Line) → AllPairs AreApart shared.jobs → job < length shared.jobs
+    → slice_get shared.jobs job ≡ Some asked → holds sub asked ≡ true → All (λ c. c.job < job) done → All (IsGiven shared early) (turns earlier done) → accepted bits sub (lines_done done) ≡ []
+quiet_turns shared early earlier [] job bits sub asked apart within at gives below given = refl
+quiet_turns shared early earlier (c ∷ done) job bits sub asked apart within at gives below given =
     let t : Turn = record { earlier = earlier; claimed = c } in
     let here = All-head (IsGiven shared early) t (turns (earlier ++ c.served.lines) done) given in
-    accepted-append sub c.served.lines (lines_done done)
-    ∙ ap (λ (ns : List (List ℕ)). ns ++ accepted sub (lines_done done)) (job_quiet shared.set (before_at early earlier []) shared.stores here.asked sub c.served.lines here.net here.given
+    accepted-append bits sub c.served.lines (lines_done done)
+    ∙ ap (λ (ns : List (List ℕ)). ns ++ accepted bits sub (lines_done done)) (job_quiet shared.set (before_at early earlier []) shared.stores here.asked bits sub c.served.lines here.net here.given
     (not_given sub here.asked asked (apart_at shared.jobs c.job job here.asked asked apart (All-head (λ b. b.job < job) c done below) within here.there at) gives))
-    ∙ quiet_turns shared early (earlier ++ c.served.lines) done job sub asked apart within at gives (All-tail (λ b. b.job < job) c done below)
+    ∙ quiet_turns shared early (earlier ++ c.served.lines) done job bits sub asked apart within at gives (All-tail (λ b. b.job < job) c done below)
     (All-tail (IsGiven shared early) t (turns (earlier ++ c.served.lines) done) given)
 
 -- a claim leaves the words that the pass keeps
-kept_claimed : (n : ℕ) (old new : List Deed) → new ≡ old ++ Claimed n ∷ [] → (sub : ℕ) → kept_of new sub ≡ kept_of old sub
-kept_claimed n old new is sub = ap kept_word (ap (entries_of sub) is ∙ entries_claimed sub n old)
+kept_claimed : (n : ℕ) (old new : PassValue) → new.deeds ≡ old.deeds ++ Claimed n ∷ [] → new.tops ≡ old.tops → (sub : ℕ) → kept_by new sub ≡ kept_by old sub
+kept_claimed n old new is same sub =
+    ap (λ (ts : List ℕ). kept_of (slice_index ts sub) new.deeds sub) same
+    ∙ ap (kept_word (slice_index old.tops sub)) (ap (entries_of sub) is ∙ entries_claimed sub n old.deeds)
 
 -- what is told by the words that a pass keeps
 told_same : (old kept : ℕ → Option ℕ) (lines : List LineRecord) → ((sub : ℕ) → kept sub ≡ old sub) → AreTold old lines → AreTold kept lines
@@ -138,13 +142,14 @@ claims_below shared early old mid done job claim served =
 
 -- so the claimed job can begin
 pub claimed_begins : (shared : Shared) (early : List LineRecord) (old mid : PassValue) (done : List ClaimedJob) (job : ℕ) → AllPairs AreApart shared.jobs → ClaimsJob (length shared.jobs) old mid (Some job)
-    → IsBetween shared early old done → BeginsAt shared early (lines_done done) (kept_of mid.deeds) job
-claimed_begins shared early old mid done job apart claim between = record {
+    → mid.tops ≡ old.tops → IsBetween shared early old done → BeginsAt shared early (lines_done done) (kept_by mid) job
+claimed_begins shared early old mid done job apart claim tops between = record {
   begins = λ asked there. record {
-    told = told_same (kept_of old.deeds) (kept_of mid.deeds) (lines_done done) (kept_claimed job old.deeds mid.deeds claim.2) between.told;
+    told = told_same (kept_by old) (kept_by mid) (lines_done done) (kept_claimed job old mid claim.2 tops) between.told;
     earlier = between.earlier.earlier;
+    numbers = between.earlier.numbers;
     pasts = between.earlier.pasts;
-    quiet = λ sub gives. quiet_turns shared early [] done job sub asked apart claim.1 there gives (claims_below shared early old mid done job claim between.served) between.served.given;
+    quiet = λ bits sub gives. quiet_turns shared early [] done job bits sub asked apart claim.1 there gives (claims_below shared early old mid done job claim between.served) between.served.given;
   };
 }
 
@@ -153,15 +158,17 @@ claimed_begins shared early old mid done job apart claim between = record {
 -- what the calls of a turn say
 pub record Serves (shared : Shared) (old mid new : PassValue) (done : List ClaimedJob) (c : ClaimedJob) : Type 0 where
   pub apart : AllPairs AreApart shared.jobs
-  pub known : AreAllKnown (length shared.set.rows) shared.jobs
+  pub known : AreAllKnown shared.set.rows shared.jobs
   pub claim : ClaimsJob (length shared.jobs) old mid (Some c.job)
-  pub serves : ServesAt (λ i es ws. Adds mid i es ws new) (kept_of mid.deeds) (kept_of new.deeds) shared c.job c.served
+  pub tops : mid.tops ≡ old.tops
+  pub greatest : mid.tops ≡ tops_of shared.set.rows
+  pub serves : ServesAt (λ i es ws. Adds mid i es ws new) (kept_by mid) (kept_by new) shared c.job c.served
 
 -- the job that was served in it
 turn_served : (shared : Shared) (early : List LineRecord) (old mid new : PassValue) (done : List ClaimedJob) (c : ClaimedJob) → (s : Serves shared old mid new done c) → IsBetween shared early old done
-    → ServesJob (λ i es ws. Adds mid i es ws new) shared.set early (lines_done done) (kept_of new.deeds) shared.stores s.serves.asked c.served.lines c.served.devices c.served.sessions
+    → ServesJob (λ i es ws. Adds mid i es ws new) shared.set early (lines_done done) (kept_by new) shared.stores s.serves.asked c.served.lines c.served.devices c.served.sessions
 turn_served shared early old mid new done c s between =
-    s.serves.serves early (lines_done done) ((claimed_begins shared early old mid done c.job s.apart s.claim between).begins s.serves.asked s.serves.there)
+    s.serves.serves early (lines_done done) ((claimed_begins shared early old mid done c.job s.apart s.claim s.tops between).begins s.serves.asked s.serves.there)
 
 between_more : (shared : Shared) (early : List LineRecord) (old mid new : PassValue) (done : List ClaimedJob) (c : ClaimedJob) → Serves shared old mid new done c → IsBetween shared early old done
     → IsBetween shared early new (done ++ c ∷ [])
@@ -181,16 +188,17 @@ between_more shared early old mid new done c s between = record {
         (All-push (IsGiven shared early) (turns [] done) turn was.given (record { asked = s.serves.asked; there = s.serves.there; net = served.net; given = served.given; ends = served.ends; left = served.left }));
     released = λ sub. All-push (λ (b : ClaimedJob). All (Contains (released_of sub new.deeds)) (numbers_of sub b.served.lines)) done c
         (jobs_grown (released_in sub) (λ (b : ClaimedJob). numbers_of sub b.served.lines) old.deeds more new.deeds done grows (was.released sub))
-        (job_released (length shared.set.rows) sub (lines_done done) c.served.lines (released_of sub new.deeds)
-        (job_own shared.set (before_at early (lines_done done) []) (start_of shared.set shared.stores s.serves.asked) served.net s.serves.asked c.served.lines (all_at (AreKnown (length shared.set.rows)) shared.jobs c.job s.serves.asked s.known s.serves.there) served.given)
-        (served.made sub).ordered (served.made sub).told);
+        (job_released shared.set.rows sub (lines_done done) c.served.lines (released_of sub new.deeds)
+        (job_own shared.set (before_at early (lines_done done) []) (start_of shared.set shared.stores s.serves.asked) served.net s.serves.asked c.served.lines (all_at (AreKnown shared.set.rows) shared.jobs c.job s.serves.asked s.known s.serves.there) served.given)
+        (served.made sub).ordered
+        (subst (λ (ts : List ℕ). All (IsNumberTold (slice_index ts sub) (held_of sub c.served.lines) (released_of sub new.deeds)) (drawn (entries_of_lines sub (lines_done done) c.served.lines))) s.greatest (served.made sub).told));
     withheld = λ sub. All-push (λ (b : ClaimedJob). All (Contains (pass_held sub new.deeds)) (held_of sub b.served.lines)) done c
         (jobs_grown (pass_held_by sub) (λ (b : ClaimedJob). held_of sub b.served.lines) old.deeds more new.deeds done grows (was.withheld sub))
         (all_last (pass_held sub mid.deeds) (held_of sub c.served.lines) (pass_held sub new.deeds) (served.made sub).held);
     settled = All-push (IsSettledAt shared early) done c was.settled (record { asked = s.serves.asked; there = s.serves.there; settled = served.settled });
     printed = All-push (λ (b : ClaimedJob). IsPrinted shared b.served) done c was.printed s.serves.vectors;
   };
-  told = subst (AreTold (kept_of new.deeds)) (sym (lines_push done c)) served.told;
+  told = subst (AreTold (kept_by new)) (sym (lines_push done c)) served.told;
   earlier = between.earlier;
 }
   where
@@ -200,7 +208,7 @@ between_more shared early old mid new done c s between = record {
     was : HasServed shared early old done
     was = between.served
 
-    served : ServesJob (λ i es ws. Adds mid i es ws new) shared.set early (lines_done done) (kept_of new.deeds) shared.stores s.serves.asked c.served.lines c.served.devices c.served.sessions
+    served : ServesJob (λ i es ws. Adds mid i es ws new) shared.set early (lines_done done) (kept_by new) shared.stores s.serves.asked c.served.lines c.served.devices c.served.sessions
     served = turn_served shared early old mid new done c s between
 
     more : List Deed
@@ -225,9 +233,9 @@ turn_on shared old mid new done now c s is (early, between) = record {
 
 -- ---- no further job
 
-between_out : (shared : Shared) (early : List LineRecord) (old new : PassValue) (done : List ClaimedJob) → old.ended ≡ None → ClaimsJob (length shared.jobs) old new None → IsBetween shared early old done
+between_out : (shared : Shared) (early : List LineRecord) (old new : PassValue) (done : List ClaimedJob) → old.ended ≡ None → new.tops ≡ old.tops → ClaimsJob (length shared.jobs) old new None → IsBetween shared early old done
     → IsBetween shared early new done
-between_out shared early old new done unended claim between = record {
+between_out shared early old new done unended tops claim between = record {
   served = record {
     claims = claims_ended (length shared.jobs) claim.0 new.ended (claims_of new.deeds) (map (λ (c : ClaimedJob). c.job) done) claim.2
         (ap claims_of step ∙ claims_more claim.0 old.deeds
@@ -242,7 +250,7 @@ between_out shared early old new done unended claim between = record {
     settled = was.settled;
     printed = was.printed;
   };
-  told = told_same (kept_of old.deeds) (kept_of new.deeds) (lines_done done) (kept_claimed claim.0 old.deeds new.deeds step) between.told;
+  told = told_same (kept_by old) (kept_by new) (lines_done done) (kept_claimed claim.0 old new step tops) between.told;
   earlier = between.earlier;
 }
   where
@@ -268,9 +276,9 @@ last_claim jobs old new unended claim =
     inr (subst (λ (ks : List ℕ). Any (λ n. jobs ≤ n + 1) ks) (sym (ap claims_of (ends_claims jobs old.ended old.deeds new.deeds claim.0 unended claim.3) ∙ claims_more claim.0 old.deeds))
     (any_last (λ n. jobs ≤ n + 1) (claims_of old.deeds) claim.0 (omega (arith, claim.1))))
 
-pub turn_out : (shared : Shared) (old new : PassValue) (done : List ClaimedJob) → old.ended ≡ None → ClaimsJob (length shared.jobs) old new None → TakesTurn shared false old done new done
-turn_out shared old new done unended claim = record {
-  stands = λ early between. between_out shared early old new done unended claim between;
+pub turn_out : (shared : Shared) (old new : PassValue) (done : List ClaimedJob) → old.ended ≡ None → new.tops ≡ old.tops → ClaimsJob (length shared.jobs) old new None → TakesTurn shared false old done new done
+turn_out shared old new done unended tops claim = record {
+  stands = λ early between. between_out shared early old new done unended tops claim between;
   some = λ is. let no : ⊥ = cc in absurd no;
   none = λ is. last_claim (length shared.jobs) old new unended claim;
 }

@@ -24,7 +24,7 @@ use Rattle.auc_world.specs.Sessions.{job_sessions}
 use Rattle.auc_world.specs.Setting.{Setting}
 use Rattle.auc_world.specs.Start.{Kept, home_of, keeps_of, kept_of, start_of, subscription_at}
 use Rattle.auc_world.specs.Vectors.{IsReleasableLine}
-use Rattle.auc_world.specs.World.{WorldState, usim_of}
+use Rattle.auc_world.specs.World.{WorldState, usim_at, usim_of}
 use Rattle.auc_world.specs.declared.record.JobSessions.{JobSessions}
 use Rattle.auc_world.specs.declared.record.LineRecord.{LineRecord}
 use Rattle.auc_jobs.specs.InnerRound.{JobBegins, ServesJob}
@@ -42,11 +42,11 @@ use Rattle.auc_jobs.proofs.SettleLemmas.{begins_stands, copies_secrets, job_rele
 -- ---- the network with which a job begins
 
 -- its USIMs are copies
-pub starts_copies : (set : Setting) (usims : List Memory) (stores : List Kept) (job : List Line) (sub : ℕ) → AreSubscribers set.rows → length usims ≡ length set.rows → All (IsKnownLine (length set.rows)) job
+pub starts_copies : (set : Setting) (usims : List Memory) (stores : List Kept) (job : List Line) (sub : ℕ) → AreSubscribers set.rows → length usims ≡ length set.rows → All (IsKnownLine set.rows) job
     → usim_of set.rows (start_world set usims stores job) sub ≡ (if holds sub job then slice_get usims sub else None)
 starts_copies set usims stores job sub are size known =
-    usim_found set stores (held_subs job) (start_world set usims stores job) sub are refl (helds_known (length set.rows) job known)
-    ∙ devices_found set usims stores (held_subs job) sub size (helds_known (length set.rows) job known)
+    usim_found set stores (held_subs job) (start_world set usims stores job) sub are refl (helds_known set.rows job known)
+    ∙ devices_found set usims stores (held_subs job) sub size (helds_known set.rows job known)
     ∙ ap (λ b. if b then slice_get usims sub else None) (holds_held sub job)
 
 -- their realms aren't too long
@@ -74,7 +74,7 @@ subscriptions set usims stores (s ∷ subs) are known =
     ∙ ap (λ (ds : List Subscription). subscription_at set s ++ ds) (subscriptions set usims stores subs are (All-tail (λ (k : ℕ). k < length set.rows) s subs known))
   where
     one : (row : Row) (usim : Memory) → slice_get set.rows s ≡ Some row → slice_get usims s ≡ Some usim → map subscription_of (device_of set usims stores s) ≡ subscription_at set s
-    one row usim at there = rw (at, there) (ap (λ (k : Secret). record { imsi = row.imsi; realm = set.realm; secret = k } ∷ []) (are.secrets s row usim at there))
+    one row usim at there = rw (at, there) (ap (λ (k : Secret). record { imsi = row.imsi; realm = set.realm; secret = k } ∷ []) (are.secrets s row usim at there).secret)
 
 -- and they keep what was kept of the subscribers
 keeping : (set : Setting) (usims : List Memory) (stores : List Kept) (subs : List ℕ) → length usims ≡ length set.rows → All (λ s. s < length set.rows) subs
@@ -106,7 +106,7 @@ new_world homes devices = record {
   devices = devices;
 }
 
-pub starts : (set : Setting) (usims : List Memory) (stores : List Kept) (job : List Line) (w : WorldState) → AreOfRows set.rows usims → All (IsKnownLine (length set.rows)) job
+pub starts : (set : Setting) (usims : List Memory) (stores : List Kept) (job : List Line) (w : WorldState) → AreOfRows set.rows usims → All (IsKnownLine set.rows) job
     → w ≡ new_world (job_devices set usims stores job).homes (job_devices set usims stores job).devices → w ≡ start_world set usims stores job
 starts set usims stores job w are known is =
     is ∙ ap (λ (kept : List Subscription × List Keeps). record {
@@ -120,28 +120,64 @@ starts set usims stores job w are known is =
         broken = None;
       };
       devices = (job_devices set usims stores job).devices;
-    }) (pair_is (subscriptions set usims stores (held_subs job) are (helds_known (length set.rows) job known))
-    (keeping set usims stores (held_subs job) are.sizes (helds_known (length set.rows) job known)))
+    }) (pair_is (subscriptions set usims stores (held_subs job) are (helds_known set.rows job known))
+    (keeping set usims stores (held_subs job) are.sizes (helds_known set.rows job known)))
   where
     pair_is : {ds es : List Subscription} {ks ls : List Keeps} → ds ≡ es → ks ≡ ls → ◌≡◌ {A = List Subscription × List Keeps} (ds, ks) (es, ls)
     pair_is e f = cc
 
 -- it is one of the rows
-pub starts_for_rows : (set : Setting) (usims : List Memory) (stores : List Kept) (job : List Line) (subs : ℕ) (top : ℕ → ℕ) → AreSubscribers set.rows → AreOfRows set.rows usims → All (IsKnownLine (length set.rows)) job
-    → IsCentreOf (length set.rows) subs top → AreForRows set.rows subs top (start_world set usims stores job)
+pub starts_for_rows : (set : Setting) (usims : List Memory) (stores : List Kept) (job : List Line) (subs : ℕ) (top : ℕ → ℕ) → AreSubscribers set.rows → AreOfRows set.rows usims → All (IsKnownLine set.rows) job
+    → IsCentreOf set.rows subs top → AreForRows set.rows subs top (start_world set usims stores job)
 starts_for_rows set usims stores job subs top are of_rows known centre = record {
   is_centre = centre;
   subscribers = are;
   secrets = copies_secrets set.rows usims job (usim_of set.rows (start_world set usims stores job)) of_rows (λ sub. starts_copies set usims stores job sub are of_rows.sizes known);
-  homes = All-map (λ (home : HomeRow). home.sub < length set.rows) (home_of stores) (held_subs job) (helds_known (length set.rows) job known);
+  homes = All-map (λ (home : HomeRow). home.sub < length set.rows) (home_of stores) (held_subs job) (helds_known set.rows job known);
   placed = All-nil (λ s. device_place set.rows (flat_map (subscription_at set) (held_subs job)) s.sub ≡ Some s.device);
 }
 
+-- the network of nobody
+abbrev pub nobody : WorldState
+nobody = record {
+  net = record { packets = []; sessions = []; released = []; homes = []; devices = []; stores = []; broken = None };
+  devices = [];
+}
+
+pub is_nobody : (w : WorldState) (homes : List HomeRow) (devices : List Device)
+    → w ≡ record {
+      net = record {
+        packets = [];
+        sessions = [];
+        released = [];
+        homes = homes;
+        devices = map subscription_of devices;
+        stores = map (λ (device : Device). device.store) devices;
+        broken = None;
+      };
+      devices = devices;
+    } → homes ≡ [] → devices ≡ [] → w ≡ nobody
+is_nobody w homes devices is no_home no_device = is ∙ rw (no_home, no_device) refl
+
+-- it is one of the same rows
+pub nobody_for_rows : (rows : List Row) (subs : ℕ) (top : ℕ → ℕ) (w none : WorldState) → none ≡ nobody → AreForRows rows subs top w → AreForRows rows subs top none
+nobody_for_rows rows subs top w none is for_rows = subst (AreForRows rows subs top) (sym is) (record {
+  is_centre = for_rows.is_centre;
+  subscribers = for_rows.subscribers;
+  secrets = λ sub row usim at there. absurd (without (device_place rows [] sub) usim there);
+  homes = All-nil (λ home. home.sub < length rows);
+  placed = All-nil (λ s. device_place rows [] s.sub ≡ Some s.device);
+})
+  where
+    without : (place : Option ℕ) (usim : Memory) → usim_at [] place ≡ Some usim → ⊥
+    without None usim there = cc
+    without (Some p) usim there = cc
+
 -- it holds the USIMs that the job holds
-pub does_hold : (set : Setting) (usims : List Memory) (stores : List Kept) (job : List Line) (world : WorldState) → AreOfRows set.rows usims → AreSubscribers set.rows → All (IsKnownLine (length set.rows)) job
+pub does_hold : (set : Setting) (usims : List Memory) (stores : List Kept) (job : List Line) (world : WorldState) → AreOfRows set.rows usims → AreSubscribers set.rows → All (IsKnownLine set.rows) job
     → world ≡ start_world set usims stores job → (sub : ℕ) → holds sub job ≡ true → has_usim (usim_of set.rows world) sub ≡ true
 does_hold set usims stores job world rows are known begins sub held =
-    copies_keyed (length set.rows) usims job (usim_of set.rows world) sub rows.sizes known
+    copies_keyed set.rows usims job (usim_of set.rows world) sub rows.sizes known
     (λ i. ap (λ (w : WorldState). usim_of set.rows w i) begins ∙ starts_copies set usims stores job i are rows.sizes known) ∙ held
 
 module _ {C : Type 0} where
@@ -223,7 +259,7 @@ module _ {C : Type 0} where
   pub record Does (kept : C → ℕ → Option ℕ) (goes : C → ℕ → List Entry → List (ℕ × Stop) → C → Type 0) (name next : ℕ) (old after : WorkerState C) (usims : List Memory) (stores : List Kept) (job : List Line) : Type 0 where
     pub rows : AreOfRows old.set.rows usims
     pub subscribers : AreSubscribers old.set.rows
-    pub known : All (IsKnownLine (length old.set.rows)) job
+    pub known : All (IsKnownLine old.set.rows) job
     pub none : old.lines ≡ []
     pub begins : old.world ≡ start_world old.set usims stores job
     pub serves : WorkerServesLines kept goes old after job
@@ -265,7 +301,7 @@ module _ {C : Type 0} where
   ends_same : (kept : C → ℕ → Option ℕ) (goes : C → ℕ → List Entry → List (ℕ × Stop) → C → Type 0) (name next : ℕ) (old after : WorkerState C) (usims : List Memory) (stores : List Kept) (job : List Line) (own : OwnDevices)
       → Does kept goes name next old after usims stores job → Ends old after own → (sub : ℕ) → usim_of old.set.rows after.world sub ≡ usim_in own sub
   ends_same kept goes name next old after usims stores job own d e sub =
-      usim_found old.set stores (held_subs job) after.world sub d.subscribers (d.goes_on.devices ∙ ap (λ (w : WorldState). w.net.devices) d.begins) (helds_known (length old.set.rows) job d.known)
+      usim_found old.set stores (held_subs job) after.world sub d.subscribers (d.goes_on.devices ∙ ap (λ (w : WorldState). w.net.devices) d.begins) (helds_known old.set.rows job d.known)
       ∙ ap (λ (hs : List HomeRow). usim_among hs after.world.devices sub) (sym (ap (λ (w : WorldState). w.net.homes) d.begins))
       ∙ sym (same_usims old.world.net.homes after.world.net.homes after.world.devices sub d.goes_on.homes)
       ∙ ap (λ (hs : List HomeRow). usim_among hs after.world.devices sub) (sym e.homes)
@@ -287,4 +323,4 @@ module _ {C : Type 0} where
       job_settles (λ i es ws. goes old.centre i es ws after.centre) old.set early beside (kept old.centre) (kept after.centre) old.released usims stores job lines (usim_of old.set.rows old.world) own
       d.rows.sizes d.known (does_copies kept goes name next old after usims stores job d) keyed (λ sub row usim at there. secrets sub row usim at (same sub ∙ there)) begins after.world.net sessions ends (ap (λ (hs : List HomeRow). (hs, map (λ (d : Device). d.store) own.devices)) e.homes ∙ ap (λ (ks : List Keeps). (after.world.net.homes, ks)) e.stores)
       (subst (λ (ls : List LineRecord). ServesLines (λ i es ws. goes old.centre i es ws after.centre) old.set early beside (kept after.centre) old.released (usim_in own) (start_of old.set stores job) job ls after.world.net) (sym lines_are)
-      (record { given = s.given; made = s.made; stands = record { told = s.stands.told; earlier = s.stands.earlier; pasts = λ sub row usim at there. s.stands.pasts sub row usim at (same sub ∙ there) } }))
+      (record { given = s.given; made = s.made; stands = record { told = s.stands.told; earlier = s.stands.earlier; numbers = s.stands.numbers; pasts = λ sub row usim at there. s.stands.pasts sub row usim at (same sub ∙ there) } }))

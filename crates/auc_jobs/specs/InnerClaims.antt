@@ -2,7 +2,9 @@
 -- all workers of a round.
 use Rattle.std.specs.Prelude.{◌≡◌, ◌⊎◌, ℕ, ◌+◌, ◌<◌, ◌≤◌, Bool, true, false, List, [], ◌∷◌, ◌++◌, length, map, flat_map, All, AllPairs, Any, Contains, Option, Some, None, slice_get, slice_index, if◌then◌else◌}
 use Rattle.atomic_table.specs.Seated.{TableId}
-use Rattle.auc_draw.specs.Deeds.{entries_of, claims_of, kept_of, released_of, held_of as pass_held}
+use Rattle.auc_centre.specs.Adds.{kept_by}
+use Rattle.auc_draw.specs.Book.{IsOf}
+use Rattle.auc_draw.specs.Deeds.{entries_of, claims_of, released_of, held_of as pass_held}
 use Rattle.auc_draw.specs.Values.{BookValue, KeeperValue, PassValue}
 use Rattle.auc_history.specs.declared.entry.Entry.{Entry}
 use Rattle.auc_history.specs.History.{IsInOrder}
@@ -88,7 +90,7 @@ pub record HasServed (shared : Shared) (early : List LineRecord) (pass : PassVal
 -- a worker between two jobs
 pub record IsBetween (shared : Shared) (early : List LineRecord) (pass : PassValue) (done : List ClaimedJob) : Type 0 where
   pub served : HasServed shared early pass done
-  pub told : AreTold (kept_of pass.deeds) (lines_done done)
+  pub told : AreTold (kept_by pass) (lines_done done)
   pub earlier : Begins shared early
 
 -- a claim took the last job, or a number behind it
@@ -107,8 +109,8 @@ pub record HasFinished (shared : Shared) (pass : PassValue) (done : List Claimed
   pub last : IsLast (length shared.jobs) (claims_of pass.deeds)
 
 -- what a worker comes to: its pass is the book's, and it served all jobs that it claimed, if it had the memory
-pub record IsDone (id : TableId) (shared : Shared) (d : WorkerJobs) : Type 0 where
-  pub own : d.pass.id ≡ id
+pub record IsDone (id : TableId) (tops : List ℕ) (shared : Shared) (d : WorkerJobs) : Type 0 where
+  pub own : IsOf id tops d.pass
   pub whole : d.is_whole ≡ true → HasFinished shared d.pass d.jobs.items
 
 -- ---- all workers

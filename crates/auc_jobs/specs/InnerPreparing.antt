@@ -19,22 +19,23 @@ job_asks sub job = list_any (asks sub) job
 abbrev pub is_asked : List (List Line) → ℕ → Bool
 is_asked jobs sub = list_any (job_asks sub) jobs
 
--- whether an asked subscriber needs a reservation: it opens below the greatest number, and has no limit above its opening
-abbrev pub needs : Bool → ℕ → ℕ → Bool
-needs asked opening limit = asked && (nat_lt opening max_seq && nat_le limit opening)
+-- whether an asked subscriber needs a reservation: it opens below its greatest number, and has no limit above its opening
+abbrev pub needs : Bool → ℕ → ℕ → ℕ → Bool
+needs asked top opening limit = asked && (nat_lt opening top && nat_le limit opening)
 
--- the reservations of the subscribers from one on, in their order, by which of them are asked, their openings and all limits:
--- each is a step above the opening, and no further than the greatest number
-abbrev pub needed_from : (ℕ → Bool) → List ℕ → ℕ → List ℕ → List (ℕ × ℕ)
-needed_from asked limits sub [] = []
-needed_from asked limits sub (opening ∷ openings) =
-    if needs (asked sub) opening (slice_index limits sub)
-    then (sub, min (opening + least_step) max_seq) ∷ needed_from asked limits (suc sub) openings
-    else needed_from asked limits (suc sub) openings
+-- the reservations of the subscribers from one on, in their order, by which of them are asked, their openings, and all greatest
+-- numbers and limits: each is a step above the opening, and no further than the greatest number of all, also if that is above
+-- the subscriber's
+abbrev pub needed_from : (ℕ → Bool) → List ℕ → List ℕ → ℕ → List ℕ → List (ℕ × ℕ)
+needed_from asked tops limits sub [] = []
+needed_from asked tops limits sub (opening ∷ openings) =
+    if needs (asked sub) (slice_index tops sub) opening (slice_index limits sub)
+    then (sub, min (opening + least_step) max_seq) ∷ needed_from asked tops limits (suc sub) openings
+    else needed_from asked tops limits (suc sub) openings
 
 -- those that a round needs
-abbrev pub needed_by : List (List Line) → List ℕ → List ℕ → List (ℕ × ℕ)
-needed_by jobs openings limits = needed_from (is_asked jobs) limits 0 openings
+abbrev pub needed_by : List (List Line) → List ℕ → List ℕ → List ℕ → List (ℕ × ℕ)
+needed_by jobs tops openings limits = needed_from (is_asked jobs) tops limits 0 openings
 
 -- reservations that a keeper may make for so many subscribers, of which each stands there once
 pub record AreReservable (count : ℕ) (pass : KeeperValue) (items : List (ℕ × ℕ)) : Type 0 where

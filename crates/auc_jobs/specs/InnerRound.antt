@@ -10,7 +10,7 @@ use Rattle.auc_lines.specs.declared.part.Line.{Line}
 use Rattle.auc_lines.specs.Part.{holds}
 use Rattle.auc_reauth.specs.Device.{Keeps}
 use Rattle.auc_server.specs.declared.setting.HomeRow.{HomeRow}
-use Rattle.auc_sqn.specs.Number.{max_seq}
+use Rattle.auc_subs.specs.Subscriber.{top_at}
 use Rattle.auc_subs.specs.declared.row.Row.{Row}
 use Rattle.auc_usim.specs.Usim.{Memory}
 use Rattle.auc_world.specs.declared.record.LineRecord.{LineRecord}
@@ -28,6 +28,7 @@ use Rattle.auc_world.specs.declared.record.RoundRecord.{RoundRecord}
 use Rattle.auc_world.specs.Setting.{Setting}
 use Rattle.auc_world.specs.Transcript.{reopened}
 use Rattle.auc_world.specs.Released.{Released, AreReleased}
+use Rattle.auc_jobs.specs.Numbers.{AreNumbers}
 use Rattle.auc_jobs.specs.State.{Standing}
 use Rattle.auc_jobs.specs.Usims.{HaveSecrets, AreBehind}
 use Rattle.auc_jobs.specs.InnerServing.{before_at, AreTold}
@@ -36,11 +37,12 @@ use Rattle.auc_jobs.specs.InnerUsims.{OwnDevices, usim_in, has_usim, ArePutBack}
 -- ---- a job
 
 -- what stands before a job: its worker's earlier lines report the words that the centre keeps, the released numbers are
--- those of the earlier rounds, the subscribers' USIMs are those after the earlier rounds, and by the worker's earlier
--- lines no USIM that the job holds has accepted a number
+-- those of the earlier rounds, none above its subscriber's greatest one, the subscribers' USIMs are those after the earlier
+-- rounds, and by the worker's earlier lines no USIM that the job holds has accepted a number
 pub record JobBegins (rows : List Row) (early beside : List LineRecord) (kept : ℕ → Option ℕ) (released : Released) (usims : List Memory) (job : List Line) : Type 0 where
   pub told : AreTold kept beside
   pub earlier : AreReleased released early
+  pub numbers : AreNumbers rows early
   pub pasts : AreBehind rows early (slice_get usims)
   pub quiet : IsQuiet beside job
 
@@ -49,7 +51,7 @@ pub record IsSettled (rows : List Row) (early : List LineRecord) (job : List Lin
   pub keyed : (sub : ℕ) → has_usim own sub ≡ holds sub job
   pub secrets : HaveSecrets rows own
   pub behind : AreBehind rows (early ++ lines) own
-  pub quiet : (sub : ℕ) → holds sub job ≡ false → accepted sub lines ≡ []
+  pub quiet : (bits sub : ℕ) → holds sub job ≡ false → accepted bits sub lines ≡ []
 
 -- what homes and devices keep after a job, by its own devices and by its network
 abbrev pub left_on : OwnDevices → List HomeRow × List Keeps
@@ -91,13 +93,14 @@ pub record ArePieces (set : Setting) (early : List LineRecord) (stores : List Ke
   pub ends : sessions ≡ map job_sessions nets
   pub left : map left_on own ≡ map left_in nets
   pub reports : (sub : ℕ) → ReportsAreEarlier sub [] pieces
-  pub split : (sub : ℕ) → sub < length openings → Splits max_seq (slice_index openings sub) (slice_index words sub) (entries_of_pieces sub pieces)
+  pub split : (sub : ℕ) → sub < length openings → Splits (top_at set.rows sub) (slice_index openings sub) (slice_index words sub) (entries_of_pieces sub pieces)
 
 -- a round's pieces, its jobs' devices, and what their sessions came to, after the words at which it opens
 pub record AreServed (set : Setting) (early : List LineRecord) (stores : List Kept) (openings : List ℕ) (jobs : List (List Line)) (records : List (List LineRecord)) (own : List OwnDevices) (sessions : List JobSessions) (words : List ℕ) : Type 0 where
   pub pieces : ArePieces set early stores openings jobs records own sessions words
   pub settled : AreSettled set.rows early jobs records own
   pub size : length words ≡ length openings
+  pub numbers : AreNumbers set.rows (all_lines records)
 
 -- some lines withhold a number of one of so many subscribers, because the journal is full
 abbrev pub HoldsFull : ℕ → List LineRecord → Type 0
@@ -114,9 +117,9 @@ pub record GoesByLimits (set : Setting) (stop : Option Stop) (records : List (Li
 
 -- the state after a round: where the round's words lead, with the jobs' USIMs and what their homes and devices keep put back,
 -- and the released numbers noted
-pub record IsAdvanced (old : Standing) (records : List (List LineRecord)) (own : List OwnDevices) (words : List ℕ) (new : Standing) : Type 0 where
-  pub opened : new.words ≡ reopened words
-  pub within : All (λ word. word ≤ max_seq) new.words
+pub record IsAdvanced (rows : List Row) (old : Standing) (records : List (List LineRecord)) (own : List OwnDevices) (words : List ℕ) (new : Standing) : Type 0 where
+  pub opened : new.words ≡ reopened rows words
+  pub within : (sub : ℕ) → sub < length rows → slice_index new.words sub ≤ top_at rows sub
   pub put : ArePutBack old.usims own new.usims
   pub keeps : new.kept ≡ fold put_own old.kept own
   pub noted : (before : List LineRecord) → AreReleased old.released before → AreReleased new.released (before ++ all_lines records)

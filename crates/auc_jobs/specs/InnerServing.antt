@@ -3,15 +3,15 @@ use Rattle.std.specs.Prelude.{◌≡◌, ℕ, ◌≤◌, Bool, true, false, List
 use Rattle.auc_edge.specs.declared.stop.Stop.{Stop}
 use Rattle.auc_history.specs.declared.entry.Entry.{Entry}
 use Rattle.auc_lines.specs.declared.part.Line.{Line}
-use Rattle.auc_sqn.specs.Number.{max_seq}
+use Rattle.auc_lines.specs.declared.part.Report.{Report}
+use Rattle.auc_subs.specs.Subscriber.{top_at}
 use Rattle.auc_subs.specs.declared.row.Row.{Row}
-use Rattle.auc_vector.specs.Auts.{read_auts_of}
 use Rattle.auc_vector.specs.declared.auts.Auts.{Auts}
-use Rattle.auc_random.specs.Random.{rand_of}
+use Rattle.auc_vector.specs.declared.auts.Auts.TheVariants as read
 use Rattle.auc_world.specs.declared.record.SyncVerdict.{SyncVerdict}
 use Rattle.auc_world.specs.declared.record.SyncVerdict.TheVariants as verdict
 use Rattle.auc_world.specs.Entries.{is_reported, entries_of_line, entries_of_lines}
-use Rattle.auc_world.specs.Given.{Before, EventGives, IsReleasable, IsGiven, OneGives, is_released, packet_of, past_before, GiveGives, JobGives, auts_for}
+use Rattle.auc_world.specs.Given.{Before, EventGives, IsReleasable, IsGiven, OneGives, is_released, packet_of, past_before, GiveGives, JobGives, said_by}
 use Rattle.auc_world.specs.Net.{Net}
 use Rattle.auc_world.specs.Setting.{Setting}
 use Rattle.auc_world.specs.Lines.{held_by, held_of, accepted}
@@ -21,6 +21,7 @@ use Rattle.auc_world.specs.declared.record.GiveVerdict.{GiveVerdict}
 use Rattle.auc_world.specs.declared.record.LineRecord.{LineRecord}
 use Rattle.auc_world.specs.declared.record.LineRecord.TheVariants.{Vector, Withheld, Exhausted, Sync, Give, Further, Event}
 use Rattle.auc_world.specs.Released.{Released, AreReleased}
+use Rattle.auc_jobs.specs.Numbers.{AreNumbers}
 use Rattle.auc_jobs.specs.Usims.{AreBehind}
 
 -- ---- the calls of the centre
@@ -51,8 +52,8 @@ pub record Say (goes : ℕ → List Entry → List (ℕ × Stop) → Type 0) (ke
 -- a line is what one draw of a subscriber comes to
 abbrev pub IsDrawn : Setting → ℕ → LineRecord → Type 0
 IsDrawn set sub (Vector s n) = (s ≡ sub) × IsReleasable set sub n
-IsDrawn set sub (Withheld s n stop) = (s ≡ sub) × (1 ≤ n) × (n ≤ max_seq)
-IsDrawn set sub (Exhausted s word) = (s ≡ sub) × (max_seq ≤ word)
+IsDrawn set sub (Withheld s n stop) = (s ≡ sub) × (1 ≤ n) × (n ≤ top_at set.rows sub)
+IsDrawn set sub (Exhausted s word) = (s ≡ sub) × (top_at set.rows sub ≤ word)
 IsDrawn set sub (Sync s answer) = ⊥
 IsDrawn set sub (Give s n answer) = ⊥
 IsDrawn set sub (Further said) = ⊥
@@ -75,11 +76,16 @@ IsNext set sub (Some n) lines = (lines ≡ Vector sub n ∷ []) × IsReleasable 
 
 -- ---- a resynchronisation
 
--- what the AUTS of a subscriber's USIM says, for the RAND of number 0
-pub record IsReported (set : Setting) (sub seq : ℕ) (bit : Option ℕ) (auts : Auts) : Type 0 where
+-- what the AUTS of a report says of a subscriber
+pub record IsReported (set : Setting) (sub : ℕ) (report : Report) (auts : Auts) : Type 0 where
   pub row : Row
   pub there : slice_get set.rows sub ≡ Some row
-  pub read : auts ≡ read_auts_of row.secret (rand_of set.key sub 0) (auts_for set row sub seq bit)
+  pub read : auts ≡ said_by set row sub report
+
+-- a SEQ that was read is at most a subscriber's greatest number
+abbrev pub IsSeqWithin : ℕ → Auts → Type 0
+IsSeqWithin top (read.SeqMs seq_ms) = seq_ms ≤ top
+IsSeqWithin top read.WrongMac = Unit {0}
 
 -- whether vectors follow a verdict
 abbrev pub is_accepted_next : SyncVerdict → Bool
@@ -91,19 +97,22 @@ is_accepted_next verdict.WrongMac = false
 -- ---- what holds, and what is added
 
 -- what holds after the lines before a line: the words that the centre keeps are reported, the released numbers are those of
--- the earlier rounds, and each USIM remembers what all lines say that it accepted
+-- the earlier rounds, each is at most its subscriber's greatest number, as is each that the job released, and each USIM
+-- remembers what all lines say that it accepted
 pub record Stands (rows : List Row) (before : Before) (kept : ℕ → Option ℕ) (released : Released) (usims : ℕ → Option Memory) : Type 0 where
   pub told : AreTold kept (before.beside ++ before.own)
   pub earlier : AreReleased released before.early
+  pub numbers : AreNumbers rows before.early × AreNumbers rows before.own
   pub pasts : AreBehind rows (before.early ++ before.beside ++ before.own) usims
 
 -- a request added lines that it gives to those of a job
-pub record Adds (goes : ℕ → List Entry → List (ℕ × Stop) → Type 0) (kept : ℕ → Option ℕ) (beside old new : List LineRecord) (Gives : List LineRecord → Type 0) : Type 0 where
+pub record Adds (goes : ℕ → List Entry → List (ℕ × Stop) → Type 0) (rows : List Row) (kept : ℕ → Option ℕ) (beside old new : List LineRecord) (Gives : List LineRecord → Type 0) : Type 0 where
   pub lines : List LineRecord
   pub added : new ≡ old ++ lines
   pub given : Gives lines
   pub said : Say goes kept (beside ++ old) lines
-  pub quiet : (sub : ℕ) → accepted sub lines ≡ []
+  pub quiet : (bits sub : ℕ) → accepted bits sub lines ≡ []
+  pub numbers : AreNumbers rows lines
 
 -- the lines before a line of a job, which has had some lines
 abbrev pub before_at : List LineRecord → List LineRecord → List LineRecord → Before
@@ -138,7 +147,7 @@ pub record Happens (set : Setting) (before : Before) (net : Net) (e : EventOf) (
 
 -- what a USIM answers to the vector of a number, if the centre has released it, and the USIMs after the line
 pub record IsAnswered (rows : List Row) (before : Before) (sub n : ℕ) (answer : GiveVerdict) (usims : ℕ → Option Memory) : Type 0 where
-  pub given : (row : Row) → slice_get rows sub ≡ Some row → IsGiven (is_released before sub n) (past_before before row sub) n answer
+  pub given : (row : Row) → slice_get rows sub ≡ Some row → IsGiven row (is_released before sub n) (past_before before row sub) n answer
   pub behind : AreBehind rows (before.early ++ before.beside ++ before.own ++ Give sub n answer ∷ []) usims
 
 -- what presenting the vector of a number gives, if this is the verdict

@@ -7,7 +7,8 @@ use Rattle.auc_edge.specs.declared.stop.Stop.{Stop}
 use Rattle.auc_history.specs.declared.entry.Entry.{Entry}
 use Rattle.auc_lines.specs.declared.part.Line.{Line}
 use Rattle.auc_lines.specs.Part.{AreApart}
-use Rattle.auc_subs.specs.Subscriber.{AreSubscribers}
+use Rattle.auc_subs.specs.Subscriber.{AreSubscribers, tops_of}
+use Rattle.auc_subs.specs.declared.row.Row.{Row}
 use Rattle.auc_usim.specs.Usim.{Memory}
 use Rattle.auc_world.specs.declared.record.LineRecord.{LineRecord}
 use Rattle.auc_world.specs.Setting.{Setting}
@@ -15,6 +16,7 @@ use Rattle.auc_world.specs.Start.{Kept}
 use Rattle.auc_world.specs.Vectors.{vectors_in}
 use Rattle.auc_jobs.specs.declared.jobs.ServedJob.{ServedJob}
 use Rattle.auc_world.specs.Released.{Released, AreReleased}
+use Rattle.auc_jobs.specs.Numbers.{AreNumbers}
 use Rattle.auc_jobs.specs.Serving.{AreAllKnown}
 use Rattle.auc_jobs.specs.Usims.{AreOfRows, AreBehind}
 use Rattle.auc_jobs.specs.InnerRound.{JobBegins, ServesJob}
@@ -29,9 +31,11 @@ pub record Shared : Type 0 where
   pub jobs : List (List Line)
   pub full : Bool
 
--- the released numbers and the USIMs are those after the lines of the earlier rounds
+-- the released numbers and the USIMs are those after the lines of the earlier rounds, and no number is above its
+-- subscriber's greatest one
 pub record Begins (shared : Shared) (early : List LineRecord) : Type 0 where
   pub earlier : AreReleased shared.released early
+  pub numbers : AreNumbers shared.set.rows early
   pub pasts : AreBehind shared.set.rows early (slice_get shared.usims)
 
 -- the jobs can be served
@@ -41,14 +45,15 @@ pub record IsServable (shared : Shared) : Type 0 where
   pub subscribers : AreSubscribers shared.set.rows
   pub realm : length shared.set.realm ≤ 255
   pub few : length shared.jobs ≤ 200000
-  pub known : AreAllKnown (length shared.set.rows) shared.jobs
+  pub known : AreAllKnown shared.set.rows shared.jobs
   pub apart : AllPairs AreApart shared.jobs
   pub begins : (early : List LineRecord) × Begins shared early
 
--- a book of so many subscribers, for as many of which the round's journal is
-pub record IsBookOf (id : TableId) (subs count : ℕ) (book : BookValue) : Type 0 where
-  pub own : book.id ≡ id
-  pub size : length book.openings ≡ count
+-- a book of the rows' subscribers, with their greatest numbers, for as many of which the round's journal is
+pub record IsBookOf (id : TableId) (greatest : List ℕ) (subs : ℕ) (rows : List Row) (book : BookValue) : Type 0 where
+  pub own : (book.id ≡ id) × (book.tops ≡ greatest)
+  pub tops : book.tops ≡ tops_of rows
+  pub size : length book.openings ≡ length rows
   pub sized : subs ≡ length book.openings
 
 -- what stands before a worker serves the job of a place, after earlier rounds and its own earlier lines

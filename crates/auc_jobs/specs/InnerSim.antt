@@ -5,7 +5,7 @@ use Rattle.auc_sim.specs.Session.{SimRuns}
 use Rattle.auc_sim.specs.Triplets.{of_vector}
 use Rattle.auc_sim.specs.declared.note.SimNote.{SimNote}
 use Rattle.auc_sim.specs.declared.parts.Triplet.{Triplet}
-use Rattle.auc_sqn.specs.Number.{max_seq}
+use Rattle.auc_subs.specs.Subscriber.{top_at}
 use Rattle.auc_subs.specs.declared.row.Row.{Row}
 use Rattle.auc_world.specs.Setting.{Setting}
 use Rattle.auc_world.specs.Sim.{sim_inputs}
@@ -14,10 +14,10 @@ use Rattle.auc_world.specs.declared.further.Further.TheVariants as further
 use Rattle.auc_world.specs.declared.record.LineRecord.{LineRecord}
 use Rattle.auc_world.specs.declared.record.LineRecord.TheVariants.{Further}
 
--- a vector may have the number
-pub record IsNumber (n : ℕ) : Type 0 where
+-- a vector of a subscriber may have the number
+pub record IsNumber (rows : List Row) (sub n : ℕ) : Type 0 where
   pub first : 1 ≤ n
-  pub last : n ≤ max_seq
+  pub last : n ≤ top_at rows sub
 
 -- the triplets of the vectors of a subscriber's numbers, by the subscriber's row
 abbrev pub AreTripletsOf : Setting → ℕ → List ℕ → List Triplet → Type 0

@@ -1,13 +1,11 @@
 -- Inner facts: what only private contracts of this crate cite. Here: a job's own USIMs, and a USIM that answers.
-use Rattle.std.specs.Prelude.{◌≡◌, ℕ, ◌%◌, List, [], ◌∷◌, ◌++◌, Option, Some, None, slice_get, if◌then◌else◌}
+use Rattle.std.specs.Prelude.{◌≡◌, ℕ, List, [], ◌∷◌, ◌++◌, Option, Some, None, slice_get, if◌then◌else◌}
 use Rattle.auc_lines.specs.declared.part.Line.{Line}
 use Rattle.auc_lines.specs.Part.{holds}
 use Rattle.auc_milenage.specs.Milenage.{f2, f3, f4, f5}
 use Rattle.auc_sqn.specs.Number.{sqn_bytes}
-use Rattle.auc_sqn.specs.Past.{verdict_of}
 use Rattle.auc_subs.specs.declared.row.Row.{Row}
-use Rattle.auc_world.specs.Given.{UsimAnswers, past_of}
-use Rattle.auc_world.specs.Lines.{accepted}
+use Rattle.auc_world.specs.Given.{UsimAnswers, past_by, verdict_by as verdict_of_usim}
 use Rattle.auc_usim.specs.Usim.{Memory}
 use Rattle.auc_world.specs.declared.record.GiveVerdict.{GiveVerdict}
 use Rattle.auc_world.specs.declared.record.GiveVerdict.TheVariants as given
@@ -29,7 +27,7 @@ AreCopies usims job own = (sub : ℕ) → own sub ≡ (if holds sub job then sli
 -- it accepted, and the USIMs after the line that says so
 pub record Presents (rows : List Row) (lines : List LineRecord) (sub n : ℕ) (answer : GiveVerdict) (new : ℕ → Option Memory) : Type 0 where
   pub answered : (row : Row) → slice_get rows sub ≡ Some row
-      → UsimAnswers (verdict_of (past_of row.usim (accepted sub lines)) n (n % 32)) (past_of row.usim (accepted sub lines)) answer
+      → UsimAnswers row.bits (verdict_of_usim row (past_by row sub lines) n) (past_by row sub lines) answer
   pub behind : AreBehind rows (lines ++ Give sub n answer ∷ []) new
 
 -- the verdict that is recorded of an answer
@@ -45,7 +43,7 @@ usim_keys row n rand = record {
   ck = f3 row.secret.k row.secret.opc rand;
   ik = f4 row.secret.k row.secret.opc rand;
   ak = f5 row.secret.k row.secret.opc rand;
-  sqn = sqn_bytes n;
+  sqn = sqn_bytes row.bits n;
 }
 
 -- an answer has them, if the USIM accepted

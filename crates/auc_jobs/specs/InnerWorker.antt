@@ -3,8 +3,7 @@ use Rattle.std.specs.Prelude.{◌≡◌, ℕ, ◌<◌, List, length, All, Option
 use Rattle.auc_edge.specs.declared.stop.Stop.{Stop}
 use Rattle.auc_history.specs.declared.entry.Entry.{Entry}
 use Rattle.auc_lines.specs.declared.part.Line.{Line}
-use Rattle.auc_sqn.specs.Number.{max_seq}
-use Rattle.auc_subs.specs.Subscriber.{AreSubscribers}
+use Rattle.auc_subs.specs.Subscriber.{AreSubscribers, top_at}
 use Rattle.auc_subs.specs.declared.row.Row.{Row}
 use Rattle.auc_cards.specs.Devices.{job_devices}
 use Rattle.auc_world.specs.Given.{Before}
@@ -29,10 +28,10 @@ pub record WorkerState (C : Type 0) : Type 0 where
   pub world : WorldState
   pub lines : List LineRecord
 
--- a centre has so many subscribers, whose greatest number is max_seq
-pub record IsCentreOf (count subs : ℕ) (top : ℕ → ℕ) : Type 0 where
-  pub size : subs ≡ count
-  pub greatest : (sub : ℕ) → top sub ≡ max_seq
+-- a centre has a subscriber for each row, with the row's greatest number
+pub record IsCentreOf (rows : List Row) (subs : ℕ) (top : ℕ → ℕ) : Type 0 where
+  pub size : subs ≡ length rows
+  pub greatest : (sub : ℕ) → top sub ≡ top_at rows sub
 
 -- each session is at the device of its subscriber
 abbrev pub AreAtDevices : List Row → Net → Type 0
@@ -40,7 +39,7 @@ AreAtDevices rows net = All (λ s. device_place rows net.devices s.sub ≡ Some 
 
 -- a centre and a job's network with its devices are those of the rows
 pub record AreForRows (rows : List Row) (subs : ℕ) (top : ℕ → ℕ) (world : WorldState) : Type 0 where
-  pub is_centre : IsCentreOf (length rows) subs top
+  pub is_centre : IsCentreOf rows subs top
   pub subscribers : AreSubscribers rows
   pub secrets : HaveSecrets rows (usim_of rows world)
   pub homes : All (λ home. home.sub < length rows) world.net.homes

@@ -38,7 +38,7 @@ pub record Serves {D : Type 0} (seen : D → Option (List ℕ)) (may_leave : D �
   -- the subscribers' words after it
   pub words : List ℕ
   pub lawful : IsLawfulRound set stop early state.kept state.words jobs round words
-  pub opens : next.words ≡ reopened words
+  pub opens : next.words ≡ reopened set.rows words
   -- homes and devices keep what the networks of the jobs leave
   pub keeps : next.kept ≡ kept_by_jobs state.kept lawful.nets
   -- each released number is within the limits of the journal

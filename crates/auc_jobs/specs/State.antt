@@ -1,12 +1,13 @@
 -- What passes from round to round.
-use Rattle.std.specs.Prelude.{◌≡◌, ℕ, ◌≤◌, List, All, length, slice_get}
-use Rattle.auc_sqn.specs.Number.{max_seq}
+use Rattle.std.specs.Prelude.{◌≡◌, ℕ, ◌<◌, ◌≤◌, List, length, slice_get, slice_index}
+use Rattle.auc_subs.specs.Subscriber.{top_at}
 use Rattle.auc_subs.specs.declared.row.Row.{Row}
 use Rattle.auc_world.specs.Setting.{Setting}
 use Rattle.auc_world.specs.Start.{Kept}
 use Rattle.auc_usim.specs.Usim.{Memory}
 use Rattle.auc_world.specs.declared.record.LineRecord.{LineRecord}
 use Rattle.auc_world.specs.Released.{Released, AreReleased}
+use Rattle.auc_jobs.specs.Numbers.{AreNumbers}
 use Rattle.auc_jobs.specs.Usims.{AreOfRows, AreBehind}
 
 -- the words at which the next round opens the subscribers, the subscribers' USIMs, what their homes and devices keep of their
@@ -20,7 +21,7 @@ pub record Standing : Type 0 where
 -- a state is one of the subscribers of some rows
 pub record IsStateOf (rows : List Row) (state : Standing) : Type 0 where
   pub size : length state.words ≡ length rows
-  pub numbers : All (λ word. word ≤ max_seq) state.words
+  pub numbers : (sub : ℕ) → sub < length rows → slice_index state.words sub ≤ top_at rows sub
   pub secrets : AreOfRows rows state.usims
   pub kept : length state.kept ≡ length rows
 
@@ -29,3 +30,4 @@ pub record StandsAt (set : Setting) (early : List LineRecord) (state : Standing)
   pub subscribers : IsStateOf set.rows state
   pub pasts : AreBehind set.rows early (slice_get state.usims)
   pub earlier : AreReleased state.released early
+  pub numbers : AreNumbers set.rows early

@@ -2,7 +2,7 @@
 
 ghost use Rattle.std.specs.Prelude.{◌≡◌, [], None, List, length, IfOk, OnOk};
 ghost use Rattle.auc_centre.specs.Kept.{subs_of};
-ghost use Rattle.auc_draw.specs.Book.{IsNew};
+ghost use Rattle.auc_draw.specs.Book.{IsNew, IsOf};
 ghost use Rattle.auc_world.specs.declared.record.LineRecord.{LineRecord};
 ghost use Rattle.auc_jobs.specs.InnerClaims.{HasFinished, IsBetween, IsDone, TakesTurn};
 ghost use Rattle.auc_jobs.specs.InnerSharing.{IsBookOf, IsServable};
@@ -43,11 +43,11 @@ fn serve_next<L: Naming<D>, D: Disk + Drop, G: Gate, R: Wait>(
     done: &mut Vec<ClaimedJob>,
 ) -> Result<bool, NoMemory>
     requires round { IsServable round.now }
-    requires book { IsBookOf L.table (subs_of L.opening) (length round.now.set.rows) book.now }
-    requires own { pass.old.id ≡ L.table }
+    requires book { IsBookOf L.table L.tops (subs_of L.opening) round.now.set.rows book.now }
+    requires own { IsOf L.table L.tops pass.old }
     requires claims { pass.old.ended ≡ None }
     requires stands { (early : List LineRecord) × IsBetween round.now early pass.old done.old.items }
-    ensures own { pass.new.id ≡ L.table }
+    ensures own { IsOf L.table L.tops pass.new }
     ensures turn { IfOk result (λ more. TakesTurn round.now more pass.old done.old.items pass.new done.new.items) }
 {
     let Some(job) = pass.claim(book, round.count()) else {
@@ -72,10 +72,10 @@ fn serve_claims<L: Naming<D>, D: Disk + Drop, G: Gate, R: Wait>(
     done: &mut Vec<ClaimedJob>,
 ) -> Result<(), NoMemory>
     requires round { IsServable round.now }
-    requires book { IsBookOf L.table (subs_of L.opening) (length round.now.set.rows) book.now }
-    requires new { IsNew L.table pass.old }
+    requires book { IsBookOf L.table L.tops (subs_of L.opening) round.now.set.rows book.now }
+    requires new { IsNew L.table L.tops pass.old }
     requires none { done.old.items ≡ [] }
-    ensures own { pass.new.id ≡ L.table }
+    ensures own { IsOf L.table L.tops pass.new }
     ensures finished { OnOk result (HasFinished round.now pass.new done.new.items) }
 {
     for _turn in 0..round.count() {
@@ -97,9 +97,9 @@ pub(crate) fn work<L: Naming<D>, D: Disk + Drop, G: Gate, R: Wait>(
     mut pass: Pass,
 ) -> WorkerJobs
     requires round { IsServable round.now }
-    requires book { IsBookOf L.table (subs_of L.opening) (length round.now.set.rows) book.now }
-    requires new { IsNew L.table pass }
-    ensures { IsDone L.table round.now result }
+    requires book { IsBookOf L.table L.tops (subs_of L.opening) round.now.set.rows book.now }
+    requires new { IsNew L.table L.tops pass }
+    ensures { IsDone L.table L.tops round.now result }
 {
     let mut jobs = Vec::new(alloc);
     let is_whole = serve_claims(rt, alloc, round, book, keeper, gate, &mut pass, &mut jobs).is_ok();

@@ -2,8 +2,7 @@
 
 ghost use Rattle.std.specs.Prelude.{◌≡◌, ◌≤◌, ◌<◌, ◌||◌, ◌++◌, ℕ, true, Some, List, length, slice_get, IfOk, OnOk};
 ghost use Rattle.auc_random.specs.Random.{rand_of};
-ghost use Rattle.auc_sqn.specs.Number.{max_seq};
-ghost use Rattle.auc_subs.specs.Subscriber.{AreSubscribers};
+ghost use Rattle.auc_subs.specs.Subscriber.{AreSubscribers, top_at};
 ghost use Rattle.auc_subs.specs.declared.row.Row.{Row};
 ghost use Rattle.auc_world.specs.declared.record.LineRecord.{LineRecord};
 ghost use Rattle.auc_world.specs.Given.{is_in, GiveGives};
@@ -12,12 +11,14 @@ ghost use Rattle.auc_world.specs.Released.{has, AreReleased};
 ghost use Rattle.auc_jobs.specs.InnerServing.{before_at, GivesVerdict, IsAnswered};
 ghost use Rattle.auc_jobs.specs.InnerUsims.{HasKeys, Presents, has_usim, usim_of, verdict_by};
 ghost use Rattle.auc_jobs.specs.InnerWorker.{GoesOnWith, WorkerServes};
+ghost use Rattle.auc_jobs.specs.Numbers.{AreNumbers};
 ghost use Rattle.auc_jobs.specs.Usims.{AreBehind, HaveSecrets};
 
 use crate::job_lines::JobLines;
 use crate::worker::Worker;
 use auc_edge::NoMemory;
 use auc_released::Numbers;
+use auc_sqn::top;
 use auc_usim::Answer;
 use auc_vector::Centre;
 use auc_world::{GiveVerdict, LineRecord, Setting, World, vector_at};
@@ -64,7 +65,7 @@ fn present(set: &Setting, world: &mut World, sub: u32, n: u64) -> UsimAnswer
     requires own { has_usim (usim_of set.now.rows world.old) sub ≡ true }
     requires known { sub < length set.now.rows }
     requires first { 1 ≤ n }
-    requires last { n ≤ max_seq }
+    requires last { n ≤ top_at set.now.rows sub }
 
     ensures presented { (lines : List LineRecord) → AreBehind set.now.rows lines (usim_of set.now.rows world.old)
         → Presents set.now.rows lines sub n (verdict_by result) (usim_of set.now.rows world.new) }
@@ -113,10 +114,10 @@ impl<C: Centre> Worker<'_, C> {
         requires own { has_usim (usim_of self.old.set.rows self.old.world) sub ≡ true }
         requires known { sub < length self.old.set.rows }
         requires first { 1 ≤ n }
-        requires last { n ≤ max_seq }
 
         ensures answered { IfOk result (λ answer. (early : List LineRecord) (beside : List LineRecord)
             → AreReleased self.old.released early
+            → AreNumbers self.old.set.rows early → AreNumbers self.old.set.rows self.old.lines
             → AreBehind self.old.set.rows (early ++ beside ++ self.old.lines) (usim_of self.old.set.rows self.old.world)
             → IsAnswered self.old.set.rows (before_at early beside self.old.lines) sub n (verdict_by answer)
             (usim_of self.old.set.rows self.new.world)) }
@@ -127,6 +128,11 @@ impl<C: Centre> Worker<'_, C> {
             ≡ has_usim (usim_of self.old.set.rows self.old.world) i }
         ensures net { self.new.world.net ≡ self.old.world.net }
     {
+        // No number was released that is above the subscriber's greatest one.
+        let set = self.set;
+        if n > top(set.subs.row(sub).bits) {
+            return Ok(UsimAnswer::Absent);
+        }
         if is_released(self.released, &mut self.lines, sub, n)? {
             Ok(present(self.set, &mut self.world, sub, n))
         } else {
@@ -140,7 +146,6 @@ impl<C: Centre> Worker<'_, C> {
         requires own { has_usim (usim_of self.old.set.rows self.old.world) sub ≡ true }
         requires known { sub < length self.old.set.rows }
         requires first { 1 ≤ n }
-        requires last { n ≤ max_seq }
 
         ensures given { IfOk result (λ answer. WorkerServes C.kept C.goes self.old self.new
             (λ before. GivesVerdict self.old.set before sub n (verdict_by answer))) }
@@ -160,7 +165,6 @@ impl<C: Centre> Worker<'_, C> {
         requires own { has_usim (usim_of self.old.set.rows self.old.world) sub ≡ true }
         requires known { sub < length self.old.set.rows }
         requires first { 1 ≤ n }
-        requires last { n ≤ max_seq }
 
         ensures given { OnOk result (WorkerServes C.kept C.goes self.old self.new
             (λ before. GiveGives self.old.set before sub n)) }

@@ -86,7 +86,7 @@ fn push_if(full: bool, all: &mut Items<JobVectors>, vectors: JobVectors) -> Resu
 impl<C: Centre> Worker<'_, C> {
     /// Serves a line of a job.
     fn serve_line<R: Wait>(&mut self, rt: &R, alloc: Global, line: &Line) -> Result<(), NoMemory>
-        requires known { IsKnownLine (length self.old.set.rows) line.now }
+        requires known { IsKnownLine self.old.set.rows line.now }
         requires own { (sub : ℕ) → is_held_by sub line.now ≡ true
             → has_usim (usim_of self.old.set.rows self.old.world) sub ≡ true }
 
@@ -96,12 +96,7 @@ impl<C: Centre> Worker<'_, C> {
     {
         match *line {
             Line::Draw { sub, count } => self.draw(rt, sub, count),
-            Line::Sync {
-                sub,
-                seq,
-                bit,
-                count,
-            } => self.sync(rt, sub, seq, bit, count),
+            Line::Sync { sub, report, count } => self.sync(rt, sub, report, count),
             Line::Give { sub, n } => self.give(sub, n),
             Line::Eps { sub, snid } => self.eps(rt, alloc, sub, snid),
             Line::Fiveg(ref line) => self.fiveg(rt, alloc, line),
@@ -157,7 +152,7 @@ impl<C: Centre> Worker<'_, C> {
         alloc: Global,
         job: &[Line],
     ) -> Result<(), NoMemory>
-        requires known { AreKnown (length self.old.set.rows) job.now }
+        requires known { AreKnown self.old.set.rows job.now }
         requires own { (sub : ℕ) → holds sub job.now ≡ true
             → has_usim (usim_of self.old.set.rows self.old.world) sub ≡ true }
         requires none { self.old.lines ≡ [] }
@@ -182,7 +177,7 @@ pub(crate) fn job_world(
 ) -> Result<World, NoMemory>
     requires rows { AreOfRows set.now.rows usims.now }
     requires stores { length stores.now ≡ length set.now.rows }
-    requires known { AreKnown (length set.now.rows) job.now }
+    requires known { AreKnown set.now.rows job.now }
     requires realm { length set.now.realm ≤ 255 }
     ensures { IfOk result (λ world. world ≡ start_world set.now usims.now stores.now job.now) }
 {

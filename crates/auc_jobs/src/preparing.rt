@@ -17,23 +17,25 @@ use auc_sqn::MAX_SEQ;
 use std::alloc::Global;
 
 /// The reservations that the jobs of a round need before its workers begin, in the subscribers' order: of each subscriber that
-/// they ask for a number, that opens below the greatest number, and whose limit isn't above its opening. The new limit is 64
-/// above the opening, and no further than the greatest number.
+/// they ask for a number, that opens below its greatest number, and whose limit isn't above its opening. The new limit is 64
+/// above the opening, and no further than the greatest number of all, also if that is above the subscriber's.
 pub(crate) fn needed<D: Disk + Drop>(
     alloc: Global,
     jobs: &[JobPart],
+    tops: &[u64],
     openings: &[u64],
     journal: &Journal<D>,
 ) -> Result<Items<(u32, u64)>, NoMemory>
-    requires openings { (length openings.now ≤ 65536) × All (λ number. number ≤ max_seq) openings.now }
+    requires openings { length openings.now ≤ 65536 }
+    requires tops { (length tops.now ≡ length openings.now) × All (λ top. top ≤ max_seq) tops.now }
     requires journal { length journal.now.imsis ≡ length openings.now }
-    ensures { IfOk result (λ needed. needed ≡ needed_by jobs.now openings.now (limits_of journal.now)) }
+    ensures { IfOk result (λ needed. needed ≡ needed_by jobs.now tops.now openings.now (limits_of journal.now)) }
 {
     let marks = asked(alloc, jobs, openings.len())?;
     let mut needed = Items::new(alloc);
     for sub in 0..openings.len() {
         let opening = openings[sub];
-        if marks[sub] && opening < MAX_SEQ && journal.reserved(sub as u32) <= opening {
+        if marks[sub] && opening < tops[sub] && journal.reserved(sub as u32) <= opening {
             needed.push((sub as u32, (opening + 64).min(MAX_SEQ)))?;
         }
     }

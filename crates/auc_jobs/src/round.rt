@@ -74,7 +74,7 @@ pub fn serve<D: Disk + Drop + Send, G: Gate + Sync, R: Threads + Wait + Sync>(
     gate: &G,
 ) -> Served<D>
     requires state { (early : List LineRecord) × StandsAt set.now early state }
-    requires known { AreAllKnown (length set.now.rows) jobs.now }
+    requires known { AreAllKnown set.now.rows jobs.now }
     requires few { length jobs.now ≤ 200000 }
     requires apart { AllPairs AreApart jobs.now }
     requires workers { (1 ≤ workers) × (workers ≤ 64) }
@@ -128,7 +128,7 @@ fn pieces<D: Disk + Drop + Send, G: Gate + Sync, R: Threads + Wait + Sync>(
     gate: &G,
 ) -> Pieces<D>
     requires state { (early : List LineRecord) × StandsAt set.now early state.now }
-    requires known { AreAllKnown (length set.now.rows) jobs.now }
+    requires known { AreAllKnown set.now.rows jobs.now }
     requires few { length jobs.now ≤ 200000 }
     requires apart { AllPairs AreApart jobs.now }
     requires workers { (1 ≤ workers) × (workers ≤ 64) }
@@ -200,7 +200,7 @@ fn sum_up(
           sessions = s.sessions;
           premise = s.premise;
         }) done.now.words state.new) }
-    ensures opens { OnOk result (state.new.words ≡ reopened done.now.words) }
+    ensures opens { OnOk result (state.new.words ≡ reopened set.now.rows done.now.words) }
     ensures next { OnOk result ((early : List LineRecord) → StandsAt set.now early state.old
         → StandsAt set.now (early ++ all_lines done.now.jobs.records) state.new) }
     ensures kept { OnErr result (state.new ≡ state.old) }
@@ -218,6 +218,7 @@ fn sum_up(
     let premise = round_premise(done.jobs.sessions.as_slice());
     state.advance(
         alloc,
+        set.subs,
         records,
         done.jobs.devices.as_slice(),
         done.words.as_slice(),
@@ -248,7 +249,7 @@ fn finish(
     requires bound { All (λ word. word ≤ max_seq + 64) done.words }
     ensures lawful { IfOk result (λ ran. (early : List LineRecord) → StandsAt set.now early state.old
         → LeadsOn set.now done.stop early state.old jobs.now ran.round done.words state.new) }
-    ensures opens { OnOk result (state.new.words ≡ reopened done.words) }
+    ensures opens { OnOk result (state.new.words ≡ reopened set.now.rows done.words) }
     ensures next { IfOk result (λ ran. (early : List LineRecord)
         → StandsAt set.now early state.old
         → StandsAt set.now (early ++ all_lines ran.round.jobs) state.new) }

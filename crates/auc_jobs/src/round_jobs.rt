@@ -1,9 +1,9 @@
 //! A job of a round, served at a worker's desk.
 
 ghost use Rattle.std.specs.Prelude.{◌≡◌, ◌<◌, ℕ, List, length, IfOk};
-ghost use Rattle.auc_centre.specs.Adds.{Adds};
+ghost use Rattle.auc_centre.specs.Adds.{Adds, kept_by};
 ghost use Rattle.auc_centre.specs.Kept.{subs_of};
-ghost use Rattle.auc_draw.specs.Deeds.{kept_of};
+ghost use Rattle.auc_draw.specs.Book.{IsOf};
 ghost use Rattle.auc_world.specs.declared.record.LineRecord.{LineRecord};
 ghost use Rattle.auc_jobs.specs.InnerSharing.{BeginsAt, IsBookOf, IsServable, ServesAt};
 ghost use Rattle.auc_jobs.specs.InnerWorker.{IsCentreOf};
@@ -71,7 +71,7 @@ impl RoundJobs<'_> {
         job: u32,
     ) -> Result<ServedJob, NoMemory>
         requires servable { IsServable self.now }
-        requires centre { IsCentreOf (length self.now.set.rows) (C.subs centre.old) (C.top centre.old) }
+        requires centre { IsCentreOf self.now.set.rows (C.subs centre.old) (C.top centre.old) }
         requires job { job < length self.now.jobs }
         requires begins { (early : List LineRecord) × (beside : List LineRecord)
             × BeginsAt self.now early beside (C.kept centre.old) job }
@@ -100,14 +100,14 @@ impl RoundJobs<'_> {
         job: u32,
     ) -> Result<ServedJob, NoMemory>
         requires servable { IsServable self.now }
-        requires book { IsBookOf L.table (subs_of L.opening) (length self.now.set.rows) book.now }
-        requires own { pass.old.id ≡ L.table }
+        requires book { IsBookOf L.table L.tops (subs_of L.opening) self.now.set.rows book.now }
+        requires own { IsOf L.table L.tops pass.old }
         requires job { job < length self.now.jobs }
         requires begins { (early : List LineRecord) × (beside : List LineRecord)
-            × BeginsAt self.now early beside (kept_of pass.old.deeds) job }
-        ensures own { pass.new.id ≡ L.table }
+            × BeginsAt self.now early beside (kept_by pass.old) job }
+        ensures own { IsOf L.table L.tops pass.new }
         ensures served { IfOk result (λ served. ServesAt (λ i es ws. Adds pass.old i es ws pass.new)
-            (kept_of pass.old.deeds) (kept_of pass.new.deeds) self.now job served) }
+            (kept_by pass.old) (kept_by pass.new) self.now job served) }
     {
         let mut desk = Desk { pass, book, keeper };
         self.serve_at(rt, alloc, &mut desk, job)

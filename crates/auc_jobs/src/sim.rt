@@ -25,7 +25,7 @@ fn triplets_of(
     numbers: &Lease,
 ) -> Result<Items<Triplet>, NoMemory>
     requires known { sub < length set.now.rows }
-    requires numbers { All IsNumber numbers.now }
+    requires numbers { All (IsNumber set.now.rows sub) numbers.now }
     ensures { IfOk result (AreTripletsOf set.now sub numbers.now) }
 {
     let mut triplets = Items::new(alloc);
@@ -47,7 +47,7 @@ fn session_notes(
     requires realm { length set.now.realm ≤ 255 }
     requires least { 2 ≤ length numbers.now }
     requires most { length numbers.now ≤ 3 }
-    requires numbers { All IsNumber numbers.now }
+    requires numbers { All (IsNumber set.now.rows line.now.sub) numbers.now }
     ensures { IfOk result (AreNotesOf set.now line.now numbers.now) }
 {
     let row = set.subs.row(line.sub());

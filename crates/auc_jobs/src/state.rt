@@ -1,7 +1,7 @@
 //! What passes from round to round.
 
-ghost use Rattle.std.specs.Prelude.{◌≡◌, ◌≤◌, [], List, All, length, map, IfOk, OnErr, OnOk};
-ghost use Rattle.auc_sqn.specs.Number.{max_seq};
+ghost use Rattle.std.specs.Prelude.{◌≡◌, ◌≤◌, ◌<◌, ℕ, [], List, length, map, slice_index, IfOk, OnErr, OnOk};
+ghost use Rattle.auc_subs.specs.Subscriber.{top_at};
 ghost use Rattle.auc_world.specs.Setting.{Setting};
 ghost use Rattle.auc_world.specs.Start.{fresh_kept};
 ghost use Rattle.auc_world.specs.declared.record.LineRecord.{LineRecord};
@@ -56,10 +56,11 @@ impl State {
 
     /// Opens the next round at other words, as a restart does. All else stays.
     pub fn open_at(&mut self, words: Items<u64>)
-        requires size { length words ≡ length self.old.words }
-        requires numbers { All (λ word. word ≤ max_seq) words }
+        requires { length words ≡ length self.old.words }
         ensures opened { self.new ≡ record self.old { words = words } }
-        ensures stands { (set : Setting) (early : List LineRecord) → StandsAt set early self.old → StandsAt set early self.new }
+        ensures stands { (set : Setting) (early : List LineRecord)
+            → ((sub : ℕ) → sub < length set.rows → slice_index words sub ≤ top_at set.rows sub)
+            → StandsAt set early self.old → StandsAt set early self.new }
     {
         self.words = words;
     }
@@ -68,14 +69,16 @@ impl State {
     pub(crate) fn advance(
         &mut self,
         alloc: Global,
+        subs: &Subscribers,
         records: &[JobRecord],
         devices: &[JobDevices],
         words: &[u64],
     ) -> Result<(), NoMemory>
-        ensures advanced { OnOk result (IsAdvanced self.old records.now devices.now words.now self.new) }
+        requires { length words.now ≡ length subs.now }
+        ensures advanced { OnOk result (IsAdvanced subs.now self.old records.now devices.now words.now self.new) }
         ensures kept { OnErr result (self.new ≡ self.old) }
     {
-        let openings = reopened(alloc, words)?;
+        let openings = reopened(alloc, subs, words)?;
         note_all(&mut self.released, records)?;
         self.usims.put_back(devices);
         self.stores.put_back(devices);
@@ -87,7 +90,8 @@ impl State {
 /// The numbers at which the rows say that the centre stands.
 fn first_words(alloc: Global, subs: &Subscribers) -> Result<Items<u64>, NoMemory>
     ensures value { IfOk result (λ words. words ≡ map (λ row. row.seq) subs.now) }
-    ensures bound { IfOk result (λ words. All (λ word. word ≤ max_seq) words) }
+    ensures bound { IfOk result (λ words. (sub : ℕ) → sub < length subs.now
+        → slice_index words sub ≤ top_at subs.now sub) }
 {
     let mut words = Items::new(alloc);
     for sub in 0..subs.len() {

@@ -4,7 +4,7 @@ ghost use Rattle.std.specs.Prelude.{◌≡◌, ◌≤◌, ◌<◌, [], ◌∷◌
 ghost use Rattle.auc_5g.specs.Keys.{home_of};
 ghost use Rattle.auc_cards.specs.Known.{IsKnownFiveg};
 ghost use Rattle.auc_lines.specs.Part.{IsStarBit};
-ghost use Rattle.auc_sqn.specs.Number.{max_seq};
+ghost use Rattle.auc_subs.specs.Subscriber.{top_at};
 ghost use Rattle.auc_subs.specs.declared.row.Row.{Row};
 ghost use Rattle.auc_world.specs.declared.record.GiveVerdict.TheVariants as given;
 ghost use Rattle.auc_world.specs.Given.{Authenticates, EpsGives, FivegFollows, FivegGives, hxres_lines, judged_lines, outcome_of as outcome_is};
@@ -96,7 +96,7 @@ impl<C: Centre> Worker<'_, C> {
         requires known { IsKnownFiveg (length self.old.set.rows) line.now }
         requires own { has_usim (usim_of self.old.set.rows self.old.world) line.now.sub ≡ true }
         requires first { 1 ≤ n }
-        requires last { n ≤ max_seq }
+        requires last { n ≤ top_at self.old.set.rows line.now.sub }
 
         ensures given { OnOk result (WorkerServes C.kept C.goes self.old self.new
             (λ before. FivegFollows self.old.set before line.now n)) }
@@ -123,7 +123,6 @@ impl<C: Centre> Worker<'_, C> {
         requires known { IsKnownFiveg (length self.old.set.rows) line.now }
         requires own { has_usim (usim_of self.old.set.rows self.old.world) line.now.sub ≡ true }
         requires first { 1 ≤ n }
-        requires last { n ≤ max_seq }
 
         ensures given { OnOk result (WorkerServes C.kept C.goes self.old self.new
             (λ before lines. (row : Row) → slice_get self.old.set.rows line.now.sub ≡ Some row

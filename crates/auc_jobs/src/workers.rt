@@ -1,12 +1,12 @@
 //! The workers of a round, and what they served in the order of the jobs.
 
-ghost use Rattle.std.specs.Prelude.{◌≡◌, ◌≤◌, ◌+◌, [], All, AllPairs, IsPermutation, List, length, map, IfOk, if◌then◌else◌};
+ghost use Rattle.std.specs.Prelude.{◌≡◌, ◌≤◌, ◌<◌, ◌+◌, ℕ, [], All, AllPairs, IsPermutation, List, length, map, slice_index, IfOk, if◌then◌else◌};
 ghost use Rattle.auc_centre.specs.Kept.{subs_of};
 ghost use Rattle.auc_draw.specs.Book.{Closes, IsNew, IsOf, Opens};
 ghost use Rattle.auc_journal.specs.Journal.{limits_of};
 ghost use Rattle.auc_keeper.specs.Keeper.{Since};
 ghost use Rattle.auc_sqn.specs.Number.{max_seq};
-ghost use Rattle.auc_subs.specs.Subscriber.{AreSubscribers};
+ghost use Rattle.auc_subs.specs.Subscriber.{AreSubscribers, top_at, tops_of};
 ghost use Rattle.auc_world.specs.declared.record.LineRecord.{LineRecord};
 ghost use Rattle.auc_world.specs.Vectors.{vectors_in};
 ghost use Rattle.auc_jobs.specs.InnerClaims.{AreCollected, ClosesAs, IsDone};
@@ -28,7 +28,6 @@ use auc_edge::{Gate, Items, NoMemory, Stop};
 use auc_history::recut_split_is_a_split;
 use auc_journal::Journal;
 use auc_keeper::Keeper;
-use auc_lines::JobPart;
 use std::alloc::{AllocError, Global};
 use std::marker::Brand;
 use std::sync::{Mutex, Wait};
@@ -74,16 +73,16 @@ fn run_workers<
     passes: Vec<Pass>,
 ) -> Result<Vec<WorkerJobs>, AllocError>
     requires round { IsServable round.now }
-    requires book { IsBookOf L.table (subs_of L.opening) (length round.now.set.rows) book.now }
-    requires new { All (IsNew L.table) passes.items }
+    requires book { IsBookOf L.table L.tops (subs_of L.opening) round.now.set.rows book.now }
+    requires new { All (IsNew L.table L.tops) passes.items }
     ensures { IfOk result (λ all. (length all.items ≡ length passes.items)
-        × All (IsDone L.table round.now) all.items) }
+        × All (IsDone L.table L.tops round.now) all.items) }
 {
     let one = |pass: Pass| -> WorkerJobs
         requires { IsServable round.now
-            × IsBookOf L.table (subs_of L.opening) (length round.now.set.rows) book.now
-            × IsNew L.table pass }
-        ensures { IsDone L.table round.entry.now result }
+            × IsBookOf L.table L.tops (subs_of L.opening) round.now.set.rows book.now
+            × IsNew L.table L.tops pass }
+        ensures { IsDone L.table L.tops round.entry.now result }
     { work(rt, alloc, round, book, keeper, gate, pass) };
     thread::map_vec(rt, passes, &one)
 }
@@ -107,12 +106,12 @@ fn work_all<
     needed: &[(u32, u64)],
 ) -> Worked<D>
     requires round { IsServable round.now }
-    requires book { IsBookOf L.table (subs_of L.opening) (length round.now.set.rows) book.now }
-    requires new { All (IsNew L.table) passes.items }
+    requires book { IsBookOf L.table L.tops (subs_of L.opening) round.now.set.rows book.now }
+    requires new { All (IsNew L.table L.tops) passes.items }
     requires keeper { CanKeep L.table L.passes L.opening journal keeper }
     requires needed { AreReservable (length book.now.openings) keeper needed.now }
     ensures all { IfOk result.all (λ all. (length all.items ≡ length passes.items)
-        × All (IsDone L.table round.now) all.items) }
+        × All (IsDone L.table L.tops round.now) all.items) }
     ensures own { (result.keeper.id ≡ L.table) × (result.keeper.passes ≡ L.passes) }
     ensures stop { result.stop ≡ result.keeper.stop }
     ensures since { Since D.seen D.may_leave D.faults journal
@@ -177,24 +176,36 @@ fn served_jobs(alloc: Global, jobs: Vec<ClaimedJob>, full: bool) -> Result<Serve
     Ok(done)
 }
 
-/// Opens a book at the openings, with the limits of a journal, and tells the reservations that the jobs need before their workers
-/// begin.
+/// Opens a book at the openings, with the subscribers' greatest numbers and the limits of a journal, and tells the reservations
+/// that the jobs of a round need before their workers begin.
 fn open_book<D: Disk + Drop>(
     alloc: Global,
-    jobs: &[JobPart],
+    round: &RoundJobs,
     openings: &[u64],
     journal: &Journal<D>,
     workers: u32,
 ) -> Result<(Book, Vec<Pass>, KeeperPass, Items<(u32, u64)>), NoMemory>
-    requires openings { (length openings.now ≤ 65536) × All (λ number. number ≤ max_seq) openings.now }
+    requires openings { (length openings.now ≡ length round.now.set.rows) × (length openings.now ≤ 65536) }
+    requires numbers { (sub : ℕ) → sub < length round.now.set.rows
+        → slice_index openings.now sub ≤ top_at round.now.set.rows sub }
     requires journal { length journal.now.imsis ≡ length openings.now }
     requires workers { (1 ≤ workers) × (workers ≤ 64) }
-    ensures opens { IfOk result (λ opened. Opens openings.now (limits_of journal.now) workers opened.0 opened.1.items opened.2) }
-    ensures needed { IfOk result (λ opened. opened.3 ≡ needed_by jobs.now openings.now (limits_of journal.now)) }
+    ensures opens { IfOk result (λ opened. Opens openings.now (tops_of round.now.set.rows) (limits_of journal.now) workers
+        opened.0 opened.1.items opened.2) }
+    ensures needed { IfOk result (λ opened. opened.3
+        ≡ needed_by round.now.jobs (tops_of round.now.set.rows) openings.now (limits_of journal.now)) }
 {
-    let needed = needed(alloc, jobs, openings, journal)?;
+    let set = round.set;
+    let tops = set.subs.tops(alloc)?;
+    let needed = needed(alloc, round.jobs, tops.as_slice(), openings, journal)?;
     let limits = limits(alloc, journal, openings.len() as u32)?;
-    let (book, passes, keeper) = Book::open(alloc, openings, limits.as_slice(), workers)?;
+    let (book, passes, keeper) = Book::open(
+        alloc,
+        openings,
+        tops.as_slice(),
+        limits.as_slice(),
+        workers,
+    )?;
     Ok((book, passes, keeper, needed))
 }
 
@@ -235,7 +246,7 @@ fn last_words(
     keeper: KeeperPass,
     subs: u32,
 ) -> Result<Items<u64>, NoMemory>
-    requires own { All (IsOf book.id) passes.items }
+    requires own { All (IsOf book.id book.tops) passes.items }
     requires keeper { (keeper.id ≡ book.id) × (keeper.passes ≡ length passes.items) }
     requires subs { length book.openings ≡ subs }
     ensures { IfOk result (λ words. Closes book (map (λ p. p.deeds) passes.items) keeper
@@ -257,7 +268,8 @@ fn close(
 ) -> Result<RoundPieces, NoMemory>
     requires round { IsServable round.now }
     requires book { length book.openings ≡ length round.now.set.rows }
-    requires all { (1 ≤ length all.items) × All (IsDone book.id round.now) all.items }
+    requires tops { book.tops ≡ tops_of round.now.set.rows }
+    requires all { (1 ≤ length all.items) × All (IsDone book.id book.tops round.now) all.items }
     requires keeper { (keeper.id ≡ book.id) × (keeper.passes ≡ length all.items) }
     requires stop { stop ≡ keeper.stop }
     ensures { IfOk result (λ done. ClosesAs round.now book keeper done) }
@@ -289,8 +301,9 @@ fn settle<D: Disk + Drop>(
 ) -> Pieces<D>
     requires round { IsServable round.now }
     requires book { length book.openings ≡ length round.now.set.rows }
+    requires tops { book.tops ≡ tops_of round.now.set.rows }
     requires all { IfOk worked.all (λ all. (1 ≤ length all.items) × (worked.keeper.passes ≡ length all.items)
-        × All (IsDone book.id round.now) all.items) }
+        × All (IsDone book.id book.tops round.now) all.items) }
     requires keeper { worked.keeper.id ≡ book.id }
     requires stop { worked.stop ≡ worked.keeper.stop }
     ensures closes { IfOk result.result (λ done. ClosesAs round.now book worked.keeper done) }
@@ -328,8 +341,9 @@ pub(crate) fn serve_pieces<D: Disk + Drop + Send, G: Gate + Sync, R: Threads + W
     gate: &G,
 ) -> Pieces<D>
     requires round { IsServable round.now }
-    requires openings { (length openings.now ≡ length round.now.set.rows) × (length openings.now ≤ 65536)
-        × All (λ number. number ≤ max_seq) openings.now }
+    requires openings { (length openings.now ≡ length round.now.set.rows) × (length openings.now ≤ 65536) }
+    requires numbers { (sub : ℕ) → sub < length round.now.set.rows
+        → slice_index openings.now sub ≤ top_at round.now.set.rows sub }
     requires subscribers { AreSubscribers round.now.set.rows }
     requires journal { IsJournalOf round.now.set.rows journal }
     requires workers { (1 ≤ workers) × (workers ≤ 64) }
@@ -348,7 +362,7 @@ pub(crate) fn serve_pieces<D: Disk + Drop + Send, G: Gate + Sync, R: Threads + W
     ensures near { IfOk result.result (λ done. StaysNear D.seen D.may_leave journal done.words result.journal) }
     ensures stop { IfOk result.result (λ done. TellsStop D.faults journal done.stop result.journal) }
 {
-    match open_book(alloc, round.jobs, openings, &journal, workers) {
+    match open_book(alloc, round, openings, &journal, workers) {
         Ok(opened) => {
             let (book, passes, keeper, needed) = opened;
             let worked = work_all::<Brand, D, G, R>(

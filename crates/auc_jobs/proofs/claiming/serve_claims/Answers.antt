@@ -4,7 +4,7 @@ use Rattle.auc_jobs.proofs.claiming.serve_claims.Goals as goal
 
 pub loop-turn-init : goal.loop-turn-init
 loop-turn-init g c = record {
-  own = refl;
+  own = (refl, refl);
   claims = c.requires.new.2;
   many = ap length c.requires.none;
   stands = λ early begins. between_first _ early _ _ c.requires.new.1 c.requires.new.2 c.requires.none begins;
@@ -20,7 +20,7 @@ pub loop-turn-preserved : goal.loop-turn-preserved
 loop-turn-preserved g c =
     let some = c.in_ok-serve_next.ensures.turn.some (search rules) in
     record {
-      own = c.in_ok-serve_next.ensures.own ∙ sym c.requires.new.0;
+      own = (c.in_ok-serve_next.ensures.own.0 ∙ sym c.requires.new.0.0, c.in_ok-serve_next.ensures.own.1 ∙ sym c.requires.new.0.1);
       claims = some.0;
       many = some.1 ∙ ap (λ k. k + 1) c.loop-turn.invariant.many;
       stands = λ early begins. c.in_ok-serve_next.ensures.turn.stands early (c.loop-turn.invariant.stands early begins);

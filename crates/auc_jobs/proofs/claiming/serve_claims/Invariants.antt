@@ -1,4 +1,5 @@
 use Rattle.std.proofs.Common.{◌≡◌, List, None, length}
+use Rattle.auc_draw.specs.Book.{IsOf}
 use Rattle.auc_world.specs.declared.record.LineRecord.{LineRecord}
 use Rattle.auc_jobs.specs.InnerClaims.{IsBetween}
 use Rattle.auc_jobs.specs.InnerSharing.{Begins}
@@ -6,7 +7,7 @@ use Rattle.auc_jobs.proofs.claiming.serve_claims.Given as goal
 
 abbrev pub invariant-loop-turn : goal.invariant-loop-turn
 invariant-loop-turn g l = record {
-  own : l.pass.id ≡ l.initial.pass.id;
+  own : IsOf l.initial.pass.id l.initial.pass.tops l.pass;
   claims : l.pass.ended ≡ None;
   many : length l.done.items ≡ l._turn;
   stands : (early : List LineRecord) → Begins l.round early → IsBetween l.round early l.pass l.done.items;

@@ -1,4 +1,4 @@
-use Rattle.std.proofs.Common.{ℕ, None, Some, subst}
+use Rattle.std.proofs.Common.{ℕ, None, Some, subst, sym, ◌∙◌}
 use Rattle.auc_draw.specs.Pass.{ClaimsJob}
 use Rattle.auc_jobs.specs.InnerClaims.{lines_done}
 use Rattle.auc_jobs.proofs.TurnLemmas.{claimed_begins, turn_on, turn_out}
@@ -6,7 +6,7 @@ use Rattle.auc_jobs.proofs.claiming.serve_next.Goals as goal
 
 pub returns-in_default-clause-turn : goal.returns-in_default-clause-turn
 returns-in_default-clause-turn g c =
-    turn_out c.args.round.now c.args.pass.now c.claim.new.self c.args.done.now.items c.requires.claims
+    turn_out c.args.round.now c.args.pass.now c.claim.new.self c.args.done.now.items c.requires.claims c.claim.ensures.own.1
     (subst (λ (k : ℕ). ClaimsJob k c.args.pass.now c.claim.new.self None) c.count.ensures c.in_default.ensures.claims)
 
 pub serve_at_desk-requires-clause-begins : goal.serve_at_desk-requires-clause-begins
@@ -15,7 +15,7 @@ serve_at_desk-requires-clause-begins g c =
       early,
       lines_done c.args.done.now.items,
       claimed_begins c.args.round.now early c.args.pass.now c.claim.new.self c.args.done.now.items c.in-Some.job c.requires.round.apart
-          (subst (λ (k : ℕ). ClaimsJob k c.args.pass.now c.claim.new.self (Some c.in-Some.job)) c.count.ensures c.in-Some.ensures.claims) between,
+          (subst (λ (k : ℕ). ClaimsJob k c.args.pass.now c.claim.new.self (Some c.in-Some.job)) c.count.ensures c.in-Some.ensures.claims) c.claim.ensures.own.1 between,
     )
 
 pub returns-clause-turn : goal.returns-clause-turn
@@ -24,5 +24,7 @@ returns-clause-turn g c =
       apart = c.requires.round.apart;
       known = c.requires.round.known;
       claim = subst (λ (k : ℕ). ClaimsJob k c.args.pass.now c.claim.new.self (Some c.in-Some.job)) c.count.ensures c.in-Some.ensures.claims;
+      tops = c.claim.ensures.own.1;
+      greatest = c.claim.ensures.own.1 ∙ c.requires.own.1 ∙ sym c.requires.book.own.1 ∙ c.requires.book.tops;
       serves = c.in_ok-served.ensures.served;
     }) c.in_ok-push.ensures.items c.requires.stands

@@ -8,7 +8,7 @@ use Rattle.auc_jobs.specs.InnerRound.{AreServed}
 use Rattle.auc_jobs.specs.InnerSharing.{Begins}
 use Rattle.auc_jobs.specs.State.{Standing, StandsAt}
 use Rattle.auc_jobs.proofs.KeepingLemmas.{if_ok_map}
-use Rattle.auc_jobs.proofs.StateLemmas.{beginning, begins_with, openings_fit, servable}
+use Rattle.auc_jobs.proofs.StateLemmas.{beginning, begins_with, numbers_fit, openings_fit, servable}
 use Rattle.auc_jobs.proofs.round.pieces.Goals as goal
 
 pub serve_pieces-requires-clause-round : goal.serve_pieces-requires-clause-round
@@ -21,6 +21,10 @@ pub serve_pieces-requires-clause-openings : goal.serve_pieces-requires-clause-op
 serve_pieces-requires-clause-openings g c = λ lifetimes within.
     openings_fit c.args.set.now c.args.state.now c.as_slice.result.now (c.as_slice.ensures ∙ ap (λ (s : Standing). s.words) c.state.view_is)
     (subst (λ (rows : List Row). length rows ≤ 65536) (ap (λ (s : Setting). s.rows) c.set.view_is) c.len-count.ensures.subscribers.limit) c.requires.state
+
+pub serve_pieces-requires-clause-numbers : goal.serve_pieces-requires-clause-numbers
+serve_pieces-requires-clause-numbers g c = λ lifetimes within.
+    numbers_fit c.args.set.now c.args.state.now c.as_slice.result.now (c.as_slice.ensures ∙ ap (λ (s : Standing). s.words) c.state.view_is) c.requires.state
 
 pub returns-clause-served : goal.returns-clause-served
 returns-clause-served g c =

@@ -2,6 +2,7 @@ use Rattle.std.proofs.Common.{◌≡◌, ℕ, List, length, ap, sym, ◌∙◌, 
 use Rattle.std.specs.Prelude.{slice_get, Some}
 use Rattle.auc_world.specs.Lines.{all_lines}
 use Rattle.auc_world.specs.Sessions.{AreVerdicts, premise_from}
+use Rattle.auc_world.specs.Setting.{Setting}
 use Rattle.auc_world.specs.Transcript.{reopened}
 use Rattle.auc_world.specs.declared.record.JobSessions.{JobSessions}
 use Rattle.auc_world.specs.declared.record.LineRecord.{LineRecord}
@@ -36,6 +37,11 @@ round_premise-premise-requires c =
     let same = ap (λ (ss : List JobSessions). length ss) c.as_slice-4.ensures in
     omega (arith, many, same, c.requires.few)
 
+pub advance-requires : goal.advance-requires
+advance-requires c =
+    let served = c.requires.served c.requires.state.0 c.requires.state.1 in
+    ap (λ (ws : List ℕ). length ws) c.as_slice-6.ensures ∙ served.size ∙ c.requires.state.1.subscribers.size ∙ sym (ap (λ (s : Setting). length s.rows) c.set.view_is)
+
 pub returns-clause-lawful : goal.returns-clause-lawful
 returns-clause-lawful c = λ number early stands.
     let opened : c.state.inside.words ≡ c.args.state.now.words = ap (λ (s : Standing). s.words) c.state.view_is in
@@ -50,14 +56,15 @@ returns-clause-lawful c = λ number early stands.
     c.in_ok-counts.counts.items number c.in_ok-closings.closings c.in_ok-verdicts.verdicts c.round_premise-premise.result c.requires.apart served.pieces c.requires.bound served.size counts counted closed
     c.requires.withholds (subst (λ (js : List JobSessions). AreVerdicts js c.in_ok-verdicts.verdicts) c.as_slice-3.ensures c.in_ok-verdicts.ensures)
     (c.round_premise-premise.ensures ∙ ap (premise_from 1) c.as_slice-4.ensures)
-    (advanced_as c.args.state.now c.args.state.now _ _ _ _ _ _ c.advance.new.self refl c.as_slice-records.ensures c.as_slice-5.ensures c.as_slice-6.ensures c.in_ok-advance.ensures.advanced)
+    (advanced_as _ c.args.set.now.rows c.args.state.now c.args.state.now _ _ _ _ _ _ c.advance.new.self (ap (λ (s : Setting). s.rows) c.set.view_is) refl c.as_slice-records.ensures c.as_slice-5.ensures c.as_slice-6.ensures c.in_ok-advance.ensures.advanced)
 
 pub returns-clause-opens : goal.returns-clause-opens
-returns-clause-opens c = c.in_ok-advance.ensures.advanced.opened ∙ ap reopened c.as_slice-6.ensures
+returns-clause-opens c =
+    c.in_ok-advance.ensures.advanced.opened ∙ ap (λ (s : Setting). reopened s.rows c.as_slice-6.result.now) c.set.view_is ∙ ap (reopened c.args.set.now.rows) c.as_slice-6.ensures
 
 pub returns-clause-next : goal.returns-clause-next
 returns-clause-next c = λ early stands.
     let served = c.requires.served early stands in
     stands_after c.args.set.now early c.args.state.now c.advance.new.self c.args.jobs.now c.args.done.now.jobs.records c.args.done.now.jobs.devices c.args.done.now.jobs.sessions c.args.done.now.words
     c.requires.apart stands served
-    (advanced_as c.args.state.now c.args.state.now _ _ _ _ _ _ c.advance.new.self refl c.as_slice-records.ensures c.as_slice-5.ensures c.as_slice-6.ensures c.in_ok-advance.ensures.advanced)
+    (advanced_as _ c.args.set.now.rows c.args.state.now c.args.state.now _ _ _ _ _ _ c.advance.new.self (ap (λ (s : Setting). s.rows) c.set.view_is) refl c.as_slice-records.ensures c.as_slice-5.ensures c.as_slice-6.ensures c.in_ok-advance.ensures.advanced)

@@ -16,18 +16,18 @@ number-requires c = omega (arith, c.requires.least)
 pub run_session-requires-clause-least : goal.run_session-requires-clause-least
 run_session-requires-clause-least c =
     let size = triplets_size c.args.set.now c.sub-3.result c.sub.result c.args.numbers.now c.in_ok-triplets.triplets c.as_slice-2.result.now c.row-row.result.now (c.sub-3.ensures ∙ sym c.sub.ensures)
-    (subst (λ (s : Setting). slice_get s.rows c.sub.result ≡ Some c.row-row.result.now) c.set.view_is c.row-row.ensures) c.in_ok-triplets.ensures c.as_slice-2.ensures in
+    (subst (λ (s : Setting). slice_get s.rows c.sub.result ≡ Some c.row-row.result.now) c.set.view_is c.row-row.ensures.place) c.in_ok-triplets.ensures c.as_slice-2.ensures in
     omega (arith, c.requires.least, size)
 
 pub run_session-requires-clause-most : goal.run_session-requires-clause-most
 run_session-requires-clause-most c =
     let size = triplets_size c.args.set.now c.sub-3.result c.sub.result c.args.numbers.now c.in_ok-triplets.triplets c.as_slice-2.result.now c.row-row.result.now (c.sub-3.ensures ∙ sym c.sub.ensures)
-    (subst (λ (s : Setting). slice_get s.rows c.sub.result ≡ Some c.row-row.result.now) c.set.view_is c.row-row.ensures) c.in_ok-triplets.ensures c.as_slice-2.ensures in
+    (subst (λ (s : Setting). slice_get s.rows c.sub.result ≡ Some c.row-row.result.now) c.set.view_is c.row-row.ensures.place) c.in_ok-triplets.ensures c.as_slice-2.ensures in
     omega (arith, c.requires.most, size)
 
 pub run_session-requires-clause-short : goal.run_session-requires-clause-short
 run_session-requires-clause-short c =
-    let there : slice_get c.args.set.now.rows c.sub.result ≡ Some c.row-row.result.now = subst (λ (s : Setting). slice_get s.rows c.sub.result ≡ Some c.row-row.result.now) c.set.view_is c.row-row.ensures in
+    let there : slice_get c.args.set.now.rows c.sub.result ≡ Some c.row-row.result.now = subst (λ (s : Setting). slice_get s.rows c.sub.result ≡ Some c.row-row.result.now) c.set.view_is c.row-row.ensures.place in
     let is : c.as_slice.result.now ≡ sim_identity c.row-row.result.now.imsi c.args.set.now.realm =
     c.as_slice.ensures ∙ c.in_ok-identity.ensures ∙ ap (λ (s : Setting). sim_identity c.row-row.result.now.imsi s.realm) c.set.view_is in
     subst (λ (text : List ℕ). length text ≤ 1016) (sym is)
@@ -36,7 +36,7 @@ run_session-requires-clause-short c =
 pub returns : goal.returns
 returns c =
     let there : slice_get c.args.set.now.rows c.args.line.now.sub ≡ Some c.row-row.result.now =
-    ap (slice_get c.args.set.now.rows) (sym c.sub.ensures) ∙ subst (λ (s : Setting). slice_get s.rows c.sub.result ≡ Some c.row-row.result.now) c.set.view_is c.row-row.ensures in
+    ap (slice_get c.args.set.now.rows) (sym c.sub.ensures) ∙ subst (λ (s : Setting). slice_get s.rows c.sub.result ≡ Some c.row-row.result.now) c.set.view_is c.row-row.ensures.place in
     let is : c.as_slice.result.now ≡ sim_identity c.row-row.result.now.imsi c.args.set.now.realm =
     c.as_slice.ensures ∙ c.in_ok-identity.ensures ∙ ap (λ (s : Setting). sim_identity c.row-row.result.now.imsi s.realm) c.set.view_is in
     let are : AreTripletsOf c.args.set.now c.args.line.now.sub c.args.numbers.now c.as_slice-2.result.now =

@@ -10,7 +10,7 @@ use Rattle.auc_jobs.proofs.CrewLemmas.{Closing, served_by_workers, limited_by_wo
 use Rattle.auc_jobs.proofs.workers.close.Goals as goal
 
 pub last_words-requires-clause-own : goal.last_words-requires-clause-own
-last_words-requires-clause-own c = passes_own c.args.book.id c.args.round.now c.args.all.items c.in-Ok.both.0.items c.in-Ok.ensures.passed c.requires.all.1
+last_words-requires-clause-own c = passes_own c.args.book.id c.args.book.tops c.args.round.now c.args.all.items c.in-Ok.both.0.items c.in-Ok.ensures.passed c.requires.all.1
 
 pub returns : goal.returns
 returns c =
@@ -26,7 +26,7 @@ returns c =
       some = c.requires.all.0;
       finished = c.requires.all.1;
       collected = c.in-Ok.ensures;
-      closes = record { numbers = refl; closes = c.in_ok-words.ensures };
+      closes = record { numbers = refl; tops = c.requires.tops; closes = c.in_ok-words.ensures };
       same = c.in_ok-in_order.ensures.same;
       rising = c.in_ok-in_order.ensures.sorted;
       apart = c.requires.round.apart;
@@ -42,6 +42,6 @@ returns c =
       looked = c.in_ok-words.ensures.looked;
       vectors = printed_by_workers c.args.book.id c.args.round.now c.args.book.openings c.args.book c.args.keeper c.args.all.items passes closed done
           sorted jobs.records jobs.vectors c.round.inside.full closing c.requires.round (ap (λ (s : Shared). s.full) c.round.view_is) c.in_ok-jobs.ensures.records c.in_ok-jobs.ensures.vectors;
-      bound = closed_within c.args.book (map (λ p. p.deeds) passes) c.args.keeper closed words c.in_ok-words.ensures refl;
+      bound = closed_within c.args.round.now.set.rows c.args.book (map (λ p. p.deeds) passes) c.args.keeper closed words c.requires.tops c.in_ok-words.ensures refl;
       stop = told ∙ ap (λ (s : Option Stop). told_stop s jobs.records) c.requires.stop;
     }

@@ -5,7 +5,9 @@ use Rattle.auc_edge.specs.Identity.{Identity}
 use Rattle.auc_edge.specs.declared.stop.Stop.{Stop}
 use Rattle.auc_journal.specs.Journal.{limits_of}
 use Rattle.auc_sqn.specs.Number.{max_seq}
+use Rattle.auc_subs.specs.Subscriber.{tops_of}
 use Rattle.auc_subs.specs.declared.row.Row.{Row}
+use Rattle.auc_subs.proofs.Facts.{top_at-within}
 use Rattle.auc_world.specs.Vectors.{vectors_in}
 use Rattle.auc_world.specs.declared.record.LineRecord.{LineRecord}
 use Rattle.auc_jobs.specs.declared.claiming.WorkerJobs.{WorkerJobs}
@@ -20,20 +22,21 @@ use Rattle.auc_jobs.proofs.workers.serve_pieces.Goals as goal
 
 pub work_all-worked-requires-clause-keeper : goal.work_all-worked-requires-clause-keeper
 work_all-worked-requires-clause-keeper g c = λ lifetimes within.
-    can_keep c.args.round.now.set.rows c.args.openings.now c.args.workers c.args.journal c.in-Ok.opened.0 c.in-Ok.opened.1.items c.in-Ok.opened.2 c.requires.subscribers c.requires.journal c.in-Ok.ensures.opens
+    can_keep c.args.round.now.set.rows c.args.openings.now (tops_of c.args.round.now.set.rows) c.args.workers c.args.journal c.in-Ok.opened.0 c.in-Ok.opened.1.items c.in-Ok.opened.2 c.requires.subscribers c.requires.journal c.in-Ok.ensures.opens
 
 pub work_all-worked-requires-clause-needed : goal.work_all-worked-requires-clause-needed
 work_all-worked-requires-clause-needed g c = λ lifetimes within.
     let opens = c.in-Ok.ensures.opens in
-    let are = are_reservable c.round.inside.jobs.now c.args.openings.now (limits_of c.args.journal) c.in-Ok.opened.2 (length c.in-Ok.opened.0.openings) opens.seen opens.reserved (ap (λ (os : List ℕ). length os) (sym opens.numbers)) in
+    let are = are_reservable c.args.round.now.jobs (tops_of c.args.round.now.set.rows) c.args.openings.now (limits_of c.args.journal) c.in-Ok.opened.2 (length c.in-Ok.opened.0.openings)
+    (top_at-within c.args.round.now.set.rows) opens.seen opens.reserved (ap (λ (os : List ℕ). length os) (sym opens.numbers)) in
     subst (AreReservable (length c.in-Ok.opened.0.openings) c.in-Ok.opened.2) (sym (c.as_slice.ensures ∙ c.in-Ok.ensures.needed)) are
 
 pub settle-requires-clause-all : goal.settle-requires-clause-all
 settle-requires-clause-all g c =
-    if_ok_map (λ (all : Vec WorkerJobs). (length all.items ≡ length c.in-Ok.opened.1.items) × All (IsDone c.in-Ok.opened.0.id c.args.round.now) all.items)
-    (λ all. (1 ≤ length all.items) × (c.work_all-worked.result.keeper.passes ≡ length all.items) × All (IsDone c.in-Ok.opened.0.id c.args.round.now) all.items) c.work_all-worked.result.all
+    if_ok_map (λ (all : Vec WorkerJobs). (length all.items ≡ length c.in-Ok.opened.1.items) × All (IsDone c.in-Ok.opened.0.id c.in-Ok.opened.0.tops c.args.round.now) all.items)
+    (λ all. (1 ≤ length all.items) × (c.work_all-worked.result.keeper.passes ≡ length all.items) × All (IsDone c.in-Ok.opened.0.id c.in-Ok.opened.0.tops c.args.round.now) all.items) c.work_all-worked.result.all
     (λ all done.
-    all_worked c.in-Ok.opened.0.id c.args.round.now c.args.openings.now (limits_of c.args.journal) c.args.workers c.in-Ok.opened.0 c.in-Ok.opened.1.items c.in-Ok.opened.2 c.work_all-worked.result.keeper all.items
+    all_worked c.in-Ok.opened.0.id c.in-Ok.opened.0.tops c.args.round.now c.args.openings.now (tops_of c.args.round.now.set.rows) (limits_of c.args.journal) c.args.workers c.in-Ok.opened.0 c.in-Ok.opened.1.items c.in-Ok.opened.2 c.work_all-worked.result.keeper all.items
     c.in-Ok.ensures.opens c.requires.workers.0 c.work_all-worked.ensures.own.1 done)
     c.work_all-worked.ensures.all
 

@@ -28,7 +28,7 @@ new-worker-requires-clause-rows g c =
     let known = known_at inside c.args.self.now c.args.job c.as_slice-asked.result.now c.self.view_is c.requires.servable there in
     subst (AreForRows inside.set.rows (g.C.Centre.subs c.args.centre.now) (g.C.Centre.top c.args.centre.now)) (sym c.in_ok-world.ensures)
     (starts_for_rows inside.set inside.usims inside.stores c.as_slice-asked.result.now (g.C.Centre.subs c.args.centre.now) (g.C.Centre.top c.args.centre.now) servable.subscribers servable.rows known
-    (subst (λ (s : Shared). IsCentreOf (length s.set.rows) (g.C.Centre.subs c.args.centre.now) (g.C.Centre.top c.args.centre.now)) (sym c.self.view_is) c.requires.centre))
+    (subst (λ (s : Shared). IsCentreOf s.set.rows (g.C.Centre.subs c.args.centre.now) (g.C.Centre.top c.args.centre.now)) (sym c.self.view_is) c.requires.centre))
 
 pub new-worker-requires-clause-realm : goal.new-worker-requires-clause-realm
 new-worker-requires-clause-realm g c =
@@ -42,7 +42,7 @@ serve_lines-served-requires-clause-known g c =
     let servable : IsServable inside = subst IsServable (sym c.self.view_is) c.requires.servable in
     let there = job_at inside c.args.self.now c.args.job c.index-self-job.result c.as_slice-asked.result.now c.self.view_is c.requires.job c.index-self-job.is c.as_slice-asked.ensures in
     let known = known_at inside c.args.self.now c.args.job c.as_slice-asked.result.now c.self.view_is c.requires.servable there in
-    subst (λ (s : Setting). AreKnown (length s.rows) c.as_slice-asked.result.now) (sym (ap (λ (w : WorkerState g.row.C.Denot). w.set) c.new-worker.ensures)) known
+    subst (λ (s : Setting). AreKnown s.rows c.as_slice-asked.result.now) (sym (ap (λ (w : WorkerState g.row.C.Denot). w.set) c.new-worker.ensures)) known
 
 pub serve_lines-served-requires-clause-own : goal.serve_lines-served-requires-clause-own
 serve_lines-served-requires-clause-own g c =
@@ -65,7 +65,7 @@ served_job-requires g c =
     let does : Does g.C.Centre.kept g.C.Centre.goes (g.C.Centre.name worker.centre) (g.C.Centre.name c.serve_lines-served.new.self.centre) worker c.serve_lines-served.new.self inside.usims inside.stores c.as_slice-asked.result.now = record {
       rows = subst (λ (s : Setting). AreOfRows s.rows inside.usims) (sym set_is) servable.rows;
       subscribers = subst (λ (s : Setting). AreSubscribers s.rows) (sym set_is) servable.subscribers;
-      known = subst (λ (s : Setting). AreKnown (length s.rows) c.as_slice-asked.result.now) (sym set_is) known;
+      known = subst (λ (s : Setting). AreKnown s.rows c.as_slice-asked.result.now) (sym set_is) known;
       none = ap (λ (w : WorkerState g.row.C.Denot). w.lines) c.new-worker.ensures;
       begins = ap (λ (w : WorkerState g.row.C.Denot). w.world) c.new-worker.ensures ∙ c.in_ok-world.ensures
           ∙ ap (λ (s : Setting). start_world s inside.usims inside.stores c.as_slice-asked.result.now) (sym set_is);
@@ -93,7 +93,7 @@ returns-clause-served g c =
     let does : Does g.C.Centre.kept g.C.Centre.goes (g.C.Centre.name worker.centre) (g.C.Centre.name c.serve_lines-served.new.self.centre) worker c.serve_lines-served.new.self inside.usims inside.stores c.as_slice-asked.result.now = record {
       rows = subst (λ (s : Setting). AreOfRows s.rows inside.usims) (sym set_is) servable.rows;
       subscribers = subst (λ (s : Setting). AreSubscribers s.rows) (sym set_is) servable.subscribers;
-      known = subst (λ (s : Setting). AreKnown (length s.rows) c.as_slice-asked.result.now) (sym set_is) known;
+      known = subst (λ (s : Setting). AreKnown s.rows c.as_slice-asked.result.now) (sym set_is) known;
       none = ap (λ (w : WorkerState g.row.C.Denot). w.lines) c.new-worker.ensures;
       begins = ap (λ (w : WorkerState g.row.C.Denot). w.world) c.new-worker.ensures ∙ c.in_ok-world.ensures
           ∙ ap (λ (s : Setting). start_world s inside.usims inside.stores c.as_slice-asked.result.now) (sym set_is);

@@ -26,4 +26,4 @@ returns-clause-drawn g c =
     (IsNext new.set c.args.sub _) stands
     (next_adds (λ i es ws. g.C.Centre.goes c.self.inside.centre.now i es ws c.draw_one-line.new.centre) (g.C.Centre.kept c.draw_one-line.new.centre) new.set c.args.sub beside
     c.self.inside.lines c.push.new.self c.draw_one-line.result c.in_ok-push.ensures (c.draw_one-line.ensures.line new.set
-    (subst (λ (w : WorkerState g.row.C.Denot). c.args.sub < length w.set.rows) (sym c.self.view_is) c.requires)) (c.draw_one-line.ensures.said _ stands.told))))
+    (subst (λ (w : WorkerState g.row.C.Denot). c.args.sub < length w.set.rows) (sym c.self.view_is) c.requires) (c.self.invariant.0.is_centre.greatest c.args.sub)) (c.draw_one-line.ensures.said _ stands.told))))

@@ -23,8 +23,8 @@ returns-clause-happened g c = λ early beside stands.
     (sym c.packet_in-packet.ensures)
     (event_serves g.C.Centre.goes g.C.Centre.kept g.C.Centre.top c.args.self.now.set c.args.self.now.world c.apply.new.self.world c.args.event c.args.self.now.centre c.apply.new.self.centre
     c.in_ok-result.result early beside c.args.self.now.lines c.push.new.self c.args.self.now.released
-    (record { applies = c.in_ok-result.ensures.applied; subscribers = rows.subscribers; placed = rows.placed; same = c.in_ok-result.ensures.same.devices })
-    rows.is_centre.greatest c.in_ok-result.ensures.asked stands
+    (record { applies = c.in_ok-result.ensures.applied; subscribers = rows.subscribers; secrets = rows.secrets; placed = rows.placed; same = c.in_ok-result.ensures.same.devices })
+    (λ i inside. rows.is_centre.greatest i) c.in_ok-result.ensures.asked stands
     (c.in_ok-push.ensures ∙ ap (λ (r : EventRecord). c.self.inside.lines ++ Happening r ∷ []) c.in_ok-record.ensures
     ∙ ap (λ (w : WorkerState g.row.C.Denot). w.lines ++ Happening (record { event = c.args.event; result = c.in_ok-result.result }) ∷ []) (c.self.view_is ∙ c.in_ok-result.ensures.rest))))
 

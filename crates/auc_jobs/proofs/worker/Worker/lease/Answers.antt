@@ -1,10 +1,11 @@
-use Rattle.std.proofs.Common.{◌≡◌, ◌-◌, ◌+◌, ◌∙◌, [], ◌∷◌, List, ap, arith, length, refl, subst, sym, ℕ}
+use Rattle.std.proofs.Common.{◌≡◌, ◌≤◌, ◌-◌, ◌+◌, ◌∙◌, [], ◌∷◌, List, ap, arith, length, refl, subst, sym, ℕ}
 use Rattle.std.proofs.lemmas.List.{length-append}
 use Rattle.std.proofs.lemmas.List.Elements.{All-append, All-nil}
 use Rattle.std.specs.Prelude.{All, IfSome, Option}
 use Rattle.std.proofs.Math.Nat.{sub-zero}
 use Rattle.auc_sites.proofs.Facts.{drawn_above, drawn_more}
 use Rattle.auc_history.specs.declared.entry.Entry.TheVariants.{Drawn}
+use Rattle.auc_subs.specs.Subscriber.{top_at}
 use Rattle.auc_world.specs.Given.{Before}
 use Rattle.auc_world.specs.Setting.{Setting}
 use Rattle.auc_world.specs.declared.record.LineRecord.{LineRecord}
@@ -27,7 +28,7 @@ loop-init g c = record {
   net = refl;
   count = rw c.new-lease.ensures refl;
   own = rw c.new-lease.ensures (g.met.C.Centre.stays c.args.self.now.centre c.args.sub);
-  numbers = rw c.new-lease.ensures (All-nil IsNumber);
+  numbers = rw c.new-lease.ensures (All-nil (IsNumber c.args.self.now.set.rows c.args.sub));
   drawn =
       rw c.new-lease.ensures (also_serves g.C.Centre.kept g.C.Centre.goes c.args.self.now c.args.self.now (λ before lines. lines ≡ [])
       (λ before. LeaseGoesOn c.args.self.now.set c.args.sub (c.args.size - 0) c.args.size [])
@@ -50,8 +51,10 @@ loop-preserved g c = record {
   own = drawn_more g.C.Centre.goes c.args.sub c.in-Some.n c.loop.lease c.push.new.self c.args.self.now.centre c.loop.self.centre c.draw_next.new.self.centre g.met.C.Centre.joins
       c.push.ensures c.loop.invariant.own (subst (λ (o : Option ℕ). IfSome o (λ n. g.C.Centre.goes c.loop.self.centre c.args.sub (Drawn n ∷ []) [] c.draw_next.new.self.centre)) c.in-Some.is c.in_ok-n.ensures.own);
   numbers =
-      subst (All IsNumber) (sym c.push.ensures) (All-append IsNumber c.loop.lease (c.in-Some.n ∷ []) c.loop.invariant.numbers
-      (numbers_one c.in_ok-n.field-0 c.in-Some.n c.in-Some.is c.in_ok-n.ensures.number));
+      let Is : ℕ → Type 0 = IsNumber c.args.self.now.set.rows c.args.sub in
+      subst (All Is) (sym c.push.ensures) (All-append Is c.loop.lease (c.in-Some.n ∷ []) c.loop.invariant.numbers
+      (numbers_one c.args.self.now.set.rows c.args.sub c.in_ok-n.field-0 c.in-Some.n c.in-Some.is
+      (subst (λ (set : Setting). IfSome c.in_ok-n.field-0 (λ n. (1 ≤ n) × (n ≤ top_at set.rows c.args.sub))) c.loop.invariant.same.worker.set c.in_ok-n.ensures.number)));
   drawn =
       more_serves g.C.Centre.kept g.C.Centre.goes c.args.self.now c.loop.self c.draw_next.new.self
       (λ before. LeaseGoesOn c.args.self.now.set c.args.sub (c.args.size - c.loop.counter) c.args.size c.loop.lease)

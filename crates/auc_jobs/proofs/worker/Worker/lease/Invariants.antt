@@ -11,6 +11,6 @@ invariant-loop g l = record {
   net : l.self.world.net ≡ l.fn.self.world.net;
   count : length l.lease ≡ l.counter;
   own : g.C.Centre.goes l.fn.self.centre l.sub (entries_of l.lease) [] l.self.centre;
-  numbers : All IsNumber l.lease;
+  numbers : All (IsNumber l.fn.self.set.rows l.sub) l.lease;
   drawn : WorkerServes g.C.Centre.kept g.C.Centre.goes l.fn.self l.self (λ before. LeaseGoesOn l.fn.self.set l.sub (l.size - l.counter) l.size l.lease);
 }

@@ -30,4 +30,4 @@ returns-clause-given g c = λ early beside stands.
     (g.C.Centre.kept c.args.self.now.centre) c.args.self.now.released (usim_of c.args.self.now.set.rows c.args.self.now.world) (usim_of c.args.self.now.set.rows c.answered.new.self.world) c.args.sub c.args.n
     answer (λ i. g.met.C.Centre.stays c.args.self.now.centre i) stands
     (give_added c.args.self.now.set early beside c.args.self.now.lines c.push.new.self c.args.sub c.args.n answer (usim_of c.args.self.now.set.rows c.answered.new.self.world)
-    row.0 row.1 (c.in_ok-push.ensures ∙ lines) (c.in_ok-answer.ensures.answered early beside stands.earlier stands.pasts)))
+    row.0 row.1 (c.in_ok-push.ensures ∙ lines) (c.in_ok-answer.ensures.answered early beside stands.earlier stands.numbers.0 stands.numbers.1 stands.pasts)))

@@ -23,6 +23,6 @@ returns-clause-said g c =
     (λ early beside stands.
     serves_adds (λ i es ws. g.C.Centre.goes new.centre i es ws new.centre) new.set.rows early beside c.self.inside.lines new.lines (g.C.Centre.kept new.centre) (g.C.Centre.kept new.centre)
     new.released (usim_of new.set.rows new.world) (λ lines. lines ≡ Further c.args.said ∷ []) stands
-    (further_adds (λ i es ws. g.C.Centre.goes new.centre i es ws new.centre) (g.C.Centre.kept new.centre) beside c.self.inside.lines new.lines c.args.said
+    (further_adds (λ i es ws. g.C.Centre.goes new.centre i es ws new.centre) new.set.rows (g.C.Centre.kept new.centre) beside c.self.inside.lines new.lines c.args.said
     (λ i. g.met.C.Centre.stays new.centre i) stands.told
     (pushed ∙ ap (λ (s : Said). c.self.inside.lines ++ Further s ∷ []) c.in_ok-further.ensures))))

@@ -17,7 +17,7 @@ pub returns-in-Sync-clause-served : goal.returns-in-Sync-clause-served
 returns-in-Sync-clause-served g c =
     rw c.in-Sync.is (on_ok_map c.sync.result c.sync.ensures.synced (λ serves.
     still_serves g.C.Centre.kept g.C.Centre.goes c.args.self.now c.sync.new.self
-    (λ (before : Before) (lines : List LineRecord). SyncGives c.args.self.now.set c.in-Sync.sub c.in-Sync.seq c.in-Sync.bit c.in-Sync.count lines) c.sync.ensures.net serves))
+    (λ (before : Before) (lines : List LineRecord). SyncGives c.args.self.now.set c.in-Sync.sub c.in-Sync.report c.in-Sync.count lines) c.sync.ensures.net serves))
 
 pub returns-in-Give-clause-served : goal.returns-in-Give-clause-served
 returns-in-Give-clause-served g c =
