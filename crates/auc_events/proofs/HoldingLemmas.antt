@@ -7,9 +7,8 @@ use Rattle.auc_jobs.proofs.Facts.{numbers_of-append, some_at}
 use Rattle.auc_jobs.specs.InnerServing.{IsTold, before_at}
 use Rattle.auc_lines.specs.declared.part.Line.{Line}
 use Rattle.auc_lines.specs.declared.part.Line.TheVariants as line
-use Rattle.auc_sqn.specs.Number.{max_seq}
 use Rattle.auc_sqn.specs.Past.{Remembers}
-use Rattle.auc_subs.specs.Subscriber.{AreSubscribers, IsRow}
+use Rattle.auc_subs.specs.Subscriber.{AreSubscribers, IsRow, top_at}
 use Rattle.auc_subs.specs.declared.row.Row.{Row}
 use Rattle.auc_vector.specs.Stretch.{kept_at}
 use Rattle.auc_world.specs.Entries.{entries_of_lines, is_reported}
@@ -22,7 +21,7 @@ use Rattle.auc_world.specs.declared.net.Session.{Session}
 use Rattle.auc_world.specs.declared.record.GiveVerdict.TheVariants as given
 use Rattle.auc_world.specs.declared.record.LineRecord.{LineRecord}
 use Rattle.auc_world.specs.declared.record.LineRecord.TheVariants.{Give}
-use Rattle.auc_events.specs.Run.{AreOpened, first_words}
+use Rattle.auc_events.specs.Run.{AreOpened, first_core, first_words}
 use Rattle.auc_events.proofs.StepLemmas.{Holds}
 
 -- the lines, and their records
@@ -46,9 +45,10 @@ accepted_none : (b : Bool) → ◌≡◌ {A = List (List ℕ)} (if b then [] els
 accepted_none true = refl
 accepted_none false = refl
 
-pub accepted_absent : (sub : ℕ) (subs : List ℕ) (more : List LineRecord) → accepted sub (absent subs ++ more) ≡ accepted sub more
-accepted_absent sub [] more = refl
-accepted_absent sub (s ∷ subs) more = ap (λ (sqns : List (List ℕ)). sqns ++ accepted sub (absent subs ++ more)) (accepted_none (s == sub)) ∙ accepted_absent sub subs more
+pub accepted_absent : (bits sub : ℕ) (subs : List ℕ) (more : List LineRecord) → accepted bits sub (absent subs ++ more) ≡ accepted bits sub more
+accepted_absent bits sub [] more = refl
+accepted_absent bits sub (s ∷ subs) more =
+    ap (λ (sqns : List (List ℕ)). sqns ++ accepted bits sub (absent subs ++ more)) (accepted_none (s == sub)) ∙ accepted_absent bits sub subs more
 
 pub entries_absent : (sub : ℕ) (before : List LineRecord) (subs : List ℕ) (more : List LineRecord) → entries_of_lines sub before (absent subs ++ more) ≡ entries_of_lines sub (before ++ absent subs) more
 entries_absent sub before [] more = ap (λ (lines : List LineRecord). entries_of_lines sub lines more) (sym (append-nil before))
@@ -72,7 +72,7 @@ give_absent set own sub known none =
       there = there;
       answer = given.Absent;
       lines_are = refl;
-      given = subst (λ (b : Bool). IsGiven b (past_before (before_at [] [] own) row sub) 1 given.Absent) (sym nothing) refl;
+      given = subst (λ (b : Bool). IsGiven row b (past_before (before_at [] [] own) row sub) 1 given.Absent) (sym nothing) refl;
     }
 
 pub holding_gives : (set : Setting) (own : List LineRecord) (subs : List ℕ) (net last : Net) (lines : List Line) (records : List LineRecord) → All (λ sub. sub < length set.rows) subs
@@ -93,26 +93,35 @@ holding_gives set own (s ∷ subs) net last lines records known none rest = (
 -- ---- what holds after them
 
 -- a row's number is no mark
-opening_is : (rows : List Row) (sub : ℕ) → All IsRow rows → slice_index (first_words rows) sub ≤ max_seq
+opening_is : (rows : List Row) (sub : ℕ) → All IsRow rows → slice_index (first_words rows) sub ≤ top_at rows sub
 opening_is [] zero each = omega arith
 opening_is [] (suc sub) each = omega arith
 opening_is (row ∷ rows) zero each = (All-head IsRow row rows each).drawn
 opening_is (row ∷ rows) (suc sub) each = opening_is rows sub (All-tail IsRow row rows each)
 
-kept_nothing : (word : ℕ) → word ≤ max_seq → kept_at word ≡ None
-kept_nothing word = grind (arith, nat_tests)
+kept_nothing : (top word : ℕ) → word ≤ top → kept_at top word ≡ None
+kept_nothing top word = grind (arith, nat_tests)
 
 pub holds_first : (set : Setting) (subs : List ℕ) (first : WorldState) → AreSubscribers set.rows → AreOpened set.rows first → first.net.sessions ≡ []
-    → Holds set (absent subs) first (first_words set.rows)
+    → Holds set (absent subs) first (first_core set.rows)
 holds_first set subs first are fresh none = record {
   stands = record {
-    told = λ sub. subst (λ (o : Option ℕ). IsTold sub o (absent subs)) (sym (kept_nothing (slice_index (first_words set.rows) sub) (opening_is set.rows sub are.each))) (λ word. reported_absent sub word subs);
+    told = λ sub.
+        subst (λ (o : Option ℕ). IsTold sub o (absent subs)) (sym (kept_nothing (top_at set.rows sub) (slice_index (first_words set.rows) sub) (opening_is set.rows sub are.each)))
+        (λ word. reported_absent sub word subs);
     earlier = λ sub n. refl;
-    pasts = λ sub row usim at there. subst (λ (sqns : List (List ℕ)). Remembers usim.array (past_of row.usim sqns)) (sym (nothing sub)) (fresh sub row usim at there);
+    numbers = (λ sub. All-nil (λ n. n ≤ top_at set.rows sub), λ sub. subst (All (λ n. n ≤ top_at set.rows sub)) (sym (no_number sub)) (All-nil (λ n. n ≤ top_at set.rows sub)));
+    pasts = λ sub row usim at there.
+        subst (λ (sqns : List (List ℕ)). Remembers usim.array (past_of row.bits row.usim sqns)) (sym (nothing row.bits sub)) (fresh sub row usim at there).past;
   };
+  secrets = λ sub row usim at there. (fresh sub row usim at there).own;
   placed = subst (All (λ s. device_place set.rows first.net.devices s.sub ≡ Some s.device)) (sym none) (All-nil (λ (s : Session). device_place set.rows first.net.devices s.sub ≡ Some s.device));
   low = λ sub. let low = opening_is set.rows sub are.each in omega (arith, low);
+  tops = refl;
 }
   where
-    nothing : (sub : ℕ) → accepted sub (absent subs) ≡ []
-    nothing sub = ap (accepted sub) (sym (append-nil (absent subs))) ∙ accepted_absent sub subs []
+    nothing : (bits sub : ℕ) → accepted bits sub (absent subs) ≡ []
+    nothing bits sub = ap (accepted bits sub) (sym (append-nil (absent subs))) ∙ accepted_absent bits sub subs []
+
+    no_number : (sub : ℕ) → numbers_of sub (absent subs) ≡ []
+    no_number sub = ap (numbers_of sub) (sym (append-nil (absent subs))) ∙ numbers_absent sub subs []

@@ -1,13 +1,16 @@
 -- What every run of events promises.
-use Rattle.std.specs.Prelude.{◌≡◌, ◌≢◌, ℕ, ◌<◌, true, List, [], ◌∷◌, All, AllPairs, Contains, None, length, map, slice_index}
+use Rattle.std.specs.Prelude.{◌≡◌, ◌≢◌, ℕ, ◌<◌, true, List, [], ◌∷◌, All, AllPairs, Contains, None, Some, length, map, slice_get, slice_index}
 use Rattle.auc_aes.specs.Bytes.{IsBlock}
+use Rattle.auc_core.specs.Step.{CoreState}
 use Rattle.auc_history.specs.History.{IsLegal}
 use Rattle.auc_hmac.specs.declared.keys.KeySet.{KeySet}
 use Rattle.auc_lines.specs.Part.{held_subs}
 use Rattle.auc_lines.specs.declared.part.Line.{Line}
 use Rattle.auc_lines.specs.declared.part.Part.{Part}
 use Rattle.auc_lines.specs.declared.part.Part.TheVariants.{Round}
-use Rattle.auc_sqn.specs.Number.{max_seq, sqn_bytes}
+use Rattle.auc_sqn.specs.Number.{sqn_bytes}
+use Rattle.auc_subs.specs.Subscriber.{top_at}
+use Rattle.auc_subs.specs.declared.row.Row.{Row}
 use Rattle.auc_transcript.specs.Keys.{AreNets}
 use Rattle.auc_transcript.specs.Presented.{FailsExactlyByPlaceInSessions, FindsRightMacs}
 use Rattle.auc_world.specs.Agreement.{AreOfOne, IsRealm, PeerWon, ServerWon}
@@ -45,15 +48,15 @@ pub record IsLawfulJob (set : Setting) (job : List Line) (lines : List LineRecor
   pub jobs : round.jobs ≡ lines ∷ []
   pub lawful : IsLawful set [] None (parts_with job) (transcript_with round)
   pub nets : AreNets set (parts_with job) (transcript_with round) ((net ∷ []) ∷ [])
-  pub histories : (sub : ℕ) → sub < length set.rows → IsLegal max_seq (slice_index (first_words set.rows) sub) (slice_index words sub) (entries_of_lines sub [] lines)
+  pub histories : (sub : ℕ) → sub < length set.rows → IsLegal (top_at set.rows sub) (slice_index (first_words set.rows) sub) (slice_index words sub) (entries_of_lines sub [] lines)
 
 -- the records of a run are the lines of its job
 abbrev pub IsTranscriptOf : Setting → List ℕ → List Event → List Came → WorldState → List ℕ → RoundRecord → Type 0
 IsTranscriptOf set subs events results last words round = IsLawfulJob set (job_with subs events) (job_records subs events results) last.net words round
 
 abbrev pub EachRunIsLawful : Type 0
-EachRunIsLawful = (set : Setting) (subs : List ℕ) (events : List Event) (results : List Came) (last : WorldState) (words : List ℕ)
-    → IsRun set subs events results last words → (round : RoundRecord) × IsTranscriptOf set subs events results last words round
+EachRunIsLawful = (set : Setting) (subs : List ℕ) (events : List Event) (results : List Came) (last : WorldState) (core : CoreState)
+    → IsRun set subs events results last core → (round : RoundRecord) × IsTranscriptOf set subs events results last core.words round
 
 -- if it opens a session, its subscriber is one of some
 abbrev pub OpensAmong : List ℕ → Event → Type 0
@@ -67,20 +70,20 @@ EachJobHoldsItsSubscribers = (subs : List ℕ) (events : List Event) → AllPair
 
 -- the condition of `World::apply` that the homes are the centre's subscribers holds after a run
 abbrev pub EachRunMayGoOn : Type 0
-EachRunMayGoOn = (set : Setting) (subs : List ℕ) (events : List Event) (results : List Came) (last : WorldState) (words : List ℕ)
-    → IsRun set subs events results last words → AreHomes set.rows (length words) (top_in words) last.net.homes
+EachRunMayGoOn = (set : Setting) (subs : List ℕ) (events : List Event) (results : List Came) (last : WorldState) (core : CoreState)
+    → IsRun set subs events results last core → AreHomes set.rows (length core.words) (top_in core) last.net.homes
 
 -- ---- its promises
 
 -- no two vectors that a run releases for a subscriber have the same SQN
 abbrev pub EachRunDrawsNoNumberTwice : Type 0
-EachRunDrawsNoNumberTwice = (set : Setting) (subs : List ℕ) (events : List Event) (results : List Came) (last : WorldState) (words : List ℕ) (sub : ℕ)
-    → IsRun set subs events results last words → sub < length set.rows → AllPairs ◌≢◌ (map sqn_bytes (numbers_of sub (event_records events results)))
+EachRunDrawsNoNumberTwice = (set : Setting) (subs : List ℕ) (events : List Event) (results : List Came) (last : WorldState) (core : CoreState) (sub : ℕ) (row : Row)
+    → IsRun set subs events results last core → slice_get set.rows sub ≡ Some row → AllPairs ◌≢◌ (map (sqn_bytes row.bits) (numbers_of sub (event_records events results)))
 
 -- no USIM accepts an SQN twice in a run
 abbrev pub EachRunAcceptsNoneTwice : Type 0
-EachRunAcceptsNoneTwice = (set : Setting) (subs : List ℕ) (events : List Event) (results : List Came) (last : WorldState) (words : List ℕ) (sub : ℕ)
-    → IsRun set subs events results last words → sub < length set.rows → AllPairs ◌≢◌ (accepted sub (event_records events results))
+EachRunAcceptsNoneTwice = (set : Setting) (subs : List ℕ) (events : List Event) (results : List Came) (last : WorldState) (core : CoreState) (sub : ℕ) (row : Row)
+    → IsRun set subs events results last core → slice_get set.rows sub ≡ Some row → AllPairs ◌≢◌ (accepted row.bits sub (event_records events results))
 
 -- a run presents vectors, by its transcript: each released one that is in reach gets a synchronisation failure if and only if it
 -- fails by its place, and no USIM finds a wrong MAC in one
@@ -89,13 +92,13 @@ pub record JudgesVectors (set : Setting) (round : RoundRecord) : Type 0 where
   pub macs : FindsRightMacs set (transcript_with round)
 
 abbrev pub EachRunFailsByPlace : Type 0
-EachRunFailsByPlace = (set : Setting) (subs : List ℕ) (events : List Event) (results : List Came) (last : WorldState) (words : List ℕ)
-    → IsRun set subs events results last words → (round : RoundRecord) × IsTranscriptOf set subs events results last words round × JudgesVectors set round
+EachRunFailsByPlace = (set : Setting) (subs : List ℕ) (events : List Event) (results : List Came) (last : WorldState) (core : CoreState)
+    → IsRun set subs events results last core → (round : RoundRecord) × IsTranscriptOf set subs events results last core.words round × JudgesVectors set round
 
 -- a server and a peer of a run that ended in Success over one challenge or in one fast re-authentication have equal keys, if no
 -- delivery broke the premise
 abbrev pub EachRunAgreesOnKeys : Type 0
-EachRunAgreesOnKeys = (set : Setting) (subs : List ℕ) (events : List Event) (results : List Came) (last : WorldState) (words : List ℕ)
-    → IsRun set subs events results last words → IsRealm set.realm → IsBlock set.names → last.net.broken ≡ None
+EachRunAgreesOnKeys = (set : Setting) (subs : List ℕ) (events : List Event) (results : List Came) (last : WorldState) (core : CoreState)
+    → IsRun set subs events results last core → IsRealm set.realm → IsBlock set.names → last.net.broken ≡ None
     → (a b : Session) (k l : KeySet) (i j : Inputs) → Contains last.net.sessions a → Contains last.net.sessions b
     → ServerWon a k i → PeerWon b l j → AreOfOne i j → k ≡ l

@@ -1,11 +1,11 @@
 -- For the law of chains: what a run releases is above what its file reserved, and at most what its image reserves.
-use Rattle.std.proofs.Common.{◌≡◌, ◌<◌, ◌≤◌, ◌⊎◌, ℕ, List, [], ◌∷◌, length, map, All, AllPairs, Contains, Option, Some, Result, Ok, false, inl, inr, refl, sym, ◌∙◌, ap, subst, arith}
+use Rattle.std.proofs.Common.{◌≡◌, ◌<◌, ◌≤◌, ◌⊎◌, ℕ, List, [], ◌∷◌, length, All, Contains, Option, Result, Ok, false, inl, inr, refl, sym, ◌∙◌, ap, subst, arith}
 use Rattle.std.specs.Prelude.{slice_index}
 use Rattle.std.proofs.Math.ListN.{length-map}
 use Rattle.std.proofs.lemmas.List.Elements.{All-nil, All-cons}
 use Rattle.auc_edge.specs.Identity.{Identity}
 use Rattle.auc_history.proofs.Facts.{AllPairs-cons}
-use Rattle.auc_journal.specs.Image.{Frame, Reading, read_image, reserved_as, reserved_by, reserved_in}
+use Rattle.auc_journal.specs.Image.{Frame, Reading, read_image, reserved_as, reserved_by}
 use Rattle.auc_journal.specs.Journal.{JournalState, imsi_at}
 use Rattle.auc_journal.specs.Settled.{IsClosable}
 use Rattle.auc_journal.proofs.Facts.{limits_at}
@@ -14,7 +14,7 @@ use Rattle.auc_transcript.proofs.Facts.{early_of_end}
 use Rattle.auc_world.specs.Lines.{numbers_of}
 use Rattle.auc_world.specs.Transcript.{beginning, lines_of}
 use Rattle.auc_world.specs.declared.record.LineRecord.{LineRecord}
-use Rattle.auc_run.specs.Chain.{AreChained, BeganOn, ChainRun, DrewAbove, EachOtherRunIsOfAChain, EachRunDrawsAboveEarlierRuns, EachServedRunIsOfAChain, Releases, ServedOn, identities}
+use Rattle.auc_run.specs.Chain.{AreChained, ChainRun, DrewAbove, EachOtherRunIsOfAChain, EachRunDrawsAboveEarlierRuns, EachServedRunIsOfAChain, Releases, ServedOn, identities}
 use Rattle.auc_run.specs.Crash.{IsFound, limits_in}
 use Rattle.auc_run.specs.Output.{setting_of}
 

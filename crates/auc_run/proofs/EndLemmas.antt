@@ -10,7 +10,6 @@ use Rattle.auc_journal.specs.Opening.{Opens}
 use Rattle.auc_journal.specs.declared.open_why.OpenWhy.{OpenWhy}
 use Rattle.auc_journal.specs.declared.open_why.OpenWhy.TheVariants as unopened
 use Rattle.auc_load.specs.Words.{load_named}
-use Rattle.auc_run.specs.Crash.{IsNoJournal}
 use Rattle.auc_run.specs.Inner.{FilesLeave, IsSilent, LimitsLeave, ReservedStops, Stops, Tells, WritesLimits, open_refusal}
 use Rattle.auc_run.specs.Outcome.{AreLimitLines, AreUnknown, EndsAlgorithm, EndsBefore, EndsReserved, EndsUsage, IsCause, MayPrint, RunsFiles}
 use Rattle.auc_run.specs.Refusal.{line_of, status_of}

@@ -20,12 +20,12 @@ use Rattle.auc_run.specs.Inner.{IsKnownPart}
 pub record Known (rows : List Row) (script : Script) : Type 0 where
   pub subscribers : AreSubscribers rows
   pub realm : IsRealm script.realm
-  pub parts : All (IsKnownPart (length rows)) script.parts
+  pub parts : All (IsKnownPart rows) script.parts
 
 -- a line
-known_line : (rows : List Row) (line : Line) → IsLine rows line → IsKnownLine (length rows) line
+known_line : (rows : List Row) (line : Line) → IsLine rows line → IsKnownLine rows line
 known_line rows (Draw sub count) is = is.0
-known_line rows (Sync sub seq bit count) is = (is.0, is.1, is.2)
+known_line rows (Sync sub report count) is = (is.0, is.1)
 known_line rows (Give sub n) is = (is.0, is.1, is.2)
 known_line rows (Eps sub snid) is = is
 known_line rows (Fiveg line) is =
@@ -42,16 +42,16 @@ known_line rows (Tamper packet place byte) is = tt
 known_line rows (Cut packet length) is = tt
 
 -- parts that have not too many jobs together
-known_parts : (rows : List Row) (parts : List Part) → All (IsPart rows) parts → length (jobs_of parts) ≤ most_jobs → All (IsKnownPart (length rows)) parts
-known_parts rows [] each few = All-nil (IsKnownPart (length rows))
+known_parts : (rows : List Row) (parts : List Part) → All (IsPart rows) parts → length (jobs_of parts) ≤ most_jobs → All (IsKnownPart rows) parts
+known_parts rows [] each few = All-nil (IsKnownPart rows)
 known_parts rows (Restart ∷ parts) each few =
-    All-cons (IsKnownPart (length rows)) Restart parts tt (known_parts rows parts (All-tail (IsPart rows) Restart parts each) few)
+    All-cons (IsKnownPart rows) Restart parts tt (known_parts rows parts (All-tail (IsPart rows) Restart parts each) few)
 known_parts rows (Round jobs ∷ parts) each few =
     let cut = length-append jobs (jobs_of parts) in
     let here = All-head (IsPart rows) (Round jobs) parts each in
-    All-cons (IsKnownPart (length rows)) (Round jobs) parts (record {
-      known = All-weaker (λ job. All (IsLine rows) job) (AreKnown (length rows))
-          (λ job lines. All-weaker (IsLine rows) (IsKnownLine (length rows)) (known_line rows) job lines) jobs here.lines;
+    All-cons (IsKnownPart rows) (Round jobs) parts (record {
+      known = All-weaker (λ job. All (IsLine rows) job) (AreKnown rows)
+          (λ job lines. All-weaker (IsLine rows) (IsKnownLine rows) (known_line rows) job lines) jobs here.lines;
       apart = here.apart;
       few = omega (arith, cut);
     })

@@ -6,7 +6,7 @@ use Rattle.std.proofs.lemmas.Bool.Decides.{nat_tests}
 use Rattle.std.proofs.lemmas.Grind.{flat_map-append}
 use Rattle.std.proofs.lemmas.List.{length-append, length-map}
 use Rattle.std.proofs.lemmas.List.Concat.{length-flat_map}
-use Rattle.std.proofs.lemmas.List.Elements.{All-nil, All-cons, All-head, All-tail, All-append, All-same}
+use Rattle.std.proofs.lemmas.List.Elements.{All-nil, All-cons, All-head, All-tail, All-append, All-same, All-weaker}
 use Rattle.std.proofs.lemmas.List.FromFn.{get_or-map-range_with_len, length-map-range_with_len}
 use Rattle.std.proofs.lemmas.List.Sums.{get_or-le-sum_by, sum_by-append, sum_by-cons}
 use Rattle.std.proofs.lemmas.Simd.{map-map}
@@ -26,7 +26,9 @@ use Rattle.auc_load.specs.Input.{job_at, load_jobs, load_key, load_rows, row_at,
 use Rattle.auc_load.specs.Summary.{closing_with, drawn_for, load_closings}
 use Rattle.auc_load.specs.Words.{IsLoad}
 use Rattle.auc_load.specs.declared.words.LoadWords.{LoadWords}
-use Rattle.auc_sqn.specs.Number.{max_seq}
+use Rattle.auc_sqn.specs.Number.{max_seq, top_of}
+use Rattle.auc_sqn.proofs.Facts.{top_of-5}
+use Rattle.auc_subs.specs.Subscriber.{top_at}
 use Rattle.auc_subs.specs.declared.row.Row.{Row}
 use Rattle.auc_world.specs.Entries.{is_reported, entries_of_line, entries_of_lines, entries_of_jobs}
 use Rattle.auc_world.specs.Given.{DrawGives, JobsGive}
@@ -46,16 +48,17 @@ use Rattle.auc_run.proofs.EntryLemmas.{IsOfDraw, IsWithin, WordWithin, all_entri
 no_lines : (lines : List LineRecord) → lines ≡ [] → All IsOfDraw lines
 no_lines lines none = All-same IsOfDraw lines [] none (All-nil IsOfDraw)
 
-draw_lines : (set : Setting) (sub count : ℕ) (lines : List LineRecord) → DrawGives set sub count lines → All IsOfDraw lines
-draw_lines set sub zero lines gives = no_lines lines gives
-draw_lines set sub (suc count) [] gives = absurd gives
-draw_lines set sub (suc count) (Vector s n ∷ lines) (same, is, more) = All-cons IsOfDraw (Vector s n) lines tt (draw_lines set sub count lines more)
-draw_lines set sub (suc count) (Withheld s n stop ∷ lines) (same, first, last, none) = All-cons IsOfDraw (Withheld s n stop) lines tt (no_lines lines none)
-draw_lines set sub (suc count) (Exhausted s word ∷ lines) (same, spent, none) = All-cons IsOfDraw (Exhausted s word) lines spent (no_lines lines none)
-draw_lines set sub (suc count) (Sync s answer ∷ lines) gives = absurd gives
-draw_lines set sub (suc count) (Give s n answer ∷ lines) gives = absurd gives
-draw_lines set sub (suc count) (Further said ∷ lines) gives = absurd gives
-draw_lines set sub (suc count) (Event r ∷ lines) gives = absurd gives
+draw_lines : (set : Setting) (sub count : ℕ) (lines : List LineRecord) → top_at set.rows sub ≡ max_seq → DrawGives set sub count lines → All IsOfDraw lines
+draw_lines set sub zero lines top gives = no_lines lines gives
+draw_lines set sub (suc count) [] top gives = absurd gives
+draw_lines set sub (suc count) (Vector s n ∷ lines) top (same, is, more) = All-cons IsOfDraw (Vector s n) lines tt (draw_lines set sub count lines top more)
+draw_lines set sub (suc count) (Withheld s n stop ∷ lines) top (same, first, last, none) = All-cons IsOfDraw (Withheld s n stop) lines tt (no_lines lines none)
+draw_lines set sub (suc count) (Exhausted s word ∷ lines) top (same, spent, none) =
+    All-cons IsOfDraw (Exhausted s word) lines (subst (λ (n : ℕ). n ≤ word) top spent) (no_lines lines none)
+draw_lines set sub (suc count) (Sync s answer ∷ lines) top gives = absurd gives
+draw_lines set sub (suc count) (Give s n answer ∷ lines) top gives = absurd gives
+draw_lines set sub (suc count) (Further said ∷ lines) top gives = absurd gives
+draw_lines set sub (suc count) (Event r ∷ lines) top gives = absurd gives
 
 -- its lines are of its subscriber
 draw_named : (set : Setting) (total sub count : ℕ) (lines : List LineRecord) → sub < total → DrawGives set sub count lines
@@ -103,11 +106,16 @@ draws_each set early kept beside count (s ∷ ss) (lines ∷ records) (net ∷ n
   draws_each set early kept (beside ++ lines) count ss records nets more,
 )
 
-all_of_draw : (set : Setting) (count : ℕ) (ss : List ℕ) (records : List (List LineRecord)) → DrawsEach set count ss records → All IsOfDraw (all_lines records)
-all_of_draw set count [] records gives = no_lines (all_lines records) (ap all_lines gives)
-all_of_draw set count (s ∷ ss) [] gives = absurd gives
-all_of_draw set count (s ∷ ss) (lines ∷ records) (here, more) =
-    All-append IsOfDraw lines (all_lines records) (draw_lines set s count lines here) (all_of_draw set count ss records more)
+-- the greatest number of a subscriber is that of all
+abbrev pub IsWide : Setting → ℕ → Type 0
+IsWide set s = top_at set.rows s ≡ max_seq
+
+all_of_draw : (set : Setting) (count : ℕ) (ss : List ℕ) (records : List (List LineRecord)) → All (IsWide set) ss → DrawsEach set count ss records → All IsOfDraw (all_lines records)
+all_of_draw set count [] records wide gives = no_lines (all_lines records) (ap all_lines gives)
+all_of_draw set count (s ∷ ss) [] wide gives = absurd gives
+all_of_draw set count (s ∷ ss) (lines ∷ records) wide (here, more) =
+    All-append IsOfDraw lines (all_lines records) (draw_lines set s count lines (All-head (IsWide set) s ss wide) here)
+    (all_of_draw set count ss records (All-tail (IsWide set) s ss wide) more)
 
 all_named : (set : Setting) (total count : ℕ) (ss : List ℕ) (records : List (List LineRecord)) → All (λ s. s < total) ss → DrawsEach set count ss records
     → All (λ line. sub_of line < total) (all_lines records)
@@ -238,6 +246,7 @@ pub record IsLoadRound (set : Setting) (count : ℕ) (ss openings : List ℕ) (r
   pub kept : List Kept
   pub lawful : IsLawfulRound set None [] kept openings (map (λ s. Draw s count ∷ []) ss) round words
   pub named : All (λ s. s < length openings) ss
+  pub wide : All (IsWide set) ss
   pub opens : (sub : ℕ) → sub < length openings → get_or openings sub 0 ≡ 0
   pub few : count * length ss < max_seq
 
@@ -246,9 +255,9 @@ closes_low : (set : Setting) (count : ℕ) (ss openings : List ℕ) (round : Rou
     → (sub : ℕ) → sub < length openings → get_or words sub 0 < max_seq
 closes_low set count ss openings round words is sub inside =
     let draws = draws_each set [] is.kept [] count ss round.jobs is.lawful.nets is.lawful.given in
-    let all = all_of_draw set count ss round.jobs draws in
+    let all = all_of_draw set count ss round.jobs is.wide draws in
     let lines = few_lines set count ss round.jobs draws in
-    let whole = split_counts_its_numbers max_seq (get_or openings sub 0) (get_or words sub 0) (entries_of_jobs sub [] round.jobs) (is.lawful.split sub inside) in
+    let whole = split_counts_its_numbers (top_at set.rows sub) (get_or openings sub 0) (get_or words sub 0) (entries_of_jobs sub [] round.jobs) (is.lawful.split sub inside) in
     let entries = all_entries-of_jobs sub [] round.jobs in
     let draw = lines_draw sub [] (all_lines round.jobs) all in
     let skip = lines_skip sub [] (all_lines round.jobs) all in
@@ -267,8 +276,8 @@ only_vectors set count ss openings round words is k d inside =
     let named : sub < length openings = all_named set (length openings) count ss round.jobs is.named draws k d inside in
     let closing = get_or words sub 0 in
     let entries = subst (All (IsWithin closing)) (all_entries-of_jobs sub [] round.jobs)
-    (splits_within max_seq (get_or openings sub 0) closing (entries_of_jobs sub [] round.jobs) (is.lawful.split sub named)) in
-    let of_draw = all_of_draw set count ss round.jobs draws in
+    (splits_within (top_at set.rows sub) (get_or openings sub 0) closing (entries_of_jobs sub [] round.jobs) (is.lawful.split sub named)) in
+    let of_draw = all_of_draw set count ss round.jobs is.wide draws in
     let words_are = lines_within sub closing [] (all_lines round.jobs) of_draw (λ word told. absurd (cc)) entries in
     vector_is closing line (closes_low set count ss openings round words is sub named) (of_draw k d inside) (words_are k d inside refl)
     (none_at sub (all_lines round.jobs) k d inside (is.lawful.withheld sub))
@@ -369,9 +378,9 @@ closing_is : (set : Setting) (count : ℕ) (ss openings : List ℕ) (round : Rou
 closing_is set count ss openings round words is sub inside =
     let draws = draws_each set [] is.kept [] count ss round.jobs is.lawful.nets is.lawful.given in
     let all = only_vectors set count ss openings round words is in
-    let whole = split_counts_its_numbers max_seq (get_or openings sub 0) (get_or words sub 0) (entries_of_jobs sub [] round.jobs) (is.lawful.split sub inside) in
+    let whole = split_counts_its_numbers (top_at set.rows sub) (get_or openings sub 0) (get_or words sub 0) (entries_of_jobs sub [] round.jobs) (is.lawful.split sub inside) in
     let draw = jobs_draw set count sub [] ss round.jobs draws all in
-    let skip = ap skipped (all_entries-of_jobs sub [] round.jobs) ∙ lines_skip sub [] (all_lines round.jobs) (all_of_draw set count ss round.jobs draws) in
+    let skip = ap skipped (all_entries-of_jobs sub [] round.jobs) ∙ lines_skip sub [] (all_lines round.jobs) (all_of_draw set count ss round.jobs is.wide draws) in
     let opens = is.opens sub inside in
     closing_same sub (get_or openings sub 0) (get_or words sub 0) (length (drawn (all_entries (entries_of_jobs sub [] round.jobs))))
     (skipped (all_entries (entries_of_jobs sub [] round.jobs))) (length (numbers_of sub (all_lines round.jobs))) (length (withheld_of sub (all_lines round.jobs)))
@@ -423,13 +432,18 @@ subs_named load is k d inside =
     let below : k % load.subscribers < load.subscribers = omega (arith, some) in
     omega (arith, at, below)
 
+-- how many subscribers there are
+pub rows_of_load : (load : LoadWords) (rows : List Row) → rows ≡ load_rows load → length rows ≡ load.subscribers
+rows_of_load load rows same = ap length same ∙ length-map-range_with_len (row_at (load_key load.key)) 0 load.subscribers
+
 -- each of its lines is of a subscriber, and no job holds a USIM
-pub load_known : (load : LoadWords) → IsLoad load → AreAllKnown load.subscribers (load_jobs load)
-load_known load is k d inside =
+pub load_known : (load : LoadWords) (rows : List Row) → IsLoad load → rows ≡ load_rows load → AreAllKnown rows (load_jobs load)
+load_known load rows is same k d inside =
     let some = is.one_subscriber in
-    let below : k % load.subscribers < load.subscribers = omega (arith, some) in
-    subst (AreKnown load.subscribers) (sym (job_is load k d inside))
-    (All-cons (IsKnownLine load.subscribers) (Draw (k % load.subscribers) vectors_of_a_job) [] below (All-nil (IsKnownLine load.subscribers)))
+    let count = rows_of_load load rows same in
+    let below : k % load.subscribers < length rows = omega (arith, some, count) in
+    subst (AreKnown rows) (sym (job_is load k d inside))
+    (All-cons (IsKnownLine rows) (Draw (k % load.subscribers) vectors_of_a_job) [] below (All-nil (IsKnownLine rows)))
 
 pub load_apart : (load : LoadWords) → AllPairs AreApart (load_jobs load)
 load_apart load i j d less inside = λ sub gives. ap (holds sub) (job_is load j d inside)
@@ -447,10 +461,18 @@ opens_at load sub inside =
     ap (λ (openings : List ℕ). get_or openings sub 0) (map-map (λ (row : Row). row.seq) (row_at key) (range_with_len 0 load.subscribers))
     ∙ get_or-map-range_with_len (λ i. (row_at key i).seq) 0 load.subscribers sub sub 0 inside (omega arith)
 
+-- each has an index of 5 bits, and so the greatest number of all
+wide_at : (load : LoadWords) (set : Setting) (sub : ℕ) → set.rows ≡ load_rows load → sub < load.subscribers → IsWide set sub
+wide_at load set sub rows inside =
+    let key = load_key load.key in
+    ap (λ (rs : List Row). top_at rs sub) rows
+    ∙ ap (λ (tops : List ℕ). get_or tops sub 0) (map-map (λ (row : Row). top_of row.bits) (row_at key) (range_with_len 0 load.subscribers))
+    ∙ get_or-map-range_with_len (λ i. top_of (row_at key i).bits) 0 load.subscribers sub sub 0 inside (omega arith) ∙ top_of-5
+
 -- a lawful round of it closes the subscribers as the summary has to be told
-pub load_round_closes : (load : LoadWords) (set : Setting) (kept : List Kept) (round : RoundRecord) (words : List ℕ) → IsLoad load
+pub load_round_closes : (load : LoadWords) (set : Setting) (kept : List Kept) (round : RoundRecord) (words : List ℕ) → IsLoad load → set.rows ≡ load_rows load
     → IsLawfulRound set None [] kept (map (λ (row : Row). row.seq) (load_rows load)) (load_jobs load) round words → round.closings ≡ load_closings load
-load_round_closes load set kept round words is lawful =
+load_round_closes load set kept round words is same_rows lawful =
     let openings = map (λ (row : Row). row.seq) (load_rows load) in
     let rows = length-map (load_rows load) (λ (row : Row). row.seq) in
     let many = length-map-range_with_len (row_at (load_key load.key)) 0 load.subscribers in
@@ -461,15 +483,12 @@ load_round_closes load set kept round words is lawful =
       kept = kept;
       lawful = subst (λ (js : List (List Line)). IsLawfulRound set None [] kept openings js round words) (jobs_are load) lawful;
       named = subst (λ (n : ℕ). All (λ s. s < n) (subs_of_jobs load)) (sym count) (subs_named load is);
+      wide = All-weaker (λ s. s < load.subscribers) (IsWide set) (λ s inside. wide_at load set s same_rows inside) (subs_of_jobs load) (subs_named load is);
       opens = λ sub inside. opens_at load sub (omega (arith, count, inside));
       few = omega (arith, jobs, bound);
     } in
     load_closes set vectors_of_a_job (subs_of_jobs load) openings round words round_is
     ∙ ap (λ (n : ℕ). flat_map (λ sub. closing_with sub (drawn_for load sub)) (range_with_len 0 n)) count
-
--- how many subscribers there are
-pub rows_of_load : (load : LoadWords) (rows : List Row) → rows ≡ load_rows load → length rows ≡ load.subscribers
-rows_of_load load rows same = ap length same ∙ length-map-range_with_len (row_at (load_key load.key)) 0 load.subscribers
 
 -- a round that was served is lawful from the state's words, which are the numbers of the rows
 pub served_lawful : {D : Type 0} (seen : D → Option (List ℕ)) (may_leave : D → List ℕ → Type 0) (set : Setting) (state next : Standing) (jobs : List (List Line)) (round : RoundRecord) (stop : Option Stop)
@@ -488,6 +507,6 @@ load_ends load set jobs round stop (Ok closings) is rows same served closes =
     let words = served.1 in
     let whole = subst (λ (s : Option Stop). IsLawfulRound set s [] kept (map (λ (row : Row). row.seq) set.rows) jobs round words) closes.0 served.2 in
     let of_jobs = subst (λ (js : List (List Line)). IsLawfulRound set None [] kept (map (λ (row : Row). row.seq) set.rows) js round words) same whole in
-    closes.1 ∙ load_round_closes load set kept round words is
+    closes.1 ∙ load_round_closes load set kept round words is rows
     (subst (λ (os : List ℕ). IsLawfulRound set None [] kept os (load_jobs load) round words) (ap (λ (rows : List Row). map (λ (row : Row). row.seq) rows) rows) of_jobs)
 load_ends load set jobs round stop (Err e) is rows same served closes = tt

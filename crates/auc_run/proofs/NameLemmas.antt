@@ -13,6 +13,7 @@ use Rattle.auc_lines.specs.declared.part.FivegLine.{FivegLine}
 use Rattle.auc_lines.specs.declared.part.Line.{Line}
 use Rattle.auc_lines.specs.declared.part.Line.TheVariants as line
 use Rattle.auc_lines.specs.declared.sites.SiteEvent.{SiteEvent}
+use Rattle.auc_lines.specs.declared.part.Report.{Report}
 use Rattle.auc_random.specs.Random.{rand_of}
 use Rattle.auc_request.specs.Request.{is_separated}
 use Rattle.auc_sites.specs.Network.{Network, Turn, after_event}
@@ -140,9 +141,9 @@ follows_named set sub count (verdict.Beyond seen seq_ms) lines inside follows = 
 follows_named set sub count verdict.WrongMac lines inside follows = none_named (length set.rows) lines follows
 
 -- what an AUTS gives
-sync_named : (set : Setting) (sub seq : ℕ) (bit : Option ℕ) (count : ℕ) (lines : List LineRecord) → sub < length set.rows
-    → SyncGives set sub seq bit count lines → All (IsNamed (length set.rows)) lines
-sync_named set sub seq bit count lines inside gives =
+sync_named : (set : Setting) (sub : ℕ) (report : Report) (count : ℕ) (lines : List LineRecord) → sub < length set.rows
+    → SyncGives set sub report count lines → All (IsNamed (length set.rows)) lines
+sync_named set sub report count lines inside gives =
     All-same (IsNamed (length set.rows)) lines (record_of.Sync sub gives.answer ∷ gives.more) gives.lines_are
     (All-cons (IsNamed (length set.rows)) (record_of.Sync sub gives.answer) gives.more inside
     (follows_named set sub count gives.answer gives.more inside gives.follows))
@@ -305,10 +306,10 @@ plain_named set before net session (line ∷ lines) next (mid, gives, more) =
 -- ---- jobs
 
 -- what a line of a job gives
-line_named : (set : Setting) (before : Before) (net : Net) (asked : Line) (lines : List LineRecord) (next : Net) → IsKnownLine (length set.rows) asked
+line_named : (set : Setting) (before : Before) (net : Net) (asked : Line) (lines : List LineRecord) (next : Net) → IsKnownLine set.rows asked
     → LineGives set before net asked lines next → All (IsNamed (length set.rows)) lines
 line_named set before net (line.Draw sub count) lines next known (gives, same) = draw_named set sub count lines known gives
-line_named set before net (line.Sync sub seq bit count) lines next known (gives, same) = sync_named set sub seq bit count lines known.0 gives
+line_named set before net (line.Sync sub report count) lines next known (gives, same) = sync_named set sub report count lines known.0 gives
 line_named set before net (line.Give sub n) lines next known (gives, same) = give_named set before sub n lines known.0 gives
 line_named set before net (line.Eps sub snid) lines next known (gives, same) =
     one_named set sub (λ n rest. rest ≡ map (kasme_line snid) (vector_at set sub n)) lines known gives
@@ -329,7 +330,7 @@ line_named set before net (line.Tamper packet place byte) lines next known gives
 line_named set before net (line.Cut packet count) lines next known gives = event_named set before net (event.Cut packet count) lines next gives
 
 -- what a job gives
-job_named : (set : Setting) (before : Before) (net : Net) (job : List Line) (lines : List LineRecord) (last : Net) → All (IsKnownLine (length set.rows)) job
+job_named : (set : Setting) (before : Before) (net : Net) (job : List Line) (lines : List LineRecord) (last : Net) → All (IsKnownLine set.rows) job
     → JobGives set before net job lines last → All (IsNamed (length set.rows)) lines
 job_named set before net [] lines last known gives = none_named (length set.rows) lines gives.0
 job_named set before net (asked ∷ job) lines last known (front, rest, next, cut, gives, more) =
@@ -339,7 +340,7 @@ job_named set before net (asked ∷ job) lines last known (front, rest, next, cu
 
 -- what the jobs of a round give
 pub jobs_named : (set : Setting) (early : List LineRecord) (kept : List Kept) (beside : List LineRecord) (jobs : List (List Line)) (records : List (List LineRecord)) (nets : List Net)
-    → AreAllKnown (length set.rows) jobs → JobsGive set early kept beside jobs records nets → All (All (IsNamed (length set.rows))) records
+    → AreAllKnown set.rows jobs → JobsGive set early kept beside jobs records nets → All (All (IsNamed (length set.rows))) records
 jobs_named set early kept beside [] records nets known gives = All-same (All (IsNamed (length set.rows))) records [] gives.0 (All-nil (All (IsNamed (length set.rows))))
 jobs_named set early kept beside (job ∷ jobs) [] nets known gives = absurd gives
 jobs_named set early kept beside (job ∷ jobs) (lines ∷ records) [] known gives = absurd gives

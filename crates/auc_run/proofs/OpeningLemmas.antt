@@ -1,9 +1,8 @@
 -- For the words at which limits open subscribers.
-use Rattle.std.proofs.Common.{◌≡◌, ℕ, zero, suc, ◌+◌, ◌<◌, ◌≤◌, ◌⊎◌, max, List, [], ◌∷◌, ◌++◌, length, map, take, All, Option, Some, Result, Ok, Err, IfOk, false, inl, inr, refl, sym, ◌∙◌, ap, subst, arith}
+use Rattle.std.proofs.Common.{◌≡◌, ℕ, zero, suc, ◌+◌, ◌<◌, ◌≤◌, ◌⊎◌, max, min, List, [], ◌∷◌, ◌++◌, length, map, take, Option, Some, Result, Ok, Err, IfOk, false, inl, inr, refl, sym, ◌∙◌, ap, subst, arith}
 use Rattle.std.specs.Prelude.{slice_get, slice_index}
 use Rattle.std.proofs.Math.ListN.{length-map}
 use Rattle.std.proofs.lemmas.List.{map-append, take_more}
-use Rattle.std.proofs.lemmas.List.Elements.{All-push}
 use Rattle.std.proofs.lemmas.Option.{get_or_from_slice_get}
 use Rattle.auc_edge.specs.Identity.{Identity}
 use Rattle.auc_journal.specs.Image.{reserved_in}
@@ -11,18 +10,19 @@ use Rattle.auc_journal.specs.Journal.{JournalState, imsi_at, limits_of, reserved
 use Rattle.auc_journal.specs.Durable.{IsDurable}
 use Rattle.auc_journal.specs.Opening.{Opens}
 use Rattle.auc_journal.proofs.Facts.{limits_at}
-use Rattle.auc_sqn.specs.Number.{max_seq}
-use Rattle.auc_subs.specs.Subscriber.{AreSubscribers}
+use Rattle.auc_sqn.specs.Number.{max_seq, top_of}
+use Rattle.auc_subs.specs.Subscriber.{tops_of}
 use Rattle.auc_subs.specs.declared.row.Row.{Row}
-use Rattle.auc_world.specs.Limits.{greater, opened}
+use Rattle.auc_world.specs.Limits.{greater, lesser, opened}
 use Rattle.auc_run.specs.Inner.{Begins}
 
 -- the word at which a limit of its identity opens a row's subscriber
 abbrev pub word_of : (Identity → ℕ) → Row → ℕ
-word_of limit row = max row.seq (limit row.imsi)
+word_of limit row = min (top_of row.bits) (max row.seq (limit row.imsi))
 
 -- the words of all rows
-words_of_rows : (rows : List Row) (limit : Identity → ℕ) → map (word_of limit) rows ≡ greater (map (λ row. row.seq) rows) (map limit (map (λ row. row.imsi) rows))
+words_of_rows : (rows : List Row) (limit : Identity → ℕ)
+    → map (word_of limit) rows ≡ lesser (tops_of rows) (greater (map (λ row. row.seq) rows) (map limit (map (λ row. row.imsi) rows)))
 words_of_rows [] limit = refl
 words_of_rows (row ∷ rows) limit = ap (λ (rest : List ℕ). word_of limit row ∷ rest) (words_of_rows rows limit)
 
@@ -35,19 +35,18 @@ imsi_here (first ∷ rows) (suc sub) row here inside = imsi_here rows sub row he
 -- the words and limits of the first subscribers
 pub record Opened {D : Type 0} (rows : List Row) (journal : JournalState D) (sub : ℕ) (words : List ℕ) : Type 0 where
   pub words_are : words ≡ map (word_of (λ imsi. reserved_in journal.limits imsi)) (take sub rows)
-  pub numbers : All (λ word. word ≤ max_seq) words
   pub limits : (i : ℕ) → i < sub → slice_index (limits_of journal) i ≤ max_seq
 
 -- one more
-pub opened_more : {D : Type 0} (rows : List Row) (journal : JournalState D) (sub limit word : ℕ) (row : Row) (words next : List ℕ) → AreSubscribers rows → journal.imsis ≡ map (λ row. row.imsi) rows
-    → slice_get rows sub ≡ Some row → sub < length rows → limit ≡ reserved_at journal sub → limit ≤ max_seq → word ≡ max row.seq limit → next ≡ words ++ word ∷ []
+pub opened_more : {D : Type 0} (rows : List Row) (journal : JournalState D) (sub limit word : ℕ) (row : Row) (words next : List ℕ) → journal.imsis ≡ map (λ row. row.imsi) rows
+    → slice_get rows sub ≡ Some row → sub < length rows → limit ≡ reserved_at journal sub → limit ≤ max_seq → word ≡ min (max row.seq limit) (top_of row.bits) → next ≡ words ++ word ∷ []
     → Opened rows journal sub words → Opened rows journal (sub + 1) next
-opened_more {D} rows journal sub limit word row words next subscribers is here inside value number greatest pushed so_far =
+opened_more {D} rows journal sub limit word row words next is here inside value number least pushed so_far =
     let found = get_or_from_slice_get rows sub row row here in
-    let drawn = (subscribers.each sub row inside).drawn in
-    let small : row.seq ≤ max_seq = subst (λ (r : Row). r.seq ≤ max_seq) found drawn in
     let imsi : imsi_at journal.imsis sub ≡ row.imsi = ap (λ (imsis : List Identity). imsi_at imsis sub) is ∙ imsi_here rows sub row here inside in
-    let of_row : word ≡ word_of (λ imsi. reserved_in journal.limits imsi) row = greatest ∙ ap (λ (n : ℕ). max row.seq n) (value ∙ ap (λ (i : Identity). reserved_in journal.limits i) imsi) in
+    let of_row : word ≡ word_of (λ imsi. reserved_in journal.limits imsi) row =
+    least ∙ min-comm (max row.seq limit) (top_of row.bits)
+    ∙ ap (λ (n : ℕ). min (top_of row.bits) (max row.seq n)) (value ∙ ap (λ (i : Identity). reserved_in journal.limits i) imsi) in
     let many = ap length is ∙ length-map rows (λ (r : Row). r.imsi) in
     let at = limits_at journal sub (omega (arith, many, inside)) in
     record {
@@ -55,11 +54,12 @@ opened_more {D} rows journal sub limit word row words next subscribers is here i
           ∙ ap (λ (ws : List ℕ). ws ++ word_of (λ imsi. reserved_in journal.limits imsi) row ∷ []) so_far.words_are
           ∙ sym (ap (map (word_of (λ imsi. reserved_in journal.limits imsi))) (take_more rows sub row inside ∙ ap (λ (r : Row). take sub rows ++ r ∷ []) found)
           ∙ map-append (word_of (λ imsi. reserved_in journal.limits imsi)) (take sub rows) (row ∷ []));
-      numbers = subst (λ (ws : List ℕ). All (λ word. word ≤ max_seq) ws) (sym pushed)
-          (All-push (λ (word : ℕ). word ≤ max_seq) words word so_far.numbers (omega (arith, greatest, small, number)));
       limits = λ i below. cases i (one_of i sub) below (omega (arith, at, value, number));
     }
   where
+    min-comm : (a b : ℕ) → min a b ≡ min b a
+    min-comm a b = omega arith
+
     one_of : (i n : ℕ) → (i < n) ⊎ (n ≤ i)
     one_of zero zero = inr (omega arith)
     one_of zero (suc n) = inl (omega arith)
@@ -78,7 +78,7 @@ pub opened_all : {D : Type 0} (rows : List Row) (journal : JournalState D) (word
     → words ≡ map (word_of (λ imsi. reserved_in journal.limits imsi)) rows → words ≡ opened rows (limits_of journal)
 opened_all rows journal words is all =
     all ∙ words_of_rows rows (λ imsi. reserved_in journal.limits imsi)
-    ∙ ap (λ (imsis : List Identity). greater (map (λ row. row.seq) rows) (map (λ imsi. reserved_in journal.limits imsi) imsis)) (sym is)
+    ∙ ap (λ (imsis : List Identity). lesser (tops_of rows) (greater (map (λ row. row.seq) rows) (map (λ imsi. reserved_in journal.limits imsi) imsis))) (sym is)
 
 -- ---- the journal as it was opened
 

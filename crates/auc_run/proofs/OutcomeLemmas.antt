@@ -54,7 +54,7 @@ pub record Laws : Type 0 where
 record Fits (rows : List Row) (script : Script) (parts : List Part) : Type 0 where
   subscribers : AreSubscribers rows
   realm : IsRealm script.realm
-  known : All (IsKnownPart (length rows)) parts
+  known : All (IsKnownPart rows) parts
 
 -- a lawful transcript is printable, if the SQNs in its answers of USIMs consist of bytes
 printable : (rows : List Row) (script : Script) (reserved : List ℕ) (stop : Option Stop) (parts : List Part) (records : List PartRecord) → Fits rows script parts
@@ -87,16 +87,16 @@ is_output laws rows script reserved stop parts records end fits fit leads =
     let set = setting_of rows script in
     let own = laws.nets set reserved stop parts records (end, leads) in
     let names = sixteen_block script.key 1099511627776 0 in
-    let apart = held_apart (length rows) parts fits.known in
+    let apart = held_apart rows parts fits.known in
     record {
       transcript = records;
       leads = leads;
       is_text = refl;
       only = λ other is same. sym (one_of_text laws rows script reserved stop parts records other fits fit (end, leads) is same);
       above = above_reserved set reserved stop parts records (end, leads);
-      differ = keeps_numbers_apart set reserved stop parts records (end, leads);
-      accepts_none_twice = accepts_none_twice set reserved stop parts records (end, leads);
-      fails_by_place = each_failure_is_by_place set reserved stop parts records (end, leads);
+      differ = keeps_numbers_apart set reserved stop parts records fits.subscribers (end, leads);
+      accepts_none_twice = accepts_none_twice set reserved stop parts records fits.subscribers (end, leads);
+      fails_by_place = each_failure_is_by_place set reserved stop parts records fits.subscribers (end, leads);
       fails_by_place_in_sessions = laws.in_sessions set reserved stop parts records fits.subscribers (end, leads);
       finds_right_macs = laws.macs set reserved stop parts records fits.subscribers (end, leads);
       nets = own.0;
@@ -120,7 +120,7 @@ front_fits : (rows : List Row) (script : Script) (served left : List Part) → K
 front_fits rows script served left known cut = record {
   subscribers = known.subscribers;
   realm = known.realm;
-  known = front (IsKnownPart (length rows)) served left (subst (All (IsKnownPart (length rows))) cut known.parts);
+  known = front (IsKnownPart rows) served left (subst (All (IsKnownPart rows)) cut known.parts);
 }
 
 -- a scenario that was read was run

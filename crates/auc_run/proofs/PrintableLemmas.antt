@@ -1,7 +1,6 @@
 -- For the transcript: a lawful one names subscribers alone.
-use Rattle.std.proofs.Common.{◌≡◌, ℕ, ◌+◌, ◌<◌, Bool, true, false, List, [], ◌∷◌, length, All, Option, ap, arith, min}
+use Rattle.std.proofs.Common.{◌≡◌, ℕ, ◌+◌, ◌<◌, Bool, true, false, List, [], ◌∷◌, length, All, Option, ap, arith}
 use Rattle.std.specs.Prelude.{◌==◌, if◌then◌else◌}
-use Rattle.std.proofs.lemmas.List.{length-map}
 use Rattle.std.proofs.lemmas.List.Elements.{All-nil, All-cons, All-head, All-tail, All-append, All-same}
 use Rattle.auc_history.specs.History.{drawn, skipped}
 use Rattle.auc_history.specs.Split.{all_entries}
@@ -10,13 +9,12 @@ use Rattle.auc_jobs.specs.Serving.{AreAllKnown}
 use Rattle.auc_lines.specs.declared.part.Line.{Line}
 use Rattle.auc_lines.specs.declared.part.Part.{Part}
 use Rattle.auc_lines.specs.declared.part.Part.TheVariants.{Round, Restart}
-use Rattle.auc_sqn.specs.Number.{max_seq}
 use Rattle.auc_world.specs.Entries.{entries_of_jobs}
 use Rattle.auc_world.specs.Setting.{Setting}
 use Rattle.auc_world.specs.Start.{Kept}
 use Rattle.auc_world.specs.Lines.{numbers_of, withheld_of, all_lines}
 use Rattle.auc_world.specs.Round.{IsLawfulRound, closing_of, closings_from}
-use Rattle.auc_world.proofs.Facts.{length-opened}
+use Rattle.auc_world.proofs.Facts.{length-opened, length-reopened}
 use Rattle.auc_world.specs.Transcript.{Course, Leads, ServesPart, stop_before}
 use Rattle.auc_world.specs.Record.{NamesBelow, PartNamesBelow}
 use Rattle.auc_world.specs.declared.record.Closing.{Closing}
@@ -66,7 +64,7 @@ closings_named count sub (opening ∷ openings) (word ∷ words) jobs all =
 
 -- a lawful round
 pub round_named : (set : Setting) (stop : Option Stop) (early : List LineRecord) (kept : List Kept) (openings : List ℕ) (jobs : List (List Line)) (round : RoundRecord) (words : List ℕ)
-    → length openings ≡ length set.rows → AreAllKnown (length set.rows) jobs → IsLawfulRound set stop early kept openings jobs round words
+    → length openings ≡ length set.rows → AreAllKnown set.rows jobs → IsLawfulRound set stop early kept openings jobs round words
     → NamesBelow (length set.rows) round
 round_named set stop early kept openings jobs round words count known lawful = record {
   jobs = jobs_named set early kept [] jobs round.jobs lawful.nets known lawful.given;
@@ -76,7 +74,7 @@ round_named set stop early kept openings jobs round words count known lawful = r
 
 -- a part of a lawful transcript
 part_named : (set : Setting) (stop : Option Stop) (at : Course) (part : Part) (made : PartRecord) (next : Course) → length at.openings ≡ length set.rows
-    → IsKnownPart (length set.rows) part → ServesPart set stop at part made next → PartNamesBelow (length set.rows) made
+    → IsKnownPart set.rows part → ServesPart set stop at part made next → PartNamesBelow (length set.rows) made
 part_named set stop at (Round jobs) (record_of.Round round) next count known serves =
     round_named set stop at.early at.kept at.openings jobs round serves.words count known.known serves.lawful
 part_named set stop at (Round jobs) record_of.Restart next count known serves = absurd serves
@@ -87,10 +85,9 @@ part_named set stop at Restart record_of.Restart next count known serves = tt
 part_follows : (set : Setting) (stop : Option Stop) (at : Course) (part : Part) (made : PartRecord) (next : Course) → length at.openings ≡ length set.rows
     → ServesPart set stop at part made next → length next.openings ≡ length set.rows
 part_follows set stop at (Round jobs) (record_of.Round round) next count serves =
-    let sizes = serves.lawful.sizes in
-    let kept = length-map serves.words (λ (word : ℕ). min word max_seq) in
+    let kept = length-reopened set.rows serves.words in
     let opens = ap (λ (c : Course). length c.openings) serves.leads in
-    omega (arith, sizes, kept, opens, count)
+    omega (arith, kept, opens)
 part_follows set stop at (Round jobs) record_of.Restart next count serves = absurd serves
 part_follows set stop at Restart (record_of.Round round) next count serves = absurd serves
 part_follows set stop at Restart record_of.Restart next count serves =
@@ -100,13 +97,13 @@ part_follows set stop at Restart record_of.Restart next count serves =
 
 -- the parts of a lawful transcript
 pub parts_named : (set : Setting) (stop : Option Stop) (at : Course) (parts : List Part) (records : List PartRecord) (end : Course)
-    → length at.openings ≡ length set.rows → All (IsKnownPart (length set.rows)) parts → Leads set stop at parts records end
+    → length at.openings ≡ length set.rows → All (IsKnownPart set.rows) parts → Leads set stop at parts records end
     → All (PartNamesBelow (length set.rows)) records
 parts_named set stop at [] records end count known (none, same) =
     All-same (PartNamesBelow (length set.rows)) records [] none (All-nil (PartNamesBelow (length set.rows)))
 parts_named set stop at (part ∷ parts) [] end count known leads = absurd leads
 parts_named set stop at (part ∷ parts) (first ∷ records) end count known (next, serves, rest) =
     All-cons (PartNamesBelow (length set.rows)) first records
-    (part_named set (stop_before stop records) at part first next count (All-head (IsKnownPart (length set.rows)) part parts known) serves)
+    (part_named set (stop_before stop records) at part first next count (All-head (IsKnownPart set.rows) part parts known) serves)
     (parts_named set stop next parts records end (part_follows set (stop_before stop records) at part first next count serves)
-    (All-tail (IsKnownPart (length set.rows)) part parts known) rest)
+    (All-tail (IsKnownPart set.rows) part parts known) rest)

@@ -205,7 +205,7 @@ round_leads seen may_leave set from reserved at number state next journal after 
     let count = count_of set.rows journal on.reserves.subscribers in
     let counts = ap length same in
     record {
-      next = after_round at round words leads.0.nets;
+      next = after_round set.rows at round words leads.0.nets;
       served = record { numbered = numbered ∙ sym on.numbered; words = words; lawful = leads.0; leads = refl };
       early = refl;
       number = refl;
@@ -214,7 +214,7 @@ round_leads seen may_leave set from reserved at number state next journal after 
       reserves = record {
         subscribers = same ∙ on.reserves.subscribers;
         raises = raises_round set.rows at.early (all_lines round.jobs) at.limits at.highs (limits_of journal) words (limits_of after) (sizes ∙ size) on.reserves.raises serves.limits;
-        durable = durable_more seen may_leave from (λ i. max (most_at reserved at i) (slice_index words i + least_step)) (most_at reserved (after_round at round words leads.0.nets)) after
+        durable = durable_more seen may_leave from (λ i. max (most_at reserved at i) (slice_index words i + least_step)) (most_at reserved (after_round set.rows at round words leads.0.nets)) after
             (λ i inside. let greatest = get_or-greater words at.highs i (omega (arith, inside, counts, count, sizes, size)) in omega (arith, greatest))
             (serves.durable from (most_at reserved at) on.reserves.durable);
       };

@@ -175,13 +175,13 @@ quiet_round round stop (Err refused.TooLong) text old new writes quiet = absurd 
 pub restart_goes : {D : Type 0} (seen : D → Option (List ℕ)) (may_leave : D → List ℕ → Type 0) (set : Setting) (full : Bool) (number later : ℕ) (state next : Standing) (journal after : JournalState D)
     (result : Result (Unit {0}) Refusal) (waits left : List ℕ) (old : Option (List ℕ))
     → after ≡ journal → later ≡ number
-    → OnOk result (next.words ≡ opened set.rows (limits_of journal)) → OnOk result (next.kept ≡ state.kept) → OnOk result ((set : Setting) (early : List LineRecord) → StandsAt set early state → StandsAt set early next)
+    → OnOk result (next.words ≡ opened set.rows (limits_of journal)) → OnOk result (next.kept ≡ state.kept) → OnOk result ((other : Setting) (early : List LineRecord) → other.rows ≡ set.rows → StandsAt other early state → StandsAt other early next)
     → OnOk result (left ≡ waits ++ restart_text)
     → OnOk result ((from : D) (reserved : List ℕ) (at : Course) → StandsOn seen may_leave set from reserved at number state journal
     → GoesOn seen may_leave set full from reserved at Restart later next after waits left old old)
 restart_goes seen may_leave set full number later state next journal after (Err refusal) waits left old same count words names stands text = tt
 restart_goes {D} seen may_leave set full number later state next journal after (Ok done) waits left old same count words names stands text = λ from reserved at on.
-    let leads = restart_stands seen may_leave set from reserved at number state next journal on words names (stands set at.early on.stands) in
+    let leads = restart_stands seen may_leave set from reserved at number state next journal on words names (stands set at.early refl on.stands) in
     record {
       made = record_of.Restart;
       next = after_restart set.rows at (limits_of journal);

@@ -249,15 +249,15 @@ pub record Covers {D : Type 0} (seen : D → Option (List ℕ)) (may_leave : D �
 -- ---- the rounds, one after the other
 
 -- each line of a round is one of known subscribers, no two of its jobs hold one USIM, and it has not too many jobs
-pub record IsKnownRound (count : ℕ) (jobs : List (List Line)) : Type 0 where
-  pub known : AreAllKnown count jobs
+pub record IsKnownRound (rows : List Row) (jobs : List (List Line)) : Type 0 where
+  pub known : AreAllKnown rows jobs
   pub apart : AllPairs AreApart jobs
   pub few : length jobs ≤ most_jobs
 
 -- a part that can be served: such a round, or a restart
-abbrev pub IsKnownPart : ℕ → Part → Type 0
-IsKnownPart count (Round jobs) = IsKnownRound count jobs
-IsKnownPart count Restart = Unit {0}
+abbrev pub IsKnownPart : List Row → Part → Type 0
+IsKnownPart rows (Round jobs) = IsKnownRound rows jobs
+IsKnownPart rows Restart = Unit {0}
 
 -- a part of a transcript goes on from here: the number of the next round, the state, and the journal
 pub record StandsOn {D : Type 0} (seen : D → Option (List ℕ)) (may_leave : D → List ℕ → Type 0) (set : Setting) (from : D) (reserved : List ℕ) (at : Course) (number : ℕ) (state : Standing) (journal : JournalState D) : Type 0 where

@@ -34,8 +34,9 @@ text_of rows script records = transcript_text (setting_of rows script) script.fu
 
 -- a text is that of exactly one lawful transcript of some parts of a script, in which each released number is above what was
 -- reserved for its subscriber before, no two vectors of a subscriber carry the same SQN, no USIM accepts an SQN twice, and between resynchronisations and restarts a released vector gets a
--- synchronisation failure exactly if it, or one drawn a positive multiple of 32 places later, was accepted before, whether a
--- `give` line or a session presents it; a USIM to which a session presents it finds its MAC right. A server and a peer that
+-- synchronisation failure exactly if it, or one drawn a positive multiple of 2 ^ bits places later, or the age limit or more later, was
+-- accepted before, by the subscriber's index length and age limit, whether a `give` line or a session presents it; a USIM to which a
+-- session presents it finds its MAC right. A server and a peer that
 -- ended in Success over one challenge or in one fast re-authentication have equal keys, if no delivery broke the premise in their
 -- jobs, and each round tells of a breach exactly if one did. No counter is used twice under the keys of one full
 -- authentication. A session that has its plain line and no other event line ends in Success at both ends, and its round says that
@@ -53,8 +54,8 @@ pub record IsOutput (rows : List Row) (script : Script) (reserved : List ℕ) (s
   pub is_text : text ≡ text_of rows script transcript
   pub only : (other : List PartRecord) → IsTranscript rows script reserved stop parts other → text ≡ text_of rows script other → other ≡ transcript
   pub above : AreAboveReserved (length rows) reserved (lines_of transcript)
-  pub differ : VectorsDiffer (length rows) transcript
-  pub accepts_none_twice : AcceptsNoneTwice (length rows) transcript
+  pub differ : VectorsDiffer rows transcript
+  pub accepts_none_twice : AcceptsNoneTwice rows transcript
   pub fails_by_place : FailsExactlyByPlace rows transcript
   pub fails_by_place_in_sessions : FailsExactlyByPlaceInSessions (setting_of rows script) transcript
   pub finds_right_macs : FindsRightMacs (setting_of rows script) transcript

@@ -125,7 +125,7 @@ fn serve_once<R: Threads + Wait + Sync, G: Gate + Sync>(
     workers: u32,
     gate: &G,
 ) -> Result<Ran, NoMemory>
-    requires known { AreAllKnown (length set.now.rows) jobs.now }
+    requires known { AreAllKnown set.now.rows jobs.now }
     requires few { length jobs.now ≤ most_jobs }
     requires apart { AllPairs AreApart jobs.now }
     requires workers { (1 ≤ workers) × (workers ≤ most_workers) }

@@ -8,7 +8,7 @@ ghost use Rattle.auc_journal.specs.Journal.{limits_of, reserved_at};
 ghost use Rattle.auc_journal.specs.Opening.{LeavesFound};
 ghost use Rattle.auc_journal.specs.declared.open_why.OpenWhy.TheVariants as why;
 ghost use Rattle.auc_sqn.specs.Number.{max_seq};
-ghost use Rattle.auc_subs.specs.Subscriber.{AreSubscribers};
+ghost use Rattle.auc_subs.specs.Subscriber.{top_at};
 ghost use Rattle.auc_world.specs.Limits.{opened};
 ghost use Rattle.auc_run.specs.Crash.{IsFound, IsNoJournal, limits_in};
 ghost use Rattle.auc_run.specs.Inner.{Begins};
@@ -16,6 +16,7 @@ ghost use Rattle.auc_run.specs.Inner.{Begins};
 use auc_disk::Disk;
 use auc_edge::{Imsi, Items, NoMemory};
 use auc_journal::{Journal, OpenRefused, OpenWhy};
+use auc_sqn::top;
 use auc_subs::Subscribers;
 use std::alloc::Global;
 
@@ -55,7 +56,7 @@ fn identities(alloc: Global, subs: &Subscribers) -> Result<Items<Imsi>, NoMemory
 }
 
 /// The words at which the limits of a journal open its subscribers: each at its row's number or at its limit, whichever is
-/// greater. It makes no call of the disk.
+/// greater, but at most at its greatest number. It makes no call of the disk.
 pub(crate) fn openings<D: Disk + Drop>(
     alloc: Global,
     subs: &Subscribers,
@@ -63,13 +64,15 @@ pub(crate) fn openings<D: Disk + Drop>(
 ) -> Result<Items<u64>, NoMemory>
     requires { journal.now.imsis ≡ map (λ row. row.imsi) subs.now }
     ensures words { IfOk result (λ words. words ≡ opened subs.now (limits_of journal.now)) }
-    ensures numbers { IfOk result (λ words. All (λ word. word ≤ max_seq) words) }
+    ensures numbers { IfOk result (λ words. (sub : ℕ) → sub < length subs.now
+        → slice_index words sub ≤ top_at subs.now sub) }
     ensures limits { OnOk result ((sub : ℕ) → sub < length subs.now
         → slice_index (limits_of journal.now) sub ≤ max_seq) }
 {
     let mut words = Items::new(alloc);
     for sub in 0..subs.len() {
-        words.push(subs.row(sub).seq.max(journal.reserved(sub)))?;
+        let row = subs.row(sub);
+        words.push(row.seq.max(journal.reserved(sub)).min(top(row.bits)))?;
     }
     Ok(words)
 }

@@ -132,6 +132,8 @@ fn subs_why_text(why: SubsWhy) -> &'static [u8]
         SubsWhy::Kind => b"kind",
         SubsWhy::Op => b"op",
         SubsWhy::Amf => b"amf",
+        SubsWhy::Bits => b"bits",
+        SubsWhy::Age => b"age",
         SubsWhy::Seq => b"seq",
         SubsWhy::Usim => b"usim",
         SubsWhy::Twice => b"twice",

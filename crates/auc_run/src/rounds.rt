@@ -119,7 +119,7 @@ fn serve_round<R: Threads + Wait + Sync, K: Sink, D: Disk + Drop + Send, G: Gate
     gate: &G,
 ) -> Step<D>
     requires subscribers { AreSubscribers settings.now.set.rows }
-    requires known { IsKnownPart (length settings.now.set.rows) (part.Round jobs.now) }
+    requires known { IsKnownPart settings.now.set.rows (part.Round jobs.now) }
     requires workers { (1 ≤ settings.now.workers) × (settings.now.workers ≤ most_workers) }
     requires realm { length settings.now.set.realm ≤ longest_realm }
     requires number { stand.number + 1 < 2 ^ 32 }
@@ -197,7 +197,7 @@ fn restart<D: Disk + Drop>(
     requires size { length stand.old.state.words ≡ length subs.now }
     ensures opened { OnOk result (stand.new.state.words ≡ opened subs.now (limits_of stand.old.journal)) }
     ensures names { OnOk result (stand.new.state.kept ≡ stand.old.state.kept) }
-    ensures stands { OnOk result ((set : Setting) (early : List LineRecord)
+    ensures stands { OnOk result ((set : Setting) (early : List LineRecord) → set.rows ≡ subs.now
         → StandsAt set early stand.old.state → StandsAt set early stand.new.state) }
     ensures limits { OnOk result ((sub : ℕ) → sub < length subs.now
         → slice_index (limits_of stand.old.journal) sub ≤ max_seq) }
@@ -222,7 +222,7 @@ fn serve_part<R: Threads + Wait + Sync, K: Sink, D: Disk + Drop + Send, G: Gate 
     gate: &G,
 ) -> Step<D>
     requires subscribers { AreSubscribers settings.now.set.rows }
-    requires known { IsKnownPart (length settings.now.set.rows) part.now }
+    requires known { IsKnownPart settings.now.set.rows part.now }
     requires workers { (1 ≤ settings.now.workers) × (settings.now.workers ≤ most_workers) }
     requires realm { length settings.now.set.realm ≤ longest_realm }
     requires number { stand.number + 1 < 2 ^ 32 }
@@ -270,7 +270,7 @@ fn serve_all<R: Threads + Wait + Sync, K: Sink, D: Disk + Drop + Send, G: Gate +
     gate: &G,
 ) -> Performed<D>
     requires subscribers { AreSubscribers settings.now.set.rows }
-    requires known { All (IsKnownPart (length settings.now.set.rows)) parts.now }
+    requires known { All (IsKnownPart settings.now.set.rows) parts.now }
     requires workers { (1 ≤ settings.now.workers) × (settings.now.workers ≤ most_workers) }
     requires realm { length settings.now.set.realm ≤ longest_realm }
     requires number { stand.number + length parts.now < 2 ^ 32 }
@@ -349,7 +349,7 @@ pub(crate) fn serve_parts<R: Threads + Wait + Sync, K: Sink, D: Disk + Drop + Se
     gate: &G,
 ) -> Performed<D>
     requires subscribers { AreSubscribers subs.now }
-    requires known { All (IsKnownPart (length subs.now)) script.now.parts }
+    requires known { All (IsKnownPart subs.now) script.now.parts }
     requires count { length script.now.parts + 1 < 2 ^ 32 }
     requires workers { (1 ≤ script.now.workers) × (script.now.workers ≤ most_workers) }
     requires realm { length script.now.realm ≤ longest_realm }

@@ -1,17 +1,16 @@
-use Rattle.std.proofs.Common.{◌∙◌, ℕ, List, AllPairs, length, ap, subst, sym, arith}
+use Rattle.std.proofs.Common.{◌∙◌, List, AllPairs, length, ap, subst, sym, arith}
 use Rattle.auc_jobs.specs.Serving.{AreAllKnown}
 use Rattle.auc_lines.specs.Part.{AreApart}
 use Rattle.auc_lines.specs.declared.part.Line.{Line}
 use Rattle.auc_world.specs.Setting.{Setting}
-use Rattle.auc_run.proofs.LoadLemmas.{load_apart, load_ends, load_few, load_known, rows_of_load}
+use Rattle.auc_run.proofs.LoadLemmas.{load_apart, load_ends, load_few, load_known}
 use Rattle.auc_run.proofs.load.serve_load.Goals as goal
 
 pub serve_once-requires-clause-known : goal.serve_once-requires-clause-known
 serve_once-requires-clause-known g c = λ κs within.
     let load = c.args.load.now in
     let jobs = c.as_slice-2.ensures ∙ c.in_ok-jobs.ensures in
-    subst (λ (n : ℕ). AreAllKnown n c.as_slice-2.result.now) (sym (rows_of_load load c.args.subs.now c.requires.subscribers))
-    (subst (λ (js : List (List Line)). AreAllKnown load.subscribers js) (sym jobs) (load_known load c.requires.load))
+    subst (λ (js : List (List Line)). AreAllKnown c.args.subs.now js) (sym jobs) (load_known load c.args.subs.now c.requires.load c.requires.subscribers)
 
 pub serve_once-requires-clause-apart : goal.serve_once-requires-clause-apart
 serve_once-requires-clause-apart g c = λ κs within.

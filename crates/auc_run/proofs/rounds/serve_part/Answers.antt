@@ -1,6 +1,9 @@
-use Rattle.std.proofs.Common.{◌≡◌, OnOk, subst}
+use Rattle.std.proofs.Common.{◌≡◌, List, OnOk, subst}
 use Rattle.auc_journal.specs.Journal.{limits_of}
+use Rattle.auc_jobs.specs.State.{StandsAt}
 use Rattle.auc_world.specs.Limits.{opened}
+use Rattle.auc_world.specs.Setting.{Setting}
+use Rattle.auc_world.specs.declared.record.LineRecord.{LineRecord}
 use Rattle.auc_run.specs.declared.rounds.Settings.{Settings}
 use Rattle.auc_run.proofs.StepLemmas.{restart_ends, restart_goes}
 use Rattle.auc_run.proofs.rounds.serve_part.Goals as goal
@@ -17,7 +20,10 @@ returns-in-Restart-clause-goes g c =
     c.args.stand.state c.restart-result.new.stand.state c.args.stand.journal c.restart-result.new.stand.journal c.restart-result.result c.args.stand.text c.restart-result.new.stand.text
     (g.K.Sink.written c.args.out.now) c.restart-result.ensures.kept.0 c.restart-result.ensures.kept.1
     (subst (λ (settings : Settings). OnOk c.restart-result.result (c.restart-result.new.stand.state.words ≡ opened settings.set.rows (limits_of c.args.stand.journal))) c.settings.view_is c.restart-result.ensures.opened)
-    c.restart-result.ensures.names c.restart-result.ensures.stands c.restart-result.ensures.text)
+    c.restart-result.ensures.names
+    (subst (λ (settings : Settings). OnOk c.restart-result.result ((other : Setting) (early : List LineRecord) → other.rows ≡ settings.set.rows
+    → StandsAt other early c.args.stand.state → StandsAt other early c.restart-result.new.stand.state)) c.settings.view_is c.restart-result.ensures.stands)
+    c.restart-result.ensures.text)
 
 pub returns-in-Restart-clause-ends : goal.returns-in-Restart-clause-ends
 returns-in-Restart-clause-ends g c =
