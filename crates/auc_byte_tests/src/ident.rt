@@ -2,7 +2,7 @@
 
 use auc_edge::Imsi;
 use auc_hmac::Method;
-use auc_ident::{NameKind, Names, Ordinals, Spent, permanent, permanent_in, username};
+use auc_ident::{Name, NameKind, Names, Ordinals, Spent, permanent, permanent_in, username};
 
 // RFC 4187 §4.1.1.6 and RFC 9048 §5.1, by hand: the leading digit and the IMSI.
 #[test]
@@ -42,6 +42,27 @@ fn identities_are_read_back_without_their_realm(rt: HostRuntime) {
     ];
     for (method, text, imsi) in cases {
         assert!(rt; permanent_in(method, username(text)) == imsi);
+    }
+}
+
+// By hand, RFC 4187 §4.1.1.7 and §4.1.1.8: a name is the text before the realm.
+#[test]
+fn names_of_1_to_255_bytes_are_kept(rt: HostRuntime) {
+    let long = [b'n'; 256];
+    let cases: [(&[u8], &[u8]); 7] = [
+        (b"", b""),
+        (b"@home", b""),
+        (b"n", b"n"),
+        (b"2name@home@there", b"2name"),
+        (&long[..33], &long[..33]),
+        (&long[..255], &long[..255]),
+        (&long, b""),
+    ];
+    for (text, name) in cases {
+        match Name::kept(text) {
+            None => assert!(rt; name.is_empty()),
+            Some(kept) => assert!(rt; kept.as_slice() == name),
+        }
     }
 }
 

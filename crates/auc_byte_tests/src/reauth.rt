@@ -5,6 +5,7 @@ ghost use Rattle.auc_reauth.specs.Store.{method_of};
 ghost use Rattle.auc_hmac.specs.declared.method.Method.TheVariants as methods;
 
 use auc_hmac::{Master, Method};
+use auc_ident::Name;
 use auc_reauth::{Context, DeviceStore, ServerStore};
 
 // A re-authentication identity of EAP-AKA.
@@ -16,7 +17,7 @@ fn context(identity: [u8; 33], counter: u16) -> Context
 {
     Context {
         origin: 1,
-        identity,
+        identity: Name::new(&identity),
         k_encr: [1; 16],
         k_aut: [2; 32],
         master: Master::Aka([3; 20]),
@@ -80,12 +81,12 @@ fn counters_are_accepted_once_and_rise(rt: HostRuntime) {
 #[test]
 fn each_method_has_its_own_pseudonym_and_context(rt: HostRuntime) {
     let mut store = DeviceStore::new();
-    store.set_pseudonym(Method::Aka, [b'2'; 33]);
-    store.set_pseudonym(Method::Prime, [b'7'; 33]);
-    store.set_pseudonym(Method::Aka, NAME);
+    store.set_pseudonym(Method::Aka, Name::new(&[b'2'; 33]));
+    store.set_pseudonym(Method::Prime, Name::new(b"7"));
+    store.set_pseudonym(Method::Aka, Name::new(&NAME));
     assert!(rt;
         (store.pseudonym(Method::Aka), store.pseudonym(Method::Prime))
-            == (Some(NAME), Some([b'7'; 33]))
+            == (Some(Name::new(&NAME)), Some(Name::new(b"7")))
     );
     store.set_context(Method::Aka, Some(context(NAME, 1)));
     assert!(rt;

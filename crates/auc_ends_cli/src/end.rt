@@ -2,18 +2,17 @@
 
 ghost use Rattle.std.specs.Prelude.{◌≤◌, length, IfOk};
 ghost use Rattle.auc_peer.specs.Identities.{IsShortFirst};
-ghost use Rattle.auc_sqn.specs.Number.{max_seq};
+ghost use Rattle.auc_sqn.specs.Number.{top_of};
 
-use crate::peer_end::PeerEnd;
-use crate::server_end::ServerEnd;
+use crate::peer_end::{BITS, PeerEnd};
+use crate::server_end::{ServerEnd, core_of, subscriber};
 use crate::sim_end::{SimPeerEnd, SimServerEnd};
 use crate::text::Text;
-use auc_core::Core;
 use auc_edge::{NoMemory, Octets};
 use auc_hmac::Method;
 use auc_peer::{FirstIdentity, PeerOptions};
 use auc_server::ServerOptions;
-use auc_sqn::MAX_SEQ;
+use auc_sqn::top;
 use auc_vector::CoreCentre;
 use std::alloc::{AllocError, Global};
 use std::sync::Wait;
@@ -203,18 +202,17 @@ fn new_server(
     is_held: bool,
     options: &str,
     text: &mut Text,
-) -> Result<End, NoMemory>
-    requires { word ≤ max_seq }
-{
-    let core = Core::new(alloc, &[word])?;
+) -> Result<End, NoMemory> {
+    let subs = subscriber(alloc)?;
+    let centre = CoreCentre::new(core_of(alloc, &subs, word)?);
     let options = server_options(alloc, 1, options)?;
-    let server = ServerEnd::begin(alloc, options, CoreCentre::new(core), is_held, text)?;
+    let server = ServerEnd::begin(alloc, options, subs, centre, is_held, text)?;
     Ok(End::Server(server))
 }
 
 /// A peer of the first session, whose USIM counts the numbers up to a word as accepted.
 fn new_peer(alloc: Global, word: u64, options: &str) -> Result<End, NoMemory>
-    requires { word ≤ max_seq }
+    requires { word ≤ top_of 5 }
 {
     let peer = PeerEnd::begin(alloc, peer_options(alloc, 1, options)?, word)?;
     Ok(End::Peer(peer))
@@ -297,10 +295,10 @@ fn name_of(alloc: Global, method: Method, name: &[u8]) -> Result<Option<Octets>,
 
 /// A number of a subscriber, or 0 if a text is none.
 fn number(text: &str) -> u64
-    ensures { result ≤ max_seq }
+    ensures { result ≤ top_of 5 }
 {
     match text.parse::<u64>() {
-        Ok(number) if number <= MAX_SEQ => number,
+        Ok(number) if number <= top(BITS) => number,
         _ => 0,
     }
 }

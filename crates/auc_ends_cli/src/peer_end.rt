@@ -1,7 +1,7 @@
 //! A peer with its device.
 
 ghost use Rattle.std.specs.Prelude.{◌≤◌, length};
-ghost use Rattle.auc_sqn.specs.Number.{max_seq};
+ghost use Rattle.auc_sqn.specs.Number.{top_of};
 
 use crate::server_end::random_key;
 use crate::text::Text;
@@ -13,6 +13,9 @@ use auc_random::Rands;
 use auc_reauth::DeviceStore;
 use auc_usim::Usim;
 use std::alloc::Global;
+
+/// The index length of the subscriber.
+pub const BITS: u8 = 5;
 
 /// A peer with its device.
 #[derive(Drop)]
@@ -27,12 +30,12 @@ pub struct PeerEnd {
 impl PeerEnd {
     /// A peer whose USIM counts the numbers up to a word as accepted.
     pub fn begin(alloc: Global, options: PeerOptions, word: u64) -> Result<PeerEnd, NoMemory>
-        requires { word ≤ max_seq }
+        requires { word ≤ top_of 5 }
     {
         let Some(imsi) = Imsi::read(b"001010000000001") else {
             return Err(NoMemory);
         };
-        let usim = Usim::new(secret(), word);
+        let usim = Usim::new(secret(), word, BITS, None);
         let realm = Octets::new(alloc);
         Ok(PeerEnd {
             rands: Rands::new(random_key()),

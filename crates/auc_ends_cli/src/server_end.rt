@@ -1,16 +1,18 @@
 //! A server with what it is served with.
 
-ghost use Rattle.std.specs.Prelude.{◌≡◌, ◌≤◌, ◌<◌, ℕ, All, IfOk, length};
+ghost use Rattle.std.specs.Prelude.{◌≡◌, ◌≤◌, ◌<◌, [], ◌∷◌, All, IfOk, length};
 ghost use Rattle.auc_server.specs.Steps.{IsHome, IsServed};
-ghost use Rattle.auc_sqn.specs.Number.{max_seq};
+ghost use Rattle.auc_subs.specs.Subscriber.{top_at};
 
 use crate::text::Text;
 use crate::turn::{put_sent, put_server_step, put_server_turn};
+use auc_core::Core;
 use auc_edge::{NoMemory, Octets};
 use auc_ident::{Names, Ordinals};
 use auc_random::Rands;
 use auc_reauth::ServerStore;
 use auc_server::{HomeRow, Server, ServerOptions, Setting};
+use auc_sqn::top;
 use auc_subs::Subscribers;
 use auc_vector::Centre;
 use std::alloc::Global;
@@ -46,15 +48,16 @@ impl<C: Centre + Drop> ServerEnd<C> {
     pub fn begin(
         alloc: Global,
         options: ServerOptions,
+        subs: Subscribers,
         centre: C,
         is_held: bool,
         text: &mut Text,
     ) -> Result<ServerEnd<C>, NoMemory>
         requires name { length options.name ≤ 255 }
-        requires subs { 0 < C.subs centre }
-        requires top { (sub : ℕ) → C.top centre sub ≡ max_seq }
+        requires listed { 0 < length subs }
+        requires known { 0 < C.subs centre }
+        requires top { C.top centre 0 ≡ top_at subs 0 }
     {
-        let subs = subscriber(alloc)?;
         let homes = homes_of(alloc, &subs, &centre, is_held)?;
         let started = Server::start(options, alloc)?;
         Ok(ServerEnd::of(subs, homes, centre, started, text))
@@ -137,12 +140,24 @@ impl<C: Centre + Drop> ServerEnd<C> {
 }
 
 /// The subscriber.
-fn subscriber(alloc: Global) -> Result<Subscribers, NoMemory> {
+pub fn subscriber(alloc: Global) -> Result<Subscribers, NoMemory>
+    ensures { IfOk result (λ subs. 0 < length subs) }
+{
     let mut subs = Subscribers::new(alloc);
     match subs.add(SUBSCRIBER) {
-        Ok(_) => Ok(subs),
-        Err(_) => Err(NoMemory),
+        Ok(_) if subs.len() > 0 => Ok(subs),
+        _ => Err(NoMemory),
     }
+}
+
+/// The numbers of the subscriber, the last one of which is a word, or its greatest number if that is less.
+pub fn core_of(alloc: Global, subs: &Subscribers, word: u64) -> Result<Core, NoMemory>
+    requires { 0 < length subs.now }
+    ensures words { IfOk result (λ core. length core.words ≡ 1) }
+    ensures tops { IfOk result (λ core. core.tops ≡ top_at subs.now 0 ∷ []) }
+{
+    let greatest = top(subs.row(0).bits);
+    Core::new(alloc, &[word.min(greatest)], &[greatest])
 }
 
 /// The home of the subscriber, which is also one of the centre, if it is held.
@@ -152,13 +167,14 @@ fn homes_of<C: Centre>(
     centre: &C,
     is_held: bool,
 ) -> Result<Vec<HomeRow>, NoMemory>
-    requires subs { 0 < C.subs centre.now }
-    requires top { (sub : ℕ) → C.top centre.now sub ≡ max_seq }
+    requires listed { 0 < length subs.now }
+    requires known { 0 < C.subs centre.now }
+    requires top { C.top centre.now 0 ≡ top_at subs.now 0 }
     ensures { IfOk result (λ homes.
         All (λ home. IsHome subs.now (C.subs centre.now) (C.top centre.now) home.sub) homes.items) }
 {
     let mut homes = Vec::new(alloc);
-    if is_held && 0 < subs.len() {
+    if is_held {
         homes.push(HomeRow {
             sub: 0,
             ordinals: Ordinals::at(0),

@@ -1,6 +1,6 @@
 //! The shared words, step by step and from several threads.
 
-ghost use Rattle.std.specs.Prelude.{◌≡◌, ◌<◌, All, length, None};
+ghost use Rattle.std.specs.Prelude.{◌≡◌, ◌<◌, ◌≤◌, All, length, slice_index, None};
 ghost use Rattle.auc_draw.specs.Book.{IsOf};
 ghost use Rattle.auc_draw.specs.Pass.{EndsAbove};
 
@@ -13,8 +13,8 @@ use std::thread;
 
 /// The only pass of a book, as the list of all its passes.
 fn all_passes(rt: &impl Abort, alloc: Global, book: &Book, pass: Pass) -> Vec<Pass>
-    requires { pass.id ≡ book.now.id }
-    ensures { All (IsOf book.now.id) result.items × (length result.items ≡ 1) }
+    requires { IsOf book.now.id book.now.tops pass }
+    ensures { All (IsOf book.now.id book.now.tops) result.items × (length result.items ≡ 1) }
 {
     let mut passes = Vec::new(alloc);
     match passes.push(pass) {
@@ -27,9 +27,10 @@ fn all_passes(rt: &impl Abort, alloc: Global, book: &Book, pass: Pass) -> Vec<Pa
 type Deeds = (Draw, [Jump; 2], [Draw; 4], Jump);
 
 fn deeds(book: &Book, pass: &mut Pass) -> Deeds
-    requires own { pass.old.id ≡ book.now.id }
+    requires own { IsOf book.now.id book.now.tops pass.old }
     requires subs { 1 < length book.now.openings }
-    ensures own { pass.new.id ≡ pass.old.id }
+    requires tops { (20 ≤ slice_index book.now.tops 0) × (5 ≤ slice_index book.now.tops 1) }
+    ensures own { IsOf book.now.id book.now.tops pass.new }
     ensures ended { pass.new.ended ≡ pass.old.ended }
 {
     let first = pass.draw(book, 0);
@@ -45,9 +46,9 @@ fn deeds(book: &Book, pass: &mut Pass) -> Deeds
 
 /// What a pass answers to three claims of a job, of which there is one.
 fn claims(book: &Book, pass: &mut Pass) -> [Option<u32>; 3]
-    requires own { pass.old.id ≡ book.now.id }
+    requires own { IsOf book.now.id book.now.tops pass.old }
     requires ended { EndsAbove 1 pass.old.ended }
-    ensures { pass.new.id ≡ pass.old.id }
+    ensures { IsOf book.now.id book.now.tops pass.new }
 {
     [
         pass.claim(book, 1),
@@ -60,8 +61,14 @@ fn claims(book: &Book, pass: &mut Pass) -> [Option<u32>; 3]
 #[test]
 fn one_pass_draws_jumps_and_claims(rt: HostRuntime) {
     let alloc = rt.alloc();
-    let Ok((book, mut passes, keeper)) = Book::open(alloc, &[10, MAX_SEQ - 1], &[10, MAX_SEQ], 1)
-    else {
+    let limits = [10, MAX_SEQ];
+    let Ok((book, mut passes, keeper)) = Book::open(
+        alloc,
+        &[10, MAX_SEQ - 1],
+        &[MAX_SEQ, MAX_SEQ],
+        &limits,
+        1,
+    ) else {
         panic!(rt; "no memory")
     };
     let mut pass = passes.pop().expect(&rt, "a pass");
@@ -83,9 +90,9 @@ fn one_pass_draws_jumps_and_claims(rt: HostRuntime) {
 
 /// Draws a number of the first subscriber, and releases it if its limit allows that.
 fn draw_and_release(book: &Book, pass: &mut Pass) -> Option<Release>
-    requires own { pass.old.id ≡ book.now.id }
+    requires own { IsOf book.now.id book.now.tops pass.old }
     requires sub { 0 < length book.now.openings }
-    ensures { pass.new.id ≡ pass.old.id }
+    ensures { IsOf book.now.id book.now.tops pass.new }
 {
     match pass.draw(book, 0) {
         Draw::Number(n) => Some(pass.release(book, 0, n)),
@@ -95,9 +102,9 @@ fn draw_and_release(book: &Book, pass: &mut Pass) -> Option<Release>
 
 /// Why the keeper stopped, as a pass reads it, and what comes of a number that is drawn after that.
 fn read_and_release(book: &Book, pass: &mut Pass) -> (Option<Stop>, Option<Release>)
-    requires own { pass.old.id ≡ book.now.id }
+    requires own { IsOf book.now.id book.now.tops pass.old }
     requires sub { 0 < length book.now.openings }
-    ensures { pass.new.id ≡ pass.old.id }
+    ensures { IsOf book.now.id book.now.tops pass.new }
 {
     (pass.stopped(book), draw_and_release(book, pass))
 }
@@ -116,7 +123,8 @@ fn look_and_stop(book: &Book, keeper: &mut KeeperPass) -> u64
 // By hand: a limit of 11, and then the store failed.
 #[test]
 fn numbers_are_released_up_to_the_limit(rt: HostRuntime) {
-    let Ok((book, mut passes, mut keeper)) = Book::open(rt.alloc(), &[10], &[11], 1) else {
+    let Ok((book, mut passes, mut keeper)) = Book::open(rt.alloc(), &[10], &[MAX_SEQ], &[11], 1)
+    else {
         panic!(rt; "no memory")
     };
     let mut pass = passes.pop().expect(&rt, "a pass");
@@ -135,9 +143,9 @@ fn numbers_are_released_up_to_the_limit(rt: HostRuntime) {
 
 /// Draws two numbers of the first subscriber.
 fn draw_two(book: &Book, pass: &mut Pass)
-    requires own { pass.old.id ≡ book.now.id }
+    requires own { IsOf book.now.id book.now.tops pass.old }
     requires sub { 0 < length book.now.openings }
-    ensures { pass.new.id ≡ pass.old.id }
+    ensures { IsOf book.now.id book.now.tops pass.new }
 {
     pass.draw(book, 0);
     pass.draw(book, 0);
@@ -147,14 +155,79 @@ fn draw_two(book: &Book, pass: &mut Pass)
 #[test]
 fn passes_on_three_threads_draw_from_one_word(rt: HostRuntime) {
     let alloc = rt.alloc();
-    let Ok((book, mut passes, keeper)) = Book::open(alloc, &[10], &[10], 3) else {
+    let Ok((book, mut passes, keeper)) = Book::open(alloc, &[10], &[MAX_SEQ], &[10], 3) else {
         panic!(rt; "no memory")
     };
     let two = |_: usize, pass: &mut Pass|
-        requires { (pass.old.id ≡ book.id) × (0 < length book.openings) }
-        ensures { pass.new.id ≡ pass.old.id }
+        requires { IsOf book.id book.tops pass.old × (0 < length book.openings) }
+        ensures { IsOf book.id book.tops pass.new }
     { draw_two(&book, pass) };
     thread::for_each_mut(&rt, passes.as_mut_slice(), 3, &two);
     let closed = book.close(passes, keeper);
     assert!(rt; closed.word(0) == 16);
+}
+
+/// What each of three passes answers to its two draws of a subscriber whose greatest number is 2, and the word at the end.
+/// The order of the draws has six digits to the base 3, and each is the pass that draws next.
+fn draws_in(rt: &impl Abort, alloc: Global, order: usize) -> ([(Draw, Draw); 3], u64) {
+    let Ok((book, mut passes, keeper)) = Book::open(alloc, &[0], &[2], &[0], 3) else {
+        panic!(rt; "no memory")
+    };
+    let mut answers = [(Draw::Number(0), Draw::Number(0)); 3];
+    let mut rest = order;
+    for _ in 0..6 {
+        let pass = rest % 3;
+        let answer = draw_by(&book, passes.as_mut_slice(), pass);
+        answers[pass] = (answers[pass].1, answer);
+        rest /= 3;
+    }
+    (answers, book.close(passes, keeper).word(0))
+}
+
+/// Draws a number of the first subscriber with one of the passes.
+fn draw_by(book: &Book, passes: &mut [Pass], pass: usize) -> Draw
+    requires own { All (IsOf book.now.id book.now.tops) passes.old }
+    requires sub { 0 < length book.now.openings }
+    requires pass { pass < length passes.old }
+    ensures own { All (IsOf book.now.id book.now.tops) passes.new }
+    ensures many { length passes.new ≡ length passes.old }
+{
+    passes[pass].draw(book, 0)
+}
+
+/// Whether each of three passes draws twice in this order.
+fn is_order(order: usize) -> bool {
+    let mut draws = [0u8; 3];
+    let mut rest = order;
+    for _ in 0..6 {
+        let pass = rest % 3;
+        draws[pass] = draws[pass].wrapping_add(1);
+        rest /= 3;
+    }
+    draws == [2, 2, 2]
+}
+
+/// How many numbers a pass drew, or 9 if it was refused with two different words.
+fn numbers_of(answers: (Draw, Draw)) -> u64
+    ensures { result ≤ 9 }
+{
+    match answers {
+        (Draw::Number(_), Draw::Number(_)) => 2,
+        (Draw::Number(_), Draw::Exhausted(_)) => 1,
+        (Draw::Exhausted(first), Draw::Exhausted(second)) if first == second => 0,
+        _ => 9,
+    }
+}
+
+// By hand: the two passes or three that are refused make a mark each, above 2.
+#[test]
+fn each_order_of_six_draws_gives_two_numbers(rt: HostRuntime) {
+    assert!(rt; (0..729).filter(|&order| is_order(order)).count() == 90);
+    for order in (0..729).filter(|&order| is_order(order)) {
+        let ([first, second, third], word) = draws_in(&rt, rt.alloc(), order);
+        let counts = [numbers_of(first), numbers_of(second), numbers_of(third)];
+        let closing = if counts.contains(&2) { 4 } else { 5 };
+        let numbers = counts[0] + counts[1] + counts[2];
+        assert!(rt; (numbers, word) == (2, closing), "in {order}");
+    }
 }

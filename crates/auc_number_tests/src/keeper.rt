@@ -55,7 +55,7 @@ fn reserve(rt: &impl Abort, alloc: Global, opening: u64, n: u64) -> (Option<Ensu
 {
     let journal = journal_of(rt, alloc, 9);
     let limits = [journal.reserved(0)];
-    let Ok((book, _passes, pass)) = Book::open(alloc, &[opening], &limits, 1) else {
+    let Ok((book, _passes, pass)) = Book::open(alloc, &[opening], &[MAX_SEQ], &limits, 1) else {
         panic!(rt; "no memory")
     };
     let mut keeper = Keeper::new(journal, pass);
@@ -101,7 +101,7 @@ fn ask_five(keeper: &mut Keeper<MemDisk>, book: &Book) -> [Option<Ensured>; 5]
 fn a_number_up_to_its_limit_makes_no_call(rt: HostRuntime) {
     let journal = journal_of(&rt, rt.alloc(), 4);
     let limits = [journal.reserved(0)];
-    let Ok((book, _passes, pass)) = Book::open(rt.alloc(), &[100], &limits, 1) else {
+    let Ok((book, _passes, pass)) = Book::open(rt.alloc(), &[100], &[MAX_SEQ], &limits, 1) else {
         panic!(rt; "no memory")
     };
     let mut keeper = Keeper::new(journal, pass);

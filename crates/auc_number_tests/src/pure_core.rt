@@ -1,6 +1,6 @@
 //! The core, event by event.
 
-ghost use Rattle.std.specs.Prelude.{◌≡◌, ◌<◌, ◌≤◌, All, length};
+ghost use Rattle.std.specs.Prelude.{◌≡◌, ◌<◌, ◌≤◌, ℕ, All, length, slice_index};
 ghost use Rattle.auc_sqn.specs.Number.{max_seq};
 
 use auc_core::{Core, Event, Reply};
@@ -8,23 +8,26 @@ use auc_sqn::MAX_SEQ;
 use std::alloc::Global;
 use std::process::Abort;
 
-/// A core of which each subscriber stands at its number.
-fn core_of(rt: &impl Abort, alloc: Global, openings: &[u64]) -> Core
+/// A core of which each subscriber stands at its number, and has its greatest one.
+fn core_of(rt: &impl Abort, alloc: Global, openings: &[u64], tops: &[u64]) -> Core
     requires count { length openings.now ≤ 65536 }
-    requires numbers { All (λ n. n ≤ max_seq) openings.now }
-    ensures { length result ≡ length openings.now }
+    requires each { length tops.now ≡ length openings.now }
+    requires tops { All (λ top. top ≤ max_seq) tops.now }
+    requires numbers { (sub : ℕ) → sub < length openings.now
+        → slice_index openings.now sub ≤ slice_index tops.now sub }
+    ensures { result ≡ record { words = openings.now; tops = tops.now } }
 {
-    match Core::new(alloc, openings) {
+    match Core::new(alloc, openings, tops) {
         Ok(core) => core,
         Err(_) => panic!(rt; "no memory"),
     }
 }
 
-// By hand: two subscribers, the second one number short of the greatest.
+// By hand: two subscribers, the second one number short of its greatest.
 #[test]
 fn each_subscriber_draws_its_own_numbers_to_the_greatest(rt: HostRuntime) {
     let alloc = rt.alloc();
-    let mut core = core_of(&rt, alloc, &[10, MAX_SEQ - 1]);
+    let mut core = core_of(&rt, alloc, &[10, MAX_SEQ - 1], &[MAX_SEQ, MAX_SEQ]);
     let replies = [
         core.apply(Event::Draw(0)),
         core.apply(Event::Draw(1)),
@@ -43,11 +46,39 @@ fn each_subscriber_draws_its_own_numbers_to_the_greatest(rt: HostRuntime) {
     assert!(rt; (core.word(0), core.word(1)) == (12, MAX_SEQ + 1));
 }
 
+// By hand: the greatest numbers are 12, 3 and 0, so that the second and the third subscriber have none left.
+#[test]
+fn each_subscriber_has_its_own_greatest_number(rt: HostRuntime) {
+    let alloc = rt.alloc();
+    let mut core = core_of(&rt, alloc, &[11, 3, 0], &[12, 3, 0]);
+    let replies = [
+        core.apply(Event::Draw(0)),
+        core.apply(Event::Resync(0, 12)),
+        core.apply(Event::Draw(0)),
+        core.apply(Event::Resync(0, 12)),
+        core.apply(Event::Draw(1)),
+        core.apply(Event::Draw(2)),
+        core.apply(Event::Resync(2, 0)),
+    ];
+    let expected = [
+        Reply::Number(12),
+        Reply::InRange(12, 12),
+        Reply::Exhausted(12),
+        Reply::InRange(12, 12),
+        Reply::Exhausted(3),
+        Reply::Exhausted(0),
+        Reply::InRange(0, 0),
+    ];
+    assert!(rt; replies == expected);
+    assert!(rt; (core.word(0), core.word(1), core.word(2)) == (13, 4, 1));
+}
+
 /// The answer to a resynchronisation.
 fn resync(core: &mut Core, sub: u32, seq_ms: u64) -> Reply
-    requires sub { sub < length core.old }
-    requires number { seq_ms ≤ max_seq }
-    ensures { length core.new ≡ length core.old }
+    requires sub { sub < length core.old.words }
+    requires number { seq_ms ≤ slice_index core.old.tops sub }
+    ensures words { length core.new.words ≡ length core.old.words }
+    ensures tops { core.new.tops ≡ core.old.tops }
 {
     core.apply(Event::Resync(sub, seq_ms))
 }
@@ -57,7 +88,7 @@ fn resync(core: &mut Core, sub: u32, seq_ms: u64) -> Reply
 #[test]
 fn a_resynchronisation_moves_the_number_up_and_never_back(rt: HostRuntime) {
     let alloc = rt.alloc();
-    let mut core = core_of(&rt, alloc, &[0, 268435456, MAX_SEQ]);
+    let mut core = core_of(&rt, alloc, &[0, 268435456, MAX_SEQ], &[MAX_SEQ; 3]);
     assert!(rt; core.apply(Event::Draw(2)) == Reply::Exhausted(MAX_SEQ));
     let cases = [
         (0, 700, Reply::Moved(0, 700), 700),

@@ -263,6 +263,55 @@ fn reserved_tells_what_a_run_reserved(rt: HostRuntime) {
     );
 }
 
+// By hand. With an index of no bits the SQN of a number is the number, and 1 is old after 2. With an age limit of 3 the vector of 1 is
+// refused after that of 4, whose SQN is 32 * 4 + 4, and that of 2 isn't. With 6 bits numbers end at 2 ^ 42 - 1, in a limit of the
+// journal too.
+#[test]
+fn index_length_and_age_limit_go_by_the_subscriber(rt: HostRuntime) {
+    let alloc = rt.alloc();
+    let cases: [(&[u8], Status, &[u8]); 7] = [
+        (
+            b"subscriber 001010000000001 465b5ce8b199b49faa5f0a2ee238a6bc opc cd63cb71954a9f4e48a5994e37a02baf 8000 0 0 0 -\nround\njob\ndraw 001010000000001 2\ngive 001010000000001 2\ngive 001010000000001 1\n".as_slice(),
+            Status::Done,
+            b"round 1\njob 1\nvector 001010000000001 1\nvector 001010000000001 2\ngive 001010000000001 2 accepted\ngive 001010000000001 1 sync 000000000002\nclosed 001010000000001 0 2 2 0 2 0\n".as_slice(),
+        ),
+        (
+            b"subscriber 001010000000001 465b5ce8b199b49faa5f0a2ee238a6bc opc cd63cb71954a9f4e48a5994e37a02baf 8000 0 0 5 3\nround\njob\ndraw 001010000000001 4\ngive 001010000000001 4\ngive 001010000000001 1\ngive 001010000000001 2\n".as_slice(),
+            Status::Done,
+            b"round 1\njob 1\nvector 001010000000001 1\nvector 001010000000001 2\nvector 001010000000001 3\nvector 001010000000001 4\ngive 001010000000001 4 accepted\ngive 001010000000001 1 sync 000000000084\ngive 001010000000001 2 accepted\nclosed 001010000000001 0 4 4 0 4 0\n".as_slice(),
+        ),
+        (
+            b"subscriber 001010000000001 465b5ce8b199b49faa5f0a2ee238a6bc opc cd63cb71954a9f4e48a5994e37a02baf 8000 4398046511102 0 6 -\nround\njob\ndraw 001010000000001 3\nrestart\nround\njob\ndraw 001010000000001 1\n".as_slice(),
+            Status::Done,
+            b"round 1\njob 1\nvector 001010000000001 4398046511103\nexhausted 001010000000001 4398046511103\nclosed 001010000000001 4398046511102 4398046511104 2 0 1 0\nrestart\nround 2\njob 1\nexhausted 001010000000001 4398046511103\nclosed 001010000000001 4398046511103 4398046511104 1 0 0 0\n".as_slice(),
+        ),
+        (
+            b"subscriber 001010000000001 465b5ce8b199b49faa5f0a2ee238a6bc opc cd63cb71954a9f4e48a5994e37a02baf 8000 4398046511104 0 6 -\nround\njob\ndraw 001010000000001 3\n".as_slice(),
+            Status::ScenarioRefused,
+            b"refused scenario 1 seq\n".as_slice(),
+        ),
+        (
+            b"subscriber 001010000000001 465b5ce8b199b49faa5f0a2ee238a6bc opc cd63cb71954a9f4e48a5994e37a02baf 8000 4398046511102 0 7 -\nround\njob\ndraw 001010000000001 3\n".as_slice(),
+            Status::ScenarioRefused,
+            b"refused scenario 1 bits\n".as_slice(),
+        ),
+        (
+            b"subscriber 001010000000001 465b5ce8b199b49faa5f0a2ee238a6bc opc cd63cb71954a9f4e48a5994e37a02baf 8000 4398046511102 0 6 0\nround\njob\ndraw 001010000000001 3\n".as_slice(),
+            Status::ScenarioRefused,
+            b"refused scenario 1 age\n".as_slice(),
+        ),
+        (
+            b"subscriber 001010000000001 465b5ce8b199b49faa5f0a2ee238a6bc opc cd63cb71954a9f4e48a5994e37a02baf 8000 0 0 6 -\nround\njob\nsync 001010000000001 4398046511104 - 0\n".as_slice(),
+            Status::ScenarioRefused,
+            b"refused scenario 4 limit\n".as_slice(),
+        ),
+    ];
+    for (scenario, status, output) in cases {
+        let disk = empty_disk(&rt, alloc);
+        check_text(&rt, alloc, scenario, disk, status, output);
+    }
+}
+
 // By hand, from the tables of docs/sessions.md. The SQN of a number N is 32 N + N % 32: 16020, in hexadecimal 3e94, for
 // 500. A session draws from the numbers of its subscriber, and so does the line after it.
 #[test]
@@ -353,11 +402,15 @@ fn journal_that_cannot_be_opened_ends_the_run(rt: HostRuntime) {
 #[test]
 fn wrong_subscribers_are_told_before_the_scenario(rt: HostRuntime) {
     let alloc = rt.alloc();
-    let cases: [(&[u8], &[u8]); 2] = [
+    let cases: [(&[u8], &[u8]); 3] = [
         (b"".as_slice(), b"refused subscribers 0 header\n".as_slice()),
         (
             b"imsi,k,kind,op,amf,seq,usim\n001010000000001,465b5ce8b199b49faa5f0a2ee238a6bc,opc,cd63cb71954a9f4e48a5994e37a02baf,8000,0,0\n001010000000003,465b5ce8b199b49faa5f0a2ee238a6b,opc,cd63cb71954a9f4e48a5994e37a02baf,8000,0,0\n".as_slice(),
             b"refused subscribers 2 key\n".as_slice(),
+        ),
+        (
+            b"imsi,k,kind,op,amf,seq,usim,bits,age\n001010000000001,465b5ce8b199b49faa5f0a2ee238a6bc,opc,cd63cb71954a9f4e48a5994e37a02baf,8000,0,0,6,-\n001010000000003,465b5ce8b199b49faa5f0a2ee238a6bc,opc,cd63cb71954a9f4e48a5994e37a02baf,8000,0,0,5,-1\n".as_slice(),
+            b"refused subscribers 2 age\n".as_slice(),
         ),
     ];
     for (subscribers, output) in cases {

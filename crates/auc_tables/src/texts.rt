@@ -2,7 +2,8 @@
 
 use auc_edge::Items;
 use auc_lines::{
-    FivegLine, Identity, JobPart, Line, SessionLine, SimLine, SimSchedule, SiteEvent, SitesLine,
+    FivegLine, Identity, JobPart, Line, Report, SessionLine, SimLine, SimSchedule, SiteEvent,
+    SitesLine,
 };
 use auc_script::{Part, Script, ScriptRefusal};
 use auc_subs::{AddRefusal, SubsRefusal, Subscribers};
@@ -73,12 +74,10 @@ fn push_lines(alloc: Global, text: &mut String, job: &JobPart) -> Result<(), All
 fn text_of_line(alloc: Global, line: &Line) -> Result<String, AllocError> {
     match line {
         Line::Draw { sub, count } => format!(in alloc; "Draw {{ sub: {sub}, count: {count} }}"),
-        Line::Sync {
-            sub,
-            seq,
-            bit,
-            count,
-        } => format!(in alloc; "Sync {{ sub: {sub}, seq: {seq}, bit: {bit:?}, count: {count} }}"),
+        Line::Sync { sub, report, count } => {
+            let report = text_of_report(alloc, report)?;
+            format!(in alloc; "Sync {{ sub: {sub}, {report}, count: {count} }}")
+        }
         Line::Give { sub, n } => format!(in alloc; "Give {{ sub: {sub}, n: {n} }}"),
         Line::Eps { sub, snid } => {
             let snid = hex::encode(alloc, snid)?;
@@ -106,6 +105,18 @@ fn text_of_line(alloc: Global, line: &Line) -> Result<String, AllocError> {
         } => format!(in alloc; "Tamper {{ packet: {packet}, place: {place}, byte: {byte} }}"),
         Line::Cut { packet, length } => {
             format!(in alloc; "Cut {{ packet: {packet}, length: {length} }}")
+        }
+    }
+}
+
+/// The SEQ and the bit of a report, or its AUTS and its RAND as hexadecimal digits.
+fn text_of_report(alloc: Global, report: &Report) -> Result<String, AllocError> {
+    match report {
+        Report::Seq { seq, bit } => format!(in alloc; "seq: {seq}, bit: {bit:?}"),
+        Report::Auts { auts, rand } => {
+            let auts = hex::encode(alloc, auts)?;
+            let rand = hex::encode(alloc, rand)?;
+            format!(in alloc; "auts: {auts}, rand: {rand}")
         }
     }
 }
@@ -245,8 +256,8 @@ fn text_of_row(alloc: Global, subs: &Subscribers, place: u32) -> Result<String, 
         hex::encode(alloc, row.secret.opc)?,
     );
     let amf = hex::encode(alloc, row.amf)?;
-    let (imsi, seq, usim) = (row.imsi, row.seq, row.usim);
+    let (imsi, seq, usim, bits, age) = (row.imsi, row.seq, row.usim, row.bits, row.age);
     format!(in alloc;
-        "{imsi:?} k {k} opc {opc} amf {amf} seq {seq} usim {usim} at {place} found {found:?}"
+        "{imsi:?} k {k} opc {opc} amf {amf} seq {seq} usim {usim} bits {bits} age {age:?} at {place} found {found:?}"
     )
 }

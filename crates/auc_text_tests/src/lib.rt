@@ -1,9 +1,11 @@
-//! Tests of the text of a transcript, of the words of a load, and of the words and lines of `vector` and `auts`: one file for
-//! each crate.
+//! Tests of the text of a transcript, of the words of a load, of the words and lines of `vector` and `auts`, and of blocks heard
+//! over a wire: one file for each crate.
 //!
 //! They stand in a crate of their own, since the tests of a crate are proved together with it.
 #![tactic(auto)]
 
+#[cfg(test)]
+mod block;
 #[cfg(test)]
 mod events;
 #[cfg(test)]

@@ -1,7 +1,8 @@
 //! The text of a transcript. Further lines are seen in the stored runs of the program and in the tests of `auc_runs`.
 
 use crate::printing::{
-    FurtherCase, further_text, names_below, one, print_alone, rands, subscribers,
+    FurtherCase, further_text, names_below, one, print_alone, print_job, rands, subscribers,
+    subscribers_of,
 };
 use auc_edge::{Items, NoMemory, Octets, Stop};
 use auc_hmac::KeySet;
@@ -10,8 +11,8 @@ use auc_print::{print_restart, print_round};
 use auc_subs::Subscribers;
 use auc_vector::{CounterNote, Notes, NumberNote, Outcome, ResyncNote, Step, UsimNote, Vector};
 use auc_world::{
-    BoxedEvent, Closing, End, Event, EventRecord, FivegOutcome, Further, JobRecord, LineRecord,
-    Note, NoteStep, Premise, RoundRecord, SessionVerdict, Setting, SyncVerdict,
+    BoxedEvent, Closing, End, Event, EventRecord, FivegOutcome, Further, GiveVerdict, JobRecord,
+    LineRecord, Note, NoteStep, Premise, RoundRecord, SessionVerdict, Setting, SyncVerdict,
 };
 use std::alloc::Global;
 use std::test::Fail;
@@ -126,6 +127,167 @@ fn each_value_is_printed_in_its_place(rt: HostRuntime) -> Result<(), Fail> {
     let printed = print_parts(rt.alloc(), &round, &set, &mut text);
     assert_eq!(rt; printed, Ok(true));
     assert_eq!(rt; text.as_slice(), TEXT);
+    Ok(())
+}
+
+// A subscriber's line of nine fields, and the full print of its first vector.
+type IndexCase = (&'static [u8], &'static [u8]);
+
+// AUTN by another implementation, of SQN 000000000001 with an index of 0 bits and of SQN 000000000041 with one of 6 bits. The other
+// parts are those of a subscriber of seven fields.
+fn by_index_length(place: usize) -> IndexCase {
+    match place {
+        0 => (
+            b"001010000000001 465b5ce8b199b49faa5f0a2ee238a6bc opc cd63cb71954a9f4e48a5994e37a02baf 8000 0 0 0 -",
+            b"round 8
+job 1
+vector 001010000000001 1
+bytes 8a35d86fbcde6accb2cc7d4cd8ea2492 5c932ea779fe8000270d27fc7e9dc8dd 59fce589e7b274e7 \
+164ec6b56c3fa5a33c5130b35fbfdc49 1ef5c23ff651ae6846822d2ba9304231
+",
+        ),
+        _ => (
+            b"001010000000001 465b5ce8b199b49faa5f0a2ee238a6bc opc cd63cb71954a9f4e48a5994e37a02baf 8000 0 0 6 3",
+            b"round 8
+job 1
+vector 001010000000001 1
+bytes 8a35d86fbcde6accb2cc7d4cd8ea2492 5c932ea779be8000a813424684fb5679 59fce589e7b274e7 \
+164ec6b56c3fa5a33c5130b35fbfdc49 1ef5c23ff651ae6846822d2ba9304231
+",
+        ),
+    }
+}
+
+#[test]
+fn full_prints_have_autn_by_the_index_length(rt: HostRuntime) -> Result<(), Fail> {
+    let rands = rands();
+    let names = Names::new([0; 32]);
+    for place in 0..2 {
+        let (line, wanted) = by_index_length(place);
+        let subs = subscribers_of(rt.alloc(), &[line])?;
+        let set = Setting {
+            subs: &subs,
+            rands: &rands,
+            names: &names,
+            realm: b"",
+        };
+        let mut text = Octets::new(rt.alloc());
+        let vector = LineRecord::Vector { sub: 0, n: 1 };
+        let printed = print_alone(rt.alloc(), vector, &set, true, &mut text);
+        assert_eq!(rt; printed, Ok(true), "at {place}");
+        assert_eq!(rt; text.as_slice(), wanted, "at {place}");
+    }
+    Ok(())
+}
+
+// A line of AUTS of this RAND and SQN_MS by another implementation (TS 35.206). RAND is that of number 1 of the first subscriber, and
+// both subscribers have the K and OPc of TS 35.208, test set 1.
+const AUTS: &[u8] = b"auts b5c9d934552d073052b7aadb8ded 8a35d86fbcde6accb2cc7d4cd8ea2492\n";
+
+const SQN_MS: [u8; 6] = [0, 0, 0, 0, 0x3e, 0x94];
+
+// The failure of a vector that is presented alone, and of a packet that a session's peer receives from the network.
+fn failures(alloc: Global) -> Result<JobRecord, NoMemory> {
+    let mut job = one(
+        alloc,
+        LineRecord::Give {
+            sub: 0,
+            n: 1,
+            verdict: GiveVerdict::Sync(SQN_MS),
+        },
+    )?;
+    let mut challenge = Octets::new(alloc);
+    // A skippable attribute stands before AT_RAND.
+    challenge.append(&[1, 2, 0, 32, 23, 1, 0, 0, 200, 1, 1, 5, 1, 5, 0, 0])?;
+    challenge.append(&[
+        0x8a, 0x35, 0xd8, 0x6f, 0xbc, 0xde, 0x6a, 0xcc, 0xb2, 0xcc, 0x7d, 0x4c, 0xd8, 0xea, 0x24,
+        0x92,
+    ])?;
+    let cut = Event::Cut {
+        packet: 3,
+        length: 32,
+    };
+    job.push(happened(alloc, cut, (None, NoteStep::Made(challenge), 4))?)?;
+    let delivery = Event::Deliver {
+        session: 1,
+        end: End::Peer,
+        packet: 4,
+    };
+    let mut answer = Octets::new(alloc);
+    answer.append(&[2, 2, 0, 4])?;
+    let sent = NoteStep::Peer(Step::Sent(answer));
+    job.push(happened(alloc, delivery, (Some(UsimNote::Sync(SQN_MS)), sent, 5))?)?;
+    Ok(job)
+}
+
+// The record of an event at the second subscriber's device: what the USIM answered, and the step with the number of its packet.
+fn happened(
+    alloc: Global,
+    event: Event,
+    what: (Option<UsimNote>, NoteStep, u32),
+) -> Result<LineRecord, NoMemory> {
+    let (usim, step, packet) = what;
+    let notes = Notes {
+        resync: None,
+        number: None,
+        resumed: None,
+        usim,
+        counter: None,
+    };
+    let result = Ok(Note {
+        notes,
+        packet: Some(packet),
+        asked: None,
+        device: Some(1),
+        vector: None,
+        step,
+    });
+    Ok(LineRecord::Event(BoxedEvent::new(alloc, EventRecord { event, result })?))
+}
+
+// The text of these lines.
+fn failures_text(alloc: Global, full: bool) -> Result<Octets, NoMemory> {
+    let mut wanted = Octets::new(alloc);
+    let made = b"packet 4 0102002017010000c8010105010500008a35d86fbcde6accb2cc7d4cd8ea2492\n";
+    for (line, is_added) in [
+        (
+            &b"round 8\njob 1\ngive 001010000000001 1 sync 000000003e94\n"[..],
+            false,
+        ),
+        (AUTS, true),
+        (b"cut 3 32 made 4\n", false),
+        (made, true),
+        (b"deliver 1 peer 4 sync 000000003e94 sent 5\n", false),
+        (AUTS, true),
+        (b"packet 5 02020004\n", true),
+    ] {
+        if full || !is_added {
+            wanted.append(line)?;
+        }
+    }
+    Ok(wanted)
+}
+
+#[test]
+fn full_prints_have_the_auts_of_each_failure(rt: HostRuntime) -> Result<(), Fail> {
+    let subs = subscribers(rt.alloc())?;
+    let rands = rands();
+    let names = Names::new([0; 32]);
+    let set = Setting {
+        subs: &subs,
+        rands: &rands,
+        names: &names,
+        realm: b"",
+    };
+    for full in [false, true] {
+        let mut text = Octets::new(rt.alloc());
+        let printed = print_job(rt.alloc(), failures(rt.alloc())?, &set, full, &mut text);
+        assert_eq!(rt; printed, Ok(true));
+        assert_eq!(rt;
+            text.as_slice(),
+            failures_text(rt.alloc(), full)?.as_slice()
+        );
+    }
     Ok(())
 }
 

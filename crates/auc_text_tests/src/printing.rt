@@ -7,10 +7,10 @@ ghost use Rattle.auc_world.specs.Vectors.{IsReleasableLine};
 use auc_edge::{Items, NoMemory, Octets};
 use auc_print::print_round;
 use auc_random::Rands;
-use auc_sqn::MAX_SEQ;
+use auc_sqn::top;
 use auc_subs::Subscribers;
 use auc_world::{
-    BoxedFurther, Further, LineRecord, Premise, RoundRecord, Setting, printed_vectors,
+    BoxedFurther, Further, JobRecord, LineRecord, Premise, RoundRecord, Setting, printed_vectors,
 };
 use std::alloc::Global;
 
@@ -50,7 +50,9 @@ fn is_releasable(line: &LineRecord, set: &Setting) -> bool
     ensures { IsTrue result → IsReleasableLine set.now line.now }
 {
     match line {
-        LineRecord::Vector { sub, n } => *sub < set.subs.len() && 1 <= *n && *n <= MAX_SEQ,
+        LineRecord::Vector { sub, n } => {
+            *sub < set.subs.len() && 1 <= *n && *n <= top(set.subs.row(*sub).bits)
+        }
         LineRecord::Event(event) => event.record().number().is_none(),
         LineRecord::Withheld { .. }
         | LineRecord::Exhausted { .. }
@@ -75,6 +77,17 @@ pub(crate) fn print_alone(
     out: &mut Octets,
 ) -> Result<bool, NoMemory> {
     let job = one(alloc, record)?;
+    print_job(alloc, job, set, full, out)
+}
+
+// The same of a round of one job.
+pub(crate) fn print_job(
+    alloc: Global,
+    job: JobRecord,
+    set: &Setting,
+    full: bool,
+    out: &mut Octets,
+) -> Result<bool, NoMemory> {
     let round = RoundRecord {
         number: 8,
         closings: Items::new(alloc),
@@ -128,10 +141,14 @@ const FIRST: &[u8] =
 const SECOND: &[u8] =
     b"000007 465b5ce8b199b49faa5f0a2ee238a6bc opc cd63cb71954a9f4e48a5994e37a02baf 8000 0 0";
 
-// Both lines are right, so an answer other than Ok is want of memory.
 pub(crate) fn subscribers(alloc: Global) -> Result<Subscribers, NoMemory> {
+    subscribers_of(alloc, &[FIRST, SECOND])
+}
+
+// All lines are right, so an answer other than Ok is want of memory.
+pub(crate) fn subscribers_of(alloc: Global, lines: &[&[u8]]) -> Result<Subscribers, NoMemory> {
     let mut subs = Subscribers::new(alloc);
-    for line in [FIRST, SECOND] {
+    for line in lines {
         subs.add(line).map_err(|_| NoMemory)?;
     }
     Ok(subs)

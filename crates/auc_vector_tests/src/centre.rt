@@ -1,9 +1,9 @@
 //! A desk, call by call, through a caller of any centre.
 
-ghost use Rattle.std.specs.Prelude.{◌≡◌, ◌<◌, ◌≤◌, length};
+ghost use Rattle.std.specs.Prelude.{◌≡◌, ◌<◌, ◌≤◌, length, slice_index};
 ghost use Rattle.auc_sqn.specs.Number.{max_seq};
-ghost use Rattle.auc_draw.specs.Deeds.{kept_of};
-ghost use Rattle.auc_centre.specs.Adds.{Adds};
+ghost use Rattle.auc_draw.specs.Book.{IsOf};
+ghost use Rattle.auc_centre.specs.Adds.{Adds, kept_by};
 ghost use Rattle.auc_vector_tests.specs.InnerGains.{Gains};
 ghost use Rattle.auc_vector_tests.specs.InnerRound.{Begins};
 ghost use Rattle.auc_centre.specs.Kept.{subs_of};
@@ -28,7 +28,7 @@ type Answers = (Result<u64, CentreRefusal>, Result<Resynced, CentreRefusal>);
 /// Draws a number of a subscriber, and then resynchronises with this SEQ.
 fn draw_and_resync<C: Centre, R: Wait>(rt: &R, centre: &mut C, sub: u32, seq_ms: u64) -> Answers
     requires sub { sub < C.subs centre.old }
-    requires number { seq_ms ≤ max_seq }
+    requires number { seq_ms ≤ C.top centre.old sub }
     ensures name { C.name centre.new ≡ C.name centre.old }
     ensures gains { Gains (λ i es ws. C.goes centre.old i es ws centre.new) sub
         (C.kept centre.old sub) result.0 result.1 }
@@ -47,13 +47,14 @@ fn draw_and_resync_at_desk<L: Naming<D>, D: Disk + Drop, R: Wait>(
     sub: u32,
     seq_ms: u64,
 ) -> Answers
-    requires named { (book.now.id ≡ L.table) × (pass.old.id ≡ L.table) }
+    requires book { (book.now.id ≡ L.table) × (book.now.tops ≡ L.tops) }
+    requires pass { IsOf L.table L.tops pass.old }
     requires sized { subs_of L.opening ≡ length book.now.openings }
     requires sub { sub < length book.now.openings }
-    requires number { seq_ms ≤ max_seq }
-    ensures named { pass.new.id ≡ L.table }
+    requires number { seq_ms ≤ slice_index book.now.tops sub }
+    ensures pass { IsOf L.table L.tops pass.new }
     ensures gains { Gains (λ i es ws. Adds pass.old i es ws pass.new) sub
-        (kept_of pass.old.deeds sub) result.0 result.1 }
+        (kept_by pass.old sub) result.0 result.1 }
 {
     let mut desk = Desk { pass, book, keeper };
     draw_and_resync(rt, &mut desk, sub, seq_ms)
@@ -70,10 +71,11 @@ fn draw_three_times<L: Naming<D>, D: Disk + Drop, R: Wait>(
     keeper: KeeperPass,
     seq_ms: u64,
 ) -> ([Answers; 3], Journal<D>, KeeperPass)
-    requires begins { Begins L.table L.passes L.opening book.now journal keeper }
-    requires named { (first.old.id ≡ L.table) × (second.old.id ≡ L.table) }
+    requires begins { Begins L.table L.tops L.passes L.opening book.now journal keeper }
+    requires first { IsOf L.table L.tops first.old }
+    requires second { IsOf L.table L.tops second.old }
     requires sub { 0 < length book.now.openings }
-    requires number { seq_ms ≤ max_seq }
+    requires number { seq_ms ≤ slice_index book.now.tops 0 }
     ensures subscribers { result.1.imsis ≡ journal.imsis }
     ensures own { result.2.id ≡ L.table }
 {
@@ -87,23 +89,24 @@ fn draw_three_times<L: Naming<D>, D: Disk + Drop, R: Wait>(
     (answers, journal, keeper)
 }
 
-/// The answers in a round of one subscriber whose number stands at this opening, with a journal on this disk; and the
-/// subscriber's limit after the round.
+/// The answers in a round of one subscriber whose number stands at this opening and whose greatest number is this top, with a
+/// journal on this disk; and the subscriber's limit after the round.
 fn play<R: Abort + Wait>(
     rt: &R,
     alloc: Global,
     disk: MemDisk,
     opening: u64,
+    top: u64,
     seq_ms: u64,
 ) -> Result<([Answers; 3], u64), NoMemory>
-    requires { (opening ≤ max_seq) × (seq_ms ≤ max_seq) }
+    requires { (opening ≤ top) × (top ≤ max_seq) × (seq_ms ≤ top) }
 {
     let imsi = Imsi::read(b"001010000000001").ok_or(NoMemory)?;
     let Ok(journal) = Journal::open(alloc, disk, &[imsi]) else {
         return Err(NoMemory);
     };
     let limits = [journal.reserved(0)];
-    let (book, mut passes, keeper) = Book::open(alloc, &[opening], &limits, 2)?;
+    let (book, mut passes, keeper) = Book::open(alloc, &[opening], &[top], &limits, 2)?;
     let mut second = passes.pop().expect(rt, "a pass");
     let mut first = passes.pop().expect(rt, "a pass");
     let (answers, journal, _keeper) = draw_three_times::<Brand, MemDisk, R>(
@@ -125,8 +128,8 @@ fn disk_without_write(alloc: Global, ordinal: u64) -> Result<MemDisk, NoMemory> 
     MemDisk::new(alloc, Octets::new(alloc), fail)
 }
 
-// By hand, with a range of 2^28 = 268435456 and 64 numbers a reservation: the opening, the SEQ, the three answers, the
-// limit.
+// By hand, with a range of 2^28 = 268435456 and 64 numbers a reservation: the opening, the top, the SEQ, the three answers,
+// the limit.
 #[test]
 fn desks_draw_and_resynchronise(rt: HostRuntime) -> Result<(), Fail> {
     let alloc = rt.alloc();
@@ -134,6 +137,7 @@ fn desks_draw_and_resynchronise(rt: HostRuntime) -> Result<(), Fail> {
     let cases = [
         (
             10,
+            MAX_SEQ,
             20,
             [
                 (Ok(11), Ok(Resynced::Moved(11, 20))),
@@ -144,6 +148,7 @@ fn desks_draw_and_resynchronise(rt: HostRuntime) -> Result<(), Fail> {
         ),
         (
             268435456,
+            MAX_SEQ,
             2,
             [
                 (Ok(268435457), Ok(Resynced::InRange(268435457, 2))),
@@ -156,6 +161,7 @@ fn desks_draw_and_resynchronise(rt: HostRuntime) -> Result<(), Fail> {
         (
             MAX_SEQ,
             MAX_SEQ,
+            MAX_SEQ,
             [
                 (spent(MAX_SEQ), Ok(Resynced::InRange(MAX_SEQ, MAX_SEQ))),
                 (
@@ -166,11 +172,23 @@ fn desks_draw_and_resynchronise(rt: HostRuntime) -> Result<(), Fail> {
             ],
             0,
         ),
+        // Two numbers are left of this subscriber's. Its limit goes on above its top.
+        (
+            10,
+            12,
+            11,
+            [
+                (Ok(11), Ok(Resynced::InRange(11, 11))),
+                (Ok(12), Ok(Resynced::InRange(12, 11))),
+                (spent(12), Ok(Resynced::InRange(12, 11))),
+            ],
+            74,
+        ),
     ];
-    for (opening, seq, answers, limit) in cases {
+    for (opening, top, seq, answers, limit) in cases {
         let disk = disk_without_write(alloc, 100)?;
         assert!(rt;
-            play(&rt, alloc, disk, opening, seq)? == (answers, limit),
+            play(&rt, alloc, disk, opening, top, seq)? == (answers, limit),
             "from {opening}"
         );
     }
@@ -188,6 +206,6 @@ fn draws_are_withheld_after_the_keeper_stopped(rt: HostRuntime) -> Result<(), Fa
         (withheld(13), Ok(Resynced::InRange(13, 5))),
     ];
     let disk = disk_without_write(alloc, 2)?;
-    assert!(rt; play(&rt, alloc, disk, 10, 5)? == (answers, 0));
+    assert!(rt; play(&rt, alloc, disk, 10, MAX_SEQ, 5)? == (answers, 0));
     Ok(())
 }

@@ -25,9 +25,9 @@ enum Told {
 /// A centre of one subscriber, whose number stands here.
 fn centre_at<R: Abort>(rt: &R, alloc: Global, number: u64) -> CoreCentre
     requires { number ≤ max_seq }
-    ensures { length result ≡ 1 }
+    ensures { length result.words ≡ 1 }
 {
-    CoreCentre::new(Core::new(alloc, &[number]).expect(rt, "memory"))
+    CoreCentre::new(Core::new(alloc, &[number], &[MAX_SEQ]).expect(rt, "memory"))
 }
 
 /// A new request of a site.
@@ -43,8 +43,8 @@ fn answer<R: Abort + Wait>(
     centre: &mut CoreCentre,
     r: Request,
 ) -> (Told, Grant)
-    requires { 0 < length centre.old }
-    ensures { length centre.new ≡ length centre.old }
+    requires { 0 < length centre.old.words }
+    ensures { length centre.new.words ≡ length centre.old.words }
 {
     assert!(rt; master.has_site(r.site));
     match master.on_request(rt, centre, 0, 4, r) {

@@ -1,10 +1,10 @@
 //! The USIM by vectors of the standard.
 
 ghost use Rattle.std.specs.Prelude.{◌≤◌};
-ghost use Rattle.auc_sqn.specs.Number.{max_seq};
+ghost use Rattle.auc_sqn.specs.Number.{top_of};
 
 use auc_milenage::Secret;
-use auc_sqn::sqn_of;
+use auc_sqn::{sqn_of, top};
 use auc_usim::{Answer, Usim};
 
 // TS 35.208, test set 1: K, OPc, RAND and SQN; AUTN of SQN masked by f5, AMF and f1.
@@ -17,15 +17,20 @@ const AUTN: u128 = 0x55f328b43577b9b94a9ffac354dfafb3;
 /// SEQ of the test set's SQN.
 const SEQ: u64 = 8782631830960;
 
-/// The USIM of the test set, for which the numbers up to `opening` count as accepted.
-fn usim(opening: u64) -> Usim
-    requires { opening ≤ max_seq }
-{
-    let s = Secret {
+/// K and OPc of the test set.
+fn secret() -> Secret {
+    Secret {
         k: 0x465b5ce8b199b49faa5f0a2ee238a6bc_u128.to_be_bytes(),
         opc: 0xcd63cb71954a9f4e48a5994e37a02baf_u128.to_be_bytes(),
-    };
-    Usim::new(s, opening)
+    }
+}
+
+/// The USIM of the test set with an index length of 5 bits and no age limit, for which the numbers up to `opening` count as
+/// accepted.
+fn usim(opening: u64) -> Usim
+    requires { opening ≤ top_of 5 }
+{
+    Usim::new(secret(), opening, 5, None)
 }
 
 // RES, CK, IK and AK as TS 35.208 prints them; the openings by hand: SEQ is at most 2^28 above each, and the last
@@ -69,10 +74,14 @@ fn stale_and_far_numbers_get_the_auts_of_sqn_ms(rt: HostRuntime) {
     let cases: [(u64, [u8; 6], u128); 2] = [
         (
             SEQ - 268435457,
-            sqn_of(SEQ - 268435457),
+            sqn_of(SEQ - 268435457, 5),
             0xba873f3c11d479dba87465736ce1,
         ),
-        (SEQ + 23, sqn_of(SEQ + 23), 0xba853f3c1cdc1ab8c59f4595199f),
+        (
+            SEQ + 23,
+            sqn_of(SEQ + 23, 5),
+            0xba853f3c1cdc1ab8c59f4595199f,
+        ),
     ];
     for (opening, sqn, auts) in cases {
         let mut usim = usim(opening);
@@ -125,6 +134,54 @@ fn accepted_number_is_not_accepted_again(rt: HostRuntime) {
     assert!(rt; matches!(first, Answer::Accepted { .. }));
     let second = usim.challenge(RAND.to_be_bytes(), AUTN.to_be_bytes());
     assert!(rt; second == failure(0xba853f3c123ccf44e93596e355c6, SQN));
+}
+
+// By hand: with an age limit of 22 the SQN is fresh while the greatest accepted SEQ is at most 21 above it. The AUTS by the
+// equations of TS 35.206 over the AES of Python's `cryptography` 48.
+#[test]
+fn aged_number_gets_the_auts_of_sqn_ms(rt: HostRuntime) {
+    let refused = failure(0xba853f3c1cfde01ac30c254f3722, sqn_of(SEQ + 22, 5));
+    for (opening, aged) in [(SEQ + 21, false), (SEQ + 22, true)] {
+        let mut usim = Usim::new(secret(), opening, 5, Some(22));
+        let answer = usim.challenge(RAND.to_be_bytes(), AUTN.to_be_bytes());
+        assert_eq!(rt;
+            matches!(answer, Answer::Accepted { .. }),
+            !aged,
+            "at {opening}"
+        );
+        assert_eq!(rt; answer == refused, aged, "at {opening}");
+    }
+}
+
+// By hand: with an index length of 6 the test set's SQN has SEQ 4391315915480 and IND 7, and 4391315915527 is the next
+// number whose remainder by 64 is 7. The AUTS as above.
+#[test]
+fn sqn_is_taken_apart_by_the_index_length(rt: HostRuntime) {
+    let next = 4391315915527;
+    let refused = failure(0xba853f3c65fcd9393046115e9009, sqn_of(next, 6));
+    for (opening, old) in [(4391315915479, false), (next - 1, false), (next, true)] {
+        let mut usim = Usim::new(secret(), opening, 6, None);
+        let answer = usim.challenge(RAND.to_be_bytes(), AUTN.to_be_bytes());
+        assert_eq!(rt;
+            matches!(answer, Answer::Accepted { .. }),
+            !old,
+            "at {opening}"
+        );
+        assert_eq!(rt; answer == refused, old, "at {opening}");
+    }
+}
+
+// By hand: with an index length of 0 the SQN 080000000005 has SEQ 2^43 + 5, which is above the greatest number of the home
+// network. AUTN and AUTS as above.
+#[test]
+fn seq_above_the_greatest_number_is_accepted(rt: HostRuntime) {
+    let autn: u128 = 0xa2689c648375b9b983185638ec97105f;
+    let sqn = [8, 0, 0, 0, 0, 5];
+    let mut usim = Usim::new(secret(), top(0), 0, None);
+    let first = usim.challenge(RAND.to_be_bytes(), autn.to_be_bytes());
+    assert!(rt; matches!(first, Answer::Accepted { sqn: found, .. } if found == sqn));
+    let second = usim.challenge(RAND.to_be_bytes(), autn.to_be_bytes());
+    assert!(rt; second == failure(0x4d1e8beca43e7c639520555e7f27, sqn));
 }
 
 /// A synchronisation failure, with AUTS as a number of 112 bits.

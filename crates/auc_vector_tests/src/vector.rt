@@ -1,12 +1,13 @@
 //! Values from other implementations, and a centre by hand.
 
 ghost use Rattle.std.specs.Prelude.{◌≡◌, ◌≤◌, ◌<◌};
+ghost use Rattle.auc_sqn.specs.Number.{max_seq};
 
 use auc_core::Core;
 use auc_hmac::{KeySet, Method};
 use auc_milenage::{Secret, make_auts};
 use auc_random::Rands;
-use auc_sqn::{MAX_SEQ, sqn_of};
+use auc_sqn::{MAX_SEQ, sqn_of, top};
 use auc_vector::{
     Auts, Centre, CentreRefusal, CoreCentre, NumberNote, ResyncNote, Resynced, Vector, Vectors,
     ask, keys_by, keys_of, read_auts, report, vector, vectors,
@@ -72,8 +73,8 @@ fn each_part_of_a_vector_is_that_of_another_implementation(rt: HostRuntime) {
     let rands = rands();
     for (sub, n, amf, autn, xres, ck, ik) in cases {
         let rand = rands.rand_of(sub, n);
-        let made = vector(&s, Method::Aka, amf.to_be_bytes(), &[], n, rand);
-        let mut vectors = Vectors::new(&s, amf.to_be_bytes(), rands.stream(sub));
+        let made = vector(&s, Method::Aka, amf.to_be_bytes(), &[], 5, n, rand);
+        let mut vectors = Vectors::new(&s, amf.to_be_bytes(), 5, rands.stream(sub));
         assert!(rt;
             vectors.vector_of(n) == made,
             "the subscriber's vector at {n}"
@@ -111,6 +112,7 @@ fn together(method: Method, count: usize) -> [Vector; 33]
         method,
         [0xb9, 0xb9],
         b"WLAN",
+        5,
         490,
         &rands[..count],
         &mut made[..count],
@@ -174,13 +176,37 @@ fn each_vector_made_together_is_that_of_its_number(rt: HostRuntime) {
             let mut expected = [BLANK; 33];
             for i in 0..count {
                 let n = 490 + i as u64;
-                expected[i] = vector(&secret(), method, [0xb9, 0xb9], b"WLAN", n, rand_at(i));
+                let rand = rand_at(i);
+                expected[i] = vector(&secret(), method, [0xb9, 0xb9], b"WLAN", 5, n, rand);
             }
             assert!(rt;
                 together(method, count) == expected,
                 "{count} by {method:?}"
             );
         }
+    }
+}
+
+// The equations of TS 35.206 over the AES of Python's `cryptography` 48, under K, OPc, RAND and AMF of TS 35.208, test set
+// 1, for the SQNs 000000000041, 000000000209, 000000001041, 07ffffffffff and ffffffffffff: how many bits an index has, the
+// number, and AUTN.
+#[test]
+fn autn_has_the_sqn_of_its_index_length(rt: HostRuntime) {
+    let cases: [(u8, u64, u128); 5] = [
+        (0, 65, 0xaa689c648331b9b99ecf0b3768153ba6),
+        (3, 65, 0xaa689c648179b9b9f7320b9bcacbd2e2),
+        (6, 65, 0xaa689c649331b9b986f19e68316d6e3c),
+        (0, MAX_SEQ, 0xad97639b7c8fb9b91ec6729b984c6903),
+        (6, 4398046511103, 0x5597639b7c8fb9b9c18606e57f0a73f3),
+    ];
+    for (bits, n, autn) in cases {
+        assert!(rt; bits <= 6 && 1 <= n && n <= top(bits));
+        let (s, amf, rand) = (secret(), [0xb9, 0xb9], rand_at(0));
+        let alone = vector(&s, Method::Aka, amf, &[], bits, n, rand);
+        assert_eq!(rt; alone.autn, autn.to_be_bytes(), "at {n} of {bits} bits");
+        let mut made = [BLANK];
+        vectors(&s, Method::Aka, amf, &[], bits, n, &[rand], &mut made);
+        assert_eq!(rt; made, [alone], "at {n} of {bits} bits");
     }
 }
 
@@ -207,8 +233,16 @@ fn only_the_keys_of_a_vector_depend_on_the_method(rt: HostRuntime) {
     ];
     for (sub, n, amf, name, ck, ik) in cases {
         let rand = rands().rand_of(sub, n);
-        let own = vector(&secret(), Method::Aka, amf.to_be_bytes(), name, n, rand);
-        let made = vector(&secret(), Method::Prime, amf.to_be_bytes(), name, n, rand);
+        let own = vector(&secret(), Method::Aka, amf.to_be_bytes(), name, 5, n, rand);
+        let made = vector(
+            &secret(),
+            Method::Prime,
+            amf.to_be_bytes(),
+            name,
+            5,
+            n,
+            rand,
+        );
         let expected = Vector {
             ck: ck.to_be_bytes(),
             ik: ik.to_be_bytes(),
@@ -320,39 +354,80 @@ fn auts_of(number: u128) -> [u8; 14] {
 
 // The first and the third by the equations of TS 35.206 over the AES of Python's `cryptography` 48, the third under K,
 // OPc, RAND and SQN of TS 35.208, test set 1; the second from the test of libosmocore, tests/auth/milenage_test.c. SQN_MS is
-// 00000000001f, 000000000017 and ff9bb4d0b607: K, OPc, RAND, AUTS, SEQ.
+// 00000000001f, 000000000017 and ff9bb4d0b607, of which the SEQ is at 0 bits above the greatest number: K, OPc, RAND, AUTS,
+// how many bits an index has, and what is read.
 #[test]
-fn auts_of_another_implementation_gives_the_seq(rt: HostRuntime) {
-    let cases: [(u128, u128, u128, u128, u64); 3] = [
+fn auts_of_another_implementation_is_read(rt: HostRuntime) {
+    let cases: [(u128, u128, u128, u128, u8, Auts); 5] = [
         (
             0x000102030405060708090a0b0c0d0e0f,
             0x000102030405060708090a0b0c0d0e0f,
             0x00000000000000000000000000000000,
             0x8711a0ec9e1637df17f80b384ee4,
-            0,
+            5,
+            Auts::SeqMs(0),
         ),
         (
             0xeb215756028d60e3275e613320aec880,
             0xfb2a3d1b360f599abab99db8669f8308,
             0x39fa2f4e3d523d8619a73b4f65c3e14d,
             0x979498b1f72d3e28c59fa2e72f9c,
-            0,
+            5,
+            Auts::SeqMs(0),
         ),
         (
             0x465b5ce8b199b49faa5f0a2ee238a6bc,
             0xcd63cb71954a9f4e48a5994e37a02baf,
             0x23553cbe9637a89d218ae64dae47bf35,
             0xba853f3c123ccf44e93596e355c6,
-            8782631830960,
+            5,
+            Auts::SeqMs(8782631830960),
+        ),
+        (
+            0x465b5ce8b199b49faa5f0a2ee238a6bc,
+            0xcd63cb71954a9f4e48a5994e37a02baf,
+            0x23553cbe9637a89d218ae64dae47bf35,
+            0xba853f3c123ccf44e93596e355c6,
+            6,
+            Auts::SeqMs(4391315915480),
+        ),
+        (
+            0x465b5ce8b199b49faa5f0a2ee238a6bc,
+            0xcd63cb71954a9f4e48a5994e37a02baf,
+            0x23553cbe9637a89d218ae64dae47bf35,
+            0xba853f3c123ccf44e93596e355c6,
+            0,
+            Auts::WrongMac,
         ),
     ];
-    for (k, opc, rand, auts, seq) in cases {
+    for (k, opc, rand, auts, bits, read) in cases {
+        assert!(rt; bits <= 6);
         let s = Secret {
             k: k.to_be_bytes(),
             opc: opc.to_be_bytes(),
         };
-        let found = read_auts(&s, rand.to_be_bytes(), auts_of(auts));
-        assert!(rt; found == Auts::SeqMs(seq), "at {auts:x}");
+        let found = read_auts(&s, rand.to_be_bytes(), auts_of(auts), bits);
+        assert!(rt; found == read, "at {auts:x} of {bits} bits");
+    }
+}
+
+// By hand: the greatest number is 2^43 - 1 up to 5 bits, and 2^42 - 1 at 6. How many bits an index has, SQN_MS, and what
+// is read.
+#[test]
+fn auts_above_the_greatest_number_counts_as_wrong(rt: HostRuntime) {
+    let cases = [
+        (0, [0x07, 255, 255, 255, 255, 255], Auts::SeqMs(MAX_SEQ)),
+        (0, [0x08, 0, 0, 0, 0, 0], Auts::WrongMac),
+        (4, [0x7f, 255, 255, 255, 255, 255], Auts::SeqMs(MAX_SEQ)),
+        (4, [0x80, 0, 0, 0, 0, 0], Auts::WrongMac),
+        (5, [255; 6], Auts::SeqMs(MAX_SEQ)),
+        (6, [255; 6], Auts::SeqMs(4398046511103)),
+    ];
+    for (bits, sqn_ms, read) in cases {
+        assert!(rt; bits <= 6);
+        let auts = make_auts(&secret(), [7; 16], sqn_ms);
+        let found = read_auts(&secret(), [7; 16], auts, bits);
+        assert!(rt; found == read, "of {bits} bits");
     }
 }
 
@@ -364,17 +439,19 @@ fn secret() -> Secret {
     }
 }
 
-/// What a centre answers to an AUTS of one of its subscribers, or `None` if MAC-S is wrong.
+/// What a centre answers to an AUTS of one of its subscribers, which has 5 bits, or `None` if MAC-S is wrong.
 fn hear<C: Centre, R: Wait>(
     rt: &R,
     centre: &mut C,
     sub: u32,
     auts: [u8; 14],
 ) -> Option<Result<Resynced, CentreRefusal>>
-    requires { sub < C.subs centre.old }
-    ensures { C.subs centre.new ≡ C.subs centre.old }
+    requires sub { sub < C.subs centre.old }
+    requires top { C.top centre.old sub ≡ max_seq }
+    ensures subs { C.subs centre.new ≡ C.subs centre.old }
+    ensures top { C.top centre.new sub ≡ max_seq }
 {
-    match read_auts(&secret(), [7; 16], auts) {
+    match read_auts(&secret(), [7; 16], auts, 5) {
         Auts::SeqMs(seq_ms) => Some(centre.resync(rt, sub, seq_ms)),
         Auts::WrongMac => None,
     }
@@ -383,7 +460,7 @@ fn hear<C: Centre, R: Wait>(
 // By hand, with a range of 2^28 below the number.
 #[test]
 fn a_replayed_auts_moves_the_number_once(rt: HostRuntime) -> Result<(), Fail> {
-    let mut centre = CoreCentre::new(Core::new(rt.alloc(), &[10, 10])?);
+    let mut centre = CoreCentre::new(Core::new(rt.alloc(), &[10, 10], &[MAX_SEQ, MAX_SEQ])?);
     let in_range = |seen, seq| Some(Ok(Resynced::InRange(seen, seq)));
     let moved = |from, to| Some(Ok(Resynced::Moved(from, to)));
     let cases = [
@@ -396,7 +473,7 @@ fn a_replayed_auts_moves_the_number_once(rt: HostRuntime) -> Result<(), Fail> {
         (0, Some(Err(CentreRefusal::Beyond(MAX_SEQ, 0)))),
     ];
     for (seq, answer) in cases {
-        let auts = make_auts(&secret(), [7; 16], sqn_of(seq));
+        let auts = make_auts(&secret(), [7; 16], sqn_of(seq, 5));
         assert!(rt; hear(&rt, &mut centre, 1, auts) == answer, "at {seq}");
     }
     assert_eq!(rt; (centre.word(0), centre.word(1)), (10, MAX_SEQ));
@@ -406,7 +483,7 @@ fn a_replayed_auts_moves_the_number_once(rt: HostRuntime) -> Result<(), Fail> {
 // By hand: one number is left.
 #[test]
 fn a_spent_subscriber_keeps_its_word(rt: HostRuntime) -> Result<(), Fail> {
-    let mut centre = CoreCentre::new(Core::new(rt.alloc(), &[MAX_SEQ - 1])?);
+    let mut centre = CoreCentre::new(Core::new(rt.alloc(), &[MAX_SEQ - 1], &[MAX_SEQ])?);
     let spent = Err(CentreRefusal::Exhausted(MAX_SEQ));
     assert!(rt; [centre.next(&rt, 0), centre.next(&rt, 0)] == [Ok(MAX_SEQ), spent]);
     let answers = (centre.resync(&rt, 0, MAX_SEQ), centre.next(&rt, 0));
@@ -415,12 +492,31 @@ fn a_spent_subscriber_keeps_its_word(rt: HostRuntime) -> Result<(), Fail> {
     Ok(())
 }
 
+// By hand: the greatest numbers are 11 and 500.
+#[test]
+fn each_subscriber_of_a_centre_has_its_own_greatest_number(rt: HostRuntime) -> Result<(), Fail> {
+    let mut centre = CoreCentre::new(Core::new(rt.alloc(), &[10, 10], &[11, 500])?);
+    let drawn = [
+        centre.next(&rt, 0),
+        centre.next(&rt, 0),
+        centre.next(&rt, 1),
+    ];
+    let spent = Err(CentreRefusal::Exhausted(11));
+    assert!(rt; drawn == [Ok(11), spent, Ok(11)]);
+    let answers = [centre.resync(&rt, 0, 11), centre.resync(&rt, 1, 500)];
+    let expected = [Ok(Resynced::InRange(11, 11)), Ok(Resynced::Moved(11, 500))];
+    assert!(rt; answers == expected);
+    assert!(rt; centre.next(&rt, 1) == Err(CentreRefusal::Exhausted(500)));
+    assert_eq!(rt; (centre.word(0), centre.word(1)), (12, 501));
+    Ok(())
+}
+
 #[test]
 fn an_auts_with_one_bit_turned_over_moves_nothing(rt: HostRuntime) -> Result<(), Fail> {
-    let mut centre = CoreCentre::new(Core::new(rt.alloc(), &[10])?);
+    let mut centre = CoreCentre::new(Core::new(rt.alloc(), &[10], &[MAX_SEQ])?);
     for byte in 0..14 {
         for bit in [1, 2, 4, 8, 16, 32, 64, 128] {
-            let mut auts = make_auts(&secret(), [7; 16], sqn_of(500));
+            let mut auts = make_auts(&secret(), [7; 16], sqn_of(500, 5));
             auts[byte] ^= bit;
             assert!(rt;
                 hear(&rt, &mut centre, 0, auts) == None,
@@ -435,7 +531,7 @@ fn an_auts_with_one_bit_turned_over_moves_nothing(rt: HostRuntime) -> Result<(),
 // By hand: a draw, a report that is in range, one that moves the number to the last, and a draw that is refused.
 #[test]
 fn notes_name_the_answers_of_a_centre(rt: HostRuntime) -> Result<(), Fail> {
-    let mut centre = CoreCentre::new(Core::new(rt.alloc(), &[10])?);
+    let mut centre = CoreCentre::new(Core::new(rt.alloc(), &[10], &[MAX_SEQ])?);
     assert!(rt; ask(&rt, &mut centre, 0) == NumberNote::Drew(11));
     let reports = [
         report(&rt, &mut centre, 0, 3),
