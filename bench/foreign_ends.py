@@ -12,11 +12,8 @@ challenge ends in a resynchronisation. Pseudonyms and re-authentication identiti
 
 Our peer with hostapd, of each five sessions: a full authentication; a re-authentication by the identity of EAP; one by that of
 an AKA-Identity round, after the permanent one. Then hostapd is started anew and knows no name: it asks for the others, and a full
-authentication follows; and a re-authentication. A device of ours keeps names of 33 bytes alone, and those of hostapd have 21, so
-with hostapd as it is each session has to be a full authentication. A hostapd with names of 33 bytes is built from Debian's source
-package: `apt-get source wpa`; in src/eap_server/eap_sim_db.c, function eap_sim_db_get_next, `u8 buf[16]` in place of
-`u8 buf[10]`; in the folder hostapd a .config with CONFIG_DRIVER_NONE, CONFIG_EAP, CONFIG_EAP_SIM, CONFIG_EAP_AKA,
-CONFIG_EAP_AKA_PRIME and CONFIG_RADIUS_SERVER, each `=y`; there `make hostapd`. --hostapd takes it.
+authentication follows; and a re-authentication. hostapd's names have 21 bytes, and those of our server 33; a device of ours keeps
+both. --hostapd takes a hostapd that was built otherwise.
 
 Our server with wpa_supplicant, of each five sessions: a full authentication; a re-authentication; one by an AKA-Identity round,
 which gives no further identity; so a full authentication by the pseudonym; and a re-authentication.
@@ -57,7 +54,7 @@ from foreign_verdict import AFTER_SYNC, AGAIN, FULL
 
 # hostapd's name of a method; the name of its network is fixed.
 METHODS = {"aka": "AKA", "prime": "AKA'", "sim": "SIM"}
-AHEAD, TURN, BEFORE_RESTART, NAME_SIZE = 100, 5, 3, 33
+AHEAD, TURN, BEFORE_RESTART = 100, 5, 3
 PEER_OPTIONS = ((), (), ("permanent",), (), ())
 SERVER_OPTIONS = (("pseudonym", "reauth"), ("pseudonym", "reauth"), ("any", "pseudonym"), ("any", "pseudonym", "reauth"),
                   ("pseudonym", "reauth"))
@@ -70,7 +67,7 @@ def options():
     parser = argparse.ArgumentParser(description=__doc__, formatter_class=argparse.RawDescriptionHelpFormatter)
     parser.add_argument("--sessions", type=int, default=TURN, help="how many sessions each pair has")
     parser.add_argument("--ends", type=Path, default=PROGRAM, help="the program of our ends")
-    parser.add_argument("--hostapd", default="hostapd", help="another program of hostapd, see above")
+    parser.add_argument("--hostapd", default="hostapd", help="another program of hostapd")
     parser.add_argument("--packets", action="store_true", help="print the packets of each session")
     return parser.parse_args()
 
@@ -79,12 +76,10 @@ def in_turn(of_five, count):
     return tuple(of_five[number % TURN] for number in range(count))
 
 
-def kinds(method, count, has_names):
+def kinds(method, count):
     """What the sessions of a pair have to be. In EAP-SIM each is a full authentication."""
     if method == "sim":
         return (FULL,) * count
-    if not has_names:
-        return (AFTER_SYNC, *[FULL] * (count - 1))
     return FIRST_KINDS[:count] + in_turn(LATER_KINDS, max(0, count - TURN))
 
 
@@ -195,8 +190,7 @@ def with_hostapd(given, method):
         sessions = list(foreign_trial.with_server(end, server, chosen, servers.before))
         servers.end()
     end.close()
-    names = re.findall(r"AT_NEXT_REAUTH_ID \((.*)\)", servers.logs)
-    return sessions, keys_in(servers.logs, SERVER_WON), kinds(method, given.sessions, all(len(it) == NAME_SIZE for it in names))
+    return sessions, keys_in(servers.logs, SERVER_WON), kinds(method, given.sessions)
 
 
 def with_wpa_supplicant(given, method):
@@ -214,7 +208,7 @@ def with_wpa_supplicant(given, method):
     hostapd.wait_until(lambda: len(sessions) == given.sessions, "the last session")
     foreign_trial.give_keys(sessions, [msk for msk, _ in keys_in(log, PEER_WON)])
     end.close()
-    return sessions, keys_in(log, PEER_WON), kinds(method, given.sessions, True)
+    return sessions, keys_in(log, PEER_WON), kinds(method, given.sessions)
 
 
 def is_as_it_has_to_be(given, pair, sessions, told, wanted):

@@ -15,7 +15,7 @@ from eap.server import Server
 from eap.session import Device, Home, Row, Subscriber
 from eap.sim import SimPeer, SimServer
 from eap.streams import nonce_of_sim, rand_of
-from eap.usim import sqn_of
+from eap.usim import BITS, sqn_of
 
 TYPES = {"aka": 23, "prime": 50}
 # What each letter of a session's options is called at an end.
@@ -89,6 +89,8 @@ class Job:
         self.world.say(" ".join(it for it in [*words, what] if it))
         if end.vector:
             self.world.show("bytes " + " ".join(it.hex() for it in end.vector))
+        if end.failure:
+            self.world.show("auts " + " ".join(it.hex() for it in end.failure))
         if sent is not None:
             self.world.show(f"packet {len(self.packets)} {sent.hex()}")
         if what == "ended success":
@@ -233,8 +235,9 @@ class World:
     def read_realm(self, text):
         self.realm = text.encode()
 
-    def read_subscriber(self, imsi, k, _, opc, amf, seq, usim):
-        subscriber, place = Subscriber(imsi, bytes.fromhex(k), bytes.fromhex(opc)), len(self.rows)
+    def read_subscriber(self, imsi, k, _, opc, amf, seq, usim, bits=BITS, age="-"):
+        limit, place = None if age == "-" else int(age), len(self.rows)
+        subscriber = Subscriber(imsi, bytes.fromhex(k), bytes.fromhex(opc), int(bits), limit)
         self.rows.append(Row(subscriber, place, bytes.fromhex(amf), int(seq)))
         self.devices[imsi] = Device(subscriber, int(usim), self.key, place, self.realm)
 
@@ -253,7 +256,7 @@ class World:
         rand = rand_of(self.key, row.place, number)
         f = row.subscriber.functions(rand)
         self.say(f"vector {row.subscriber.imsi} {number}")
-        self.show("bytes " + " ".join(it.hex() for it in (rand, f.autn(sqn_of(number), row.amf), f.res, f.ck, f.ik)))
+        self.show("bytes " + " ".join(it.hex() for it in (rand, f.autn(sqn_of(number, row.subscriber.bits), row.amf), f.res, f.ck, f.ik)))
         return number, rand, f
 
     def output(self):

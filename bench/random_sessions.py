@@ -4,8 +4,8 @@
     bench/random_sessions.py [PROGRAM [COUNT [FIRST]]]      PROGRAM: crates/auc_cli/out/auc_cli, unless it is given
 
 There are COUNT scenarios, 200 unless it is given, from the seed FIRST on, 0 unless it is given. A scenario has up to three
-rounds, up to three subscribers, some of which share their keys, and up to five sessions a round, of both methods, with any
-options and identities, among them pseudonyms and re-authentication identities that weren't given. Its packets are lost, repeated
+rounds, up to three subscribers, some of which share their keys, with any index length and age limit, and up to five sessions a
+round, of both methods, with any options and identities, among them pseudonyms and re-authentication identities that weren't given. Its packets are lost, repeated
 and crossed, in half of the scenarios the network changes some of them, and half print all bytes. Between the events stand sessions of
 EAP-SIM, over networks of the same kind that change nothing. Before that the examples that
 network.py can read are compared with their expected outputs.
@@ -43,7 +43,7 @@ def scenario(seed):
     are_alike = choose.random() < 0.6
     for place, imsi in enumerate(imsis):
         secret, amf = SECRETS[0 if are_alike else place % 2], choose.choice(["8000", "8000", "0000"])
-        lines.append(f"subscriber {imsi} {secret} {amf} {choose.choice([0, 0, 5])} {choose.choice([0, 0, 0, 3, 40])}")
+        lines.append(f"subscriber {imsi} {secret} {amf} {numbers(choose)}")
     # Half of the scenarios lean towards re-authentications of one device.
     leans, changes, opened, world = choose.random() < 0.5, choose.random() < 0.5, 0, World("".join(line + "\n" for line in lines))
     for _ in range(choose.randint(1, 3)):
@@ -55,6 +55,17 @@ def scenario(seed):
         job.run()
         lines += openings + events(choose, sessions, job, imsis, leans, changes)
     return "".join(line + "\n" for line in lines)
+
+
+def numbers(choose):
+    """SEQ and USIM of a subscriber, and in half of the subscribers BITS and AGE. A few are so great that SQNs of subscribers with
+    one key are beyond each other's numbers."""
+    if choose.random() < 0.04:
+        return choose.choice(["274877906900 0 5 -", "0 8796093022000 0 -", "0 4398046511000 6 -", "4398046510000 4398046510000 6 20"])
+    seq, usim = choose.choice([0, 0, 5]), choose.choice([0, 0, 0, 3, 40])
+    if choose.random() < 0.5:
+        return f"{seq} {usim}"
+    return f"{seq} {usim} {choose.randint(0, 6)} {choose.choice(['-', '-', 1, 2, 3, 7, 40])}"
 
 
 def session_line(choose, number, imsis, names, leans):

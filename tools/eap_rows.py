@@ -705,6 +705,7 @@ def peer_rows():
     yield from through("peer with pseudonyms of both methods", lambda: peer(
         0, ASK, gives(FRESH), plain(3), PRIME, ASK, gives(LATER, n=2), plain(3), PLAIN), identities)
     yield from again_peer_rows()
+    yield from kept_name_rows()
 
 
 def again_peer_rows():
@@ -766,10 +767,82 @@ def again_peer_rows():
                 *before, options, asks(17), asks(13), right, again_request(2), again_request(65535), plain(3)))
 
 
+# What a server may give as a pseudonym or as a re-authentication identity: a device keeps a username of 1 to 255 bytes.
+LETTERS = b"abcdefghijklmnopqrstuvwxyz"
+KEPT_OR_NOT = [
+    *((f"{size} bytes", (LETTERS * 40)[:size]) for size in (0, 1, 21, 32, 33, 34, 254, 255, 256, 900)),
+    *((f"{size} bytes and a realm", (LETTERS * 10)[:size] + b"@home") for size in (0, 1, 21, 33, 255, 256)),
+    ("an `@` alone", b"@"),
+    ("21 bytes and a realm with an `@`", LETTERS[:21] + b"@home@there"),
+    ("33 bytes, of which one is an `@`", LETTERS[:20] + b"@" + LETTERS[:12]),
+    ("bytes of all values", bytes(value for value in range(256) if value != 64)),
+    ("21 bytes with a zero behind", LETTERS[:20] + b"\0"),
+]
+
+
+def kept_name_rows():
+    """The rows of peers that are given names of each length, with and without a realm, and that send them afterwards."""
+    for title, options in ("peer", PLAIN), ("peer of EAP-AKA'", PRIME):
+        for name, text in KEPT_OR_NOT:
+            yield from story(f"{title}, a pseudonym of {name}", lambda: peer(
+                0, ASK, gives(text), plain(3), options, ASK, asks(13), asks(17), challenge(2), plain(3), options=options))
+            yield from story(f"{title}, an identity of a re-authentication of {name}", lambda: peer(
+                0, ASK, challenge(inner=text_attr(133, text)), plain(3), options, ASK, asks(17), asks(13), again_request(),
+                plain(3), options=options))
+            yield from story(f"{title}, the next identity of a re-authentication of {name}", lambda: peer(
+                0, ASK, challenge(inner=text_attr(133, AGAIN)), plain(3), options, ASK, renews(text), plain(3),
+                options, ASK, again_request(2), plain(3), options=options))
+        for name, text in KEPT_OR_NOT[6:8]:
+            yield from story(f"{title}, both names of {name}", lambda: peer(
+                0, ASK, gives(text, text_attr(133, text[::-1])), plain(3), options, ASK, asks(17), options=options))
+        whole = KEPT_OR_NOT[2][1]
+        for first in whole[:20], whole, whole + b"v":
+            yield from story(f"{title} with a context of 21 bytes, whose first identity is a text of {len(first)}", lambda: peer(
+                0, ASK, challenge(inner=text_attr(133, whole)), plain(3), f" ={first.decode()}{options}", ASK, again_request(),
+                options=options))
+        yield from story(f"{title} with a context whose name ends in a zero, whose first identity has none", lambda: peer(
+            0, ASK, challenge(inner=text_attr(133, whole[:20] + b"\0")), plain(3), f" ={whole[:20].decode()}{options}", ASK,
+            again_request(), options=options))
+
+
+# A packet of each kind, and one for each fault that a reader finds. Their Identifiers are fixed, so that some are of no request.
+PACKETS = [
+    ("an Identity request", "0101000501"),
+    ("an Identity response", "020100150130303031303130303030303030303031"),
+    ("a request for the permanent identity", "0102000c170500000a010000"),
+    ("a Notification of failure", "0103000c170c00000c014000"),
+    ("a Client-Error", "0202000c170e000016010000"),
+    ("an Authentication-Reject", "0202000817020000"),
+    ("a Success", "03020004"),
+    ("attribute 200 alone", "0102000c17050000c8010000"),
+    ("attribute 127", "0102000c170500007f010000"),
+    ("an attribute of length 0", "0102000c170500000a000000"),
+    ("an attribute past the end", "0102000c170500000a020000"),
+    ("AT_PADDING with a byte that isn't zero", "0102001017050000060100010a010000"),
+    ("an attribute twice", "01020010170500000a0100000a010000"),
+    ("a Length above the bytes", "0102000d170500000a010000"),
+    ("three bytes", "010200"),
+    ("code 5", "05020004"),
+    ("type 3", "0102000503"),
+    ("subtype 3", "0102000817030000"),
+]
+TO_ANY_END = [(title, lambda end, data=bytes.fromhex(digits): data) for title, digits in PACKETS]
+
+
+def packet_rows():
+    """The rows of these packets at ends that wait for their first message, and at servers that wait for the answer to a Challenge."""
+    for kind, method in ("", PLAIN), (" of EAP-AKA'", PRIME):
+        yield from through(f"peer{kind}, a packet of each kind", lambda: peer(options=method), TO_ANY_END, PEER_ENDS)
+        yield from through(f"server{kind}, a packet of each kind", lambda: server(options=method), TO_ANY_END, SERVER_ENDS)
+        yield from through(f"server{kind}, a packet of each kind after a Challenge",
+                           lambda: server(0, "held", permanent(), options=method), TO_ANY_END, SERVER_ENDS)
+
+
 def rows():
     """Each line and its answer."""
     yield from server_rows()
     yield from peer_rows()
+    yield from packet_rows()
     yield from sim_rows.rows()
 
 

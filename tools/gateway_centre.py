@@ -13,13 +13,16 @@ from itertools import islice
 from typing import NamedTuple
 
 from eap.milenage import Aes, Functions, opc_of
-from eap.usim import REACH, seq_of, triplet
+from eap.usim import BITS, REACH, Usim, seq_of, top_of, triplet
 
 # A run draws as many numbers of a subscriber as the program reserves at once. A run that drew one would begin 64 above the
 # last, so all its numbers would have one index, and a USIM refuses those out of order.
 AHEAD = 64
 HEADER = "imsi,k,kind,op,amf,seq,usim".split(",")
-ROW = re.compile(r"[0-9]{6,15},[0-9a-f]{32},opc?,[0-9a-f]{32},[0-9a-f]{4},[0-9]{1,13},[0-9]{1,13}", re.IGNORECASE)
+# The header of a file whose records also have the index length and the age limit, and what the others stand for.
+LONG_HEADER, USUAL = [*HEADER, "bits", "age"], (str(BITS), "-")
+ROW = re.compile(
+    r"[0-9]{6,15},[0-9a-f]{32},opc?,[0-9a-f]{32},[0-9a-f]{4},[0-9]{1,15},[0-9]{1,15}(,[0-6],(-|[0-9]{1,15}))?", re.IGNORECASE)
 
 # With these statuses each vector in a whole line was released, and its number is reserved on the disk.
 RELEASING = (0, 6, 8, 10)
@@ -57,9 +60,15 @@ class Subscriber(NamedTuple):
     amf: str
     seq: str
     usim: str
+    bits: str = USUAL[0]
+    age: str = USUAL[1]
 
     def line(self):
-        return " ".join(("subscriber", *self))
+        return " ".join(("subscriber", *(self[:len(HEADER)] if self.is_usual() else self)))
+
+    def is_usual(self):
+        """Whether the index has its usual length, and there is no age limit."""
+        return (self.bits, self.age) == USUAL
 
     def functions(self, rand):
         """f1 to f5* of a RAND."""
@@ -68,9 +77,14 @@ class Subscriber(NamedTuple):
         return Functions(encrypt, op if self.kind == "opc" else opc_of(encrypt, op), rand)
 
     def seq_in(self, auts, rand):
-        """SEQ_MS of an AUTS, or nothing if its MAC-S is wrong."""
+        """SEQ_MS of an AUTS, or nothing if its MAC-S is wrong or it is none of the subscriber's numbers."""
         sqn = self.functions(bytes.fromhex(rand)).sqn_in(bytes.fromhex(auts))
-        return None if sqn is None else seq_of(sqn)
+        seq = None if sqn is None else seq_of(sqn, int(self.bits))
+        return seq if seq is not None and seq <= top_of(int(self.bits)) else None
+
+    def card(self, number):
+        """The USIM, for which the numbers from 1 to one count as accepted."""
+        return Usim(self.functions, number, int(self.bits), None if self.age == "-" else int(self.age))
 
 
 def read_subscribers(data):
@@ -80,10 +94,10 @@ def read_subscribers(data):
         rows = [row for row in csv.reader(io.StringIO(data.decode("utf-8-sig"), newline="")) if row]
     except (UnicodeDecodeError, csv.Error) as error:
         raise Refused(f"the file of subscribers can't be read: {error}") from error
-    if not rows or rows[0] != HEADER:
+    if not rows or rows[0] not in (HEADER, LONG_HEADER):
         raise Refused("the file of subscribers doesn't begin with its header")
     for place, row in enumerate(rows[1:], 1):
-        if not ROW.fullmatch(",".join(row)):
+        if len(row) != len(rows[0]) or not ROW.fullmatch(",".join(row)):
             raise Refused(f"the file of subscribers has a wrong record {place}")
     return {row[0]: Subscriber(*row) for row in rows[1:]}
 

@@ -14,11 +14,12 @@ from itertools import chain, islice
 from typing import NamedTuple
 
 from eap.usim import MAX_SEQ
-from gateway_centre import Centre, Run
+from gateway_centre import Centre, Refused, Run
 
 # The journal of such a run matters as long as the run, so it stands in memory if there is room for files there.
 IN_MEMORY = "/dev/shm"
-# A USIM keeps the greatest SEQ of each of so many indices, and a number's index is its remainder (TS 33.102 Annex C.1.1).
+# A USIM whose index has 5 bits keeps the greatest SEQ of each of so many indices, and a number's index is its remainder (TS 33.102
+# Annex C.1.1).
 INDICES = 32
 MOST_ASKED = 1000
 WORD = re.compile(r"([0-9]{6,15}):([0-9]{1,14}):([0-9]{1,14}):([0-9]{1,14})")
@@ -145,6 +146,9 @@ class LeasedCentre(Centre):
 
     def __init__(self, subscribers, most, site):
         super().__init__(subscribers, most)
+        unusual = next((it.imsi for it in subscribers.values() if not it.is_usual()), None)
+        if unusual:
+            raise Refused(f"leases are numbers by an index of 5 bits, without an age limit, and {unusual} has another profile")
         self.site, self.leases = site, {}
 
     def has_lease(self, imsi):

@@ -66,10 +66,10 @@ def labelled(to, packet, *marks, only="", **more):
     return Arrow(to, label(packet, *marks), label(packet, *(mark for mark in marks if mark != only), short=True), packet.number, **more)
 
 
-def own_note(note):
+def own_note(note, bits):
     """A note of an end. An SQN is also told as its number, which is what the centre tells."""
     found = re.fullmatch(r"(accepted|sync) ([0-9a-f]{12})", note)
-    return f"{found[1]} {transcript.seq_of(found[2])} ({found[2]})" if found else note
+    return f"{found[1]} {transcript.seq_of(found[2], bits)} ({found[2]})" if found else note
 
 
 def is_at_home(event):
@@ -85,7 +85,7 @@ def arrival(event):
     own = "" if packet.sender != event.end else f"of a {packet.sender}"
     again = "again" if packet.deliveries[0] is not event else ""
     is_second = is_at_home(packet.deliveries[0]) and is_at_home(event)
-    words = [own_note(note) for note in event.notes if note.split()[0] not in CENTRE_NOTES] + [event.step]
+    words = [own_note(note, event.session.bits) for note in event.notes if note.split()[0] not in CENTRE_NOTES] + [event.step]
     return labelled(event.end, packet, whose, own, again, only="" if is_second else "again", foreign=not is_at_home(event),
                     changed=packet.source is not None, words=", ".join(word for word in words if word))
 

@@ -6,11 +6,10 @@ from dataclasses import dataclass, field
 import transcript
 from eap.attributes import AT_NEXT_PSEUDONYM, text_in
 from eap.names import username
+from eap.usim import BITS, REACH
 from transcript import FORMS, identity_in
 
 AT_NEXT_REAUTH_ID = 133
-# How far above the greatest accepted number a USIM accepts another one (TS 33.102 Annex C.2.1).
-REACH = 2**28
 CLOSED = "round", "open", "close", "drawn", "skipped", "released", "withheld"
 DRAWN, ACCEPTED, REFUSED, MOVED, WITHHELD, EXHAUSTED, STAYED = range(7)
 
@@ -101,6 +100,8 @@ def subscribers_of(sessions, objects, scenario):
 @dataclass
 class Numbers:
     """A subscriber's steps in the order of the lines: line, kind, number, and what the kind has besides."""
+    # How many bits IND has.
+    bits: int
     steps: list = field(default_factory=list)
     # The number that was accepted last for each IND, and its line.
     accepted: dict = field(default_factory=dict)
@@ -108,16 +109,16 @@ class Numbers:
 
     def accept(self, line, number):
         self.steps.append([line, ACCEPTED, number])
-        self.accepted[number % 32] = (number, line)
+        self.accepted[number % 2**self.bits] = (number, line)
 
     def refuse(self, line, number, sqn_ms):
         """A synchronisation failure: the cause, and the number and line of the accepted vector that stands in its way."""
-        greatest = sqn_ms >> 5
-        held, where = self.accepted.get(number % 32, (-1, 0))
+        greatest, ind = sqn_ms >> self.bits, number % 2**self.bits
+        held, where = self.accepted.get(ind, (-1, 0))
         if number > greatest + REACH:
             cause = ["far", greatest, 0]
         elif held >= number:
-            cause = ["place", held, where]
+            cause = ["place", held, where, ind]
         else:
             cause = ["before", greatest, 0]
         self.steps.append([line, REFUSED, number, *cause])
@@ -126,14 +127,14 @@ class Numbers:
 class Steps:
     """Reads the objects of a transcript's lines into the numbers of the subscribers."""
 
-    def __init__(self, subscribers):
+    def __init__(self, subscribers, lengths):
         # By the IMSI; the sessions of nobody that is known have the empty one.
-        self.numbers, self.subscribers = {}, subscribers
+        self.numbers, self.subscribers, self.lengths = {}, subscribers, lengths
         # Of each session the number that was drawn last; of each packet of the job the number that its challenge has.
         self.last, self.challenges = {}, {}
 
     def of(self, imsi):
-        return self.numbers.setdefault(imsi or "", Numbers())
+        return self.numbers.setdefault(imsi or "", Numbers(self.lengths.get(imsi or "", BITS)))
 
     def read(self, it):
         kind, line = it["kind"], it["line"]
@@ -175,7 +176,7 @@ class Steps:
                 self.last[session] = note["number"]
                 numbers.steps.append([line, DRAWN, note["number"]])
             elif word == "accepted":
-                numbers.accept(line, int(note["sqn"], 16) >> 5)
+                numbers.accept(line, transcript.seq_of(note["sqn"], numbers.bits))
             elif word == "sync" and it.get("packet") in self.challenges:
                 numbers.refuse(line, self.challenges[it["packet"]], int(note["sqn"], 16))
             elif word == "withheld":
@@ -188,9 +189,21 @@ class Steps:
             self.challenges[it["sent"]] = self.last[session]
 
 
+def lengths_of(objects, subscribers):
+    """How many bits the IND of each subscriber has, by the SQNs of its USIM."""
+    sqns = {}
+    for it in objects:
+        if it["kind"] == "give" and "sqn" in it:
+            sqns.setdefault(it["imsi"], []).append(it["sqn"])
+        elif it["kind"] == "event":
+            owner = subscribers.devices.get(it["session"]) or ""
+            sqns.setdefault(owner, []).extend(note["sqn"] for note in it["notes"] if "sqn" in note)
+    return {imsi: transcript.index_bits(found) for imsi, found in sqns.items()}
+
+
 def numbers_of(objects, subscribers):
     """What became of each subscriber's numbers, by its IMSI."""
-    steps = Steps(subscribers)
+    steps = Steps(subscribers, lengths_of(objects, subscribers))
     for it in objects:
         steps.read(it)
     return dict(sorted(steps.numbers.items()))

@@ -192,7 +192,7 @@ class Explanations(Checkout):
             "s.csv:4: 001010000000001,[32 characters],opc,[32 characters],8000,0,0: IMSI isn't 6 to 15 decimal digits (imsi)")
         self.assertEqual(
             self.said(2, "refused subscribers 2 fieldcount"),
-            "s.csv:6: 12345,[65 characters],opc: the record doesn't have seven fields (fieldcount)")
+            "s.csv:6: 12345,[65 characters],opc: the record doesn't have as many fields as the header (fieldcount)")
 
     def assert_no_key(self, said):
         for part in (key[at:at + 9] for key in (K, OPC) for at in range(24)):

@@ -18,9 +18,9 @@ import unittest
 from pathlib import Path
 
 from eap.session import Subscriber
-from eap.usim import sqn_of, triplet
+from eap.usim import MAX_SEQ, sqn_of, top_of, triplet
 from ends import run_main
-from gateway_centre import Centre, read_subscribers
+from gateway_centre import LONG_HEADER, Centre, Refused, read_subscribers
 from trial import HEADER, K, OPC
 
 TOOLS = Path(__file__).resolve().parent
@@ -177,6 +177,20 @@ class Runs(unittest.TestCase):
         self.centre.learn([A], "\n".join(("round 1", "job 1", *lines)) + end)
         vectors = self.centre.take(A, 1)
         return vectors and vectors[0].number
+
+    def test_profile_of_a_subscriber_is_handed_on(self):
+        rows = f"{A},{K},opc,{OPC},8000,0,0,3,-\n{B},{K},opc,{OPC},8000,0,0,5,-\n{FAR},{K},opc,{OPC},8000,0,0,6,20\n"
+        of = read_subscribers(f"{','.join(LONG_HEADER)}\n{rows}".encode())
+        self.assertEqual([of[it].line().split()[6:] for it in (A, B, FAR)], [["0", "0", "3", "-"], ["0", "0"], ["0", "0", "6", "20"]])
+        rand = bytes(16)
+        for imsi, bits, seq in ((A, 3, 700), (B, 5, 700), (FAR, 6, top_of(6)), (A, 3, MAX_SEQ)):
+            with self.subTest(bits=bits, seq=seq):
+                auts = functions(rand.hex()).auts(sqn_of(seq, bits))
+                self.assertEqual(of[imsi].seq_in(auts.hex(), rand.hex()), seq)
+        beyond = functions(rand.hex()).auts((MAX_SEQ + 1 << 3).to_bytes(6, "big"))
+        self.assertIsNone(of[A].seq_in(beyond.hex(), rand.hex()))
+        with self.assertRaises(Refused):
+            read_subscribers(f"{HEADER}\n{rows}".encode())
 
     def test_auts_is_told_once(self):
         self.assertEqual(self.asked(), f"draw {A} 64")

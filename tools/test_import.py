@@ -10,7 +10,7 @@ import unittest
 from contextlib import closing
 from pathlib import Path
 
-from eap.usim import sqn_of
+from eap.usim import sqn_of, top_of
 from ends import run_main
 from trial import loaded
 
@@ -30,8 +30,8 @@ def ran(*words):
     return subprocess.run([TOOL, *words], capture_output=True, text=True)
 
 
-def own_sqn(number):
-    return int.from_bytes(sqn_of(number), "big")
+def own_sqn(number, bits=5):
+    return int.from_bytes(sqn_of(number, bits), "big")
 
 
 def used_by_hostapd(sqn, handed_out, bits):
@@ -47,15 +47,33 @@ class Starts(unittest.TestCase):
         for bits in (0, 1, 4, 5, 6, 8, 16):
             for sqn in (0, 1, 31, 32, 33, 0xFFFF, 0x16F3B3F70FC1):
                 for handed_out in (0, 1, 7, 100):
-                    start = tool.start_after(sqn, handed_out, bits)
+                    start, own = tool.start_above(tool.last_used(sqn, handed_out, bits), bits)
                     used = max([sqn, *used_by_hostapd(sqn, handed_out, bits)])
-                    self.assertGreater(own_sqn(start + 1), used, (bits, sqn, handed_out))
+                    self.assertGreater(own_sqn(start + 1, own), used, (bits, sqn, handed_out))
+                    self.assertLessEqual(start + 1, top_of(own))
+
+    def test_index_keeps_its_length_if_a_number_is_left_so(self):
+        # SEQ has 43 bits at most, so an index of 0 bits keeps its length up to SQN 2^43 - 2.
+        cases = [
+            (65, 0, (65, 0)),
+            (0x7FFFFFFFFFE, 0, (0x7FFFFFFFFFE, 0)),
+            (0x7FFFFFFFFFF, 0, (0x3FFFFFFFFF, 5)),
+            (65, 4, (4, 4)),
+            (65, 6, (1, 6)),
+            (0xFFFFFFFFFFBF, 6, (2**42 - 2, 6)),
+            (0xFFFFFFFFFFC0, 6, (2**43 - 2, 5)),
+            (65, 7, (2, 5)),
+            (65, 32, (2, 5)),
+        ]
+        for last, bits, wanted in cases:
+            self.assertEqual(tool.start_above(last, bits), wanted, (last, bits))
 
     def test_number_without_a_successor_is_left_out(self):
         for sqn, handed_out in ((0xFFFFFFFFFFFF, 0), (0xFFFFFFFFFFE0, 0), (0xFFFFFFFFFFBF, 1)):
-            with self.assertRaises(tool.LeftOut):
-                tool.start_after(sqn, handed_out)
-        self.assertEqual(tool.start_after(0xFFFFFFFFFFDF), tool.MAX_NUMBER - 1)
+            for bits in (0, 5, 6, 7):
+                with self.assertRaises(tool.LeftOut):
+                    tool.start_above(tool.last_used(sqn, handed_out, max(bits, 5)), bits)
+        self.assertEqual(tool.start_above(0xFFFFFFFFFFDF, 5), (2**43 - 2, 5))
 
 
 class Hostapd(unittest.TestCase):
@@ -64,7 +82,11 @@ class Hostapd(unittest.TestCase):
 
     def test_line_becomes_a_row(self):
         row = self.read(f"{IMSI} {K.upper()} {OPC} 61DF 000000000040").row()
-        self.assertEqual(row, [IMSI, K, "opc", OPC, "61df", 2, 2])
+        self.assertEqual(row, [IMSI, K, "opc", OPC, "61df", 2, 2, 5, "-"])
+
+    def test_row_has_the_length_of_the_gateways_index(self):
+        for bits, wanted in ((0, [64, 64, 0, "-"]), (6, [1, 1, 6, "-"]), (8, [2, 2, 5, "-"])):
+            self.assertEqual(tool.hostapd_subscriber(f"{IMSI} {K} {OPC} 61df 000000000040", 0, bits).row()[5:], wanted)
 
     def test_wrong_lines_are_left_out_with_their_reason(self):
         cases = [
@@ -87,7 +109,7 @@ class Hostapd(unittest.TestCase):
 
     def test_length_of_res_is_8_or_not_given(self):
         for length in ("", " 0", " 8"):
-            self.assertEqual(self.read(f"{IMSI} {K} {OPC} 61df 000000000040{length}").number, 2, length)
+            self.assertEqual(self.read(f"{IMSI} {K} {OPC} 61df 000000000040{length}").row()[5], 2, length)
 
     def test_length_of_res_on_a_line_of_its_own_belongs_to_the_line_before(self):
         line = f"{IMSI} {K} {OPC} 61df 000000000040"
@@ -104,7 +126,7 @@ class Hostapd(unittest.TestCase):
     def test_later_line_of_one_imsi_counts_from_the_greater_number(self):
         lines = [("line 1", f"{IMSI} {K} {OPC} 61df 000000000400"), ("line 2", f"{IMSI} {OPC} {K} 8000 000000000040")]
         subscribers, reasons = tool.brought_over(lines, self.read)
-        self.assertEqual([subscriber.row() for subscriber in subscribers], [[IMSI, OPC, "opc", K, "8000", 32, 32]])
+        self.assertEqual([subscriber.row() for subscriber in subscribers], [[IMSI, OPC, "opc", K, "8000", 32, 32, 5, "-"]])
         same = f"replaced by line 2, which has the same IMSI {IMSI}; it starts at the greater number of both"
         self.assertEqual(reasons, [("line 1", same)])
 
@@ -112,7 +134,7 @@ class Hostapd(unittest.TestCase):
         sqns = ("000000000040", "000000000400", "wrong", "000000000080")
         lines = [(f"line {place}", f"{IMSI} {K} {OPC} {place:04} {sqn}") for place, sqn in enumerate(sqns, 1)]
         subscribers, reasons = tool.brought_over(lines, self.read)
-        self.assertEqual([subscriber.row() for subscriber in subscribers], [[IMSI, K, "opc", OPC, "0004", 32, 32]])
+        self.assertEqual([subscriber.row() for subscriber in subscribers], [[IMSI, K, "opc", OPC, "0004", 32, 32, 5, "-"]])
         said = [(place, reason.partition(",")[0]) for place, reason in reasons]
         wrong = ("line 3", "left out: SQN isn't 12 hexadecimal digits")
         self.assertEqual(said, [("line 1", "replaced by line 2"), wrong, ("line 2", "replaced by line 4")])
@@ -136,7 +158,7 @@ class HostapdRows(unittest.TestCase):
     def test_row_becomes_a_subscriber(self):
         for length in (None, 0, 8):
             row = self.read(int(IMSI), length=length).row()
-            self.assertEqual(row, [IMSI, K, "opc", OPC, "61df", 2, 2])
+            self.assertEqual(row, [IMSI, K, "opc", OPC, "61df", 2, 2, 5, "-"])
 
     def test_zeros_at_the_beginning_of_an_imsi_come_back(self):
         cases = [
@@ -168,8 +190,8 @@ class HostapdRows(unittest.TestCase):
 class OsmoHlr(unittest.TestCase):
     def test_rows_become_subscribers_or_are_left_out(self):
         cases = [
-            (("901990000000001", 5, K, None, OPC, 65), ["901990000000001", K, "opc", OPC, "8000", 2, 2]),
-            (("901990000000002", 5, K, OPC, None, 0), ["901990000000002", K, "op", OPC, "8000", 0, 0]),
+            (("901990000000001", 5, K, None, OPC, 65), ["901990000000001", K, "opc", OPC, "8000", 2, 2, 5, "-"]),
+            (("901990000000002", 5, K, OPC, None, 0), ["901990000000002", K, "op", OPC, "8000", 0, 0, 5, "-"]),
             (("901990000000003", None, None, None, None, None), "it has no data"),
             (("901990000000004", 4, K, None, OPC, 0), "its algorithm is number 4"),
             (("901990000000005", 5, K, None, None, 0), "OP isn't 32"),
@@ -182,10 +204,15 @@ class OsmoHlr(unittest.TestCase):
             except tool.LeftOut as reason:
                 self.assertTrue(str(reason).startswith(wanted), (row, str(reason)))
 
+    def test_row_has_the_length_of_its_index(self):
+        row = dict(zip(OSMO, (IMSI, 5, K, None, OPC, 641)))
+        for bits, wanted in ((0, [641, 641, 0]), (3, [80, 80, 3]), (5, [20, 20, 5]), (6, [10, 10, 6]), (7, [20, 20, 5]), (None, [20, 20, 5])):
+            self.assertEqual(tool.osmo_subscriber(dict(row, ind_bitlen=bits), "8000").row()[5:], [*wanted, "-"], bits)
+
     def test_vectors_that_were_handed_out_count_in_the_steps_of_the_rows_own_index(self):
         row = dict(zip(OSMO, (IMSI, 5, K, None, OPC, 641)))
-        for bits, handed_out, number in ((7, 0, 20), (7, 10, 64), (0, 10, 20), (None, 10, 31), (28, 1, 2**24 + 20)):
-            self.assertEqual(tool.osmo_subscriber(dict(row, ind_bitlen=bits), "8000", handed_out).number, number, bits)
+        for bits, handed_out, number in ((7, 0, 20), (7, 10, 64), (0, 10, 651), (6, 10, 21), (None, 10, 31), (28, 1, 2**24 + 20)):
+            self.assertEqual(tool.osmo_subscriber(dict(row, ind_bitlen=bits), "8000", handed_out).row()[5], number, bits)
         for bits in (33, -1, "5"):
             with self.assertRaises(tool.LeftOut):
                 tool.osmo_subscriber(dict(row, ind_bitlen=bits), "8000", 1)
@@ -209,7 +236,8 @@ class Rivals(unittest.TestCase):
         rows = [line.split(",") for line in done.stdout.splitlines()[1:]]
         self.assertEqual([row[0] for row in rows], list(used), done.stderr)
         for row in rows:
-            self.assertGreater(own_sqn(int(row[5]) + 1), used[row[0]])
+            bits = int(row[7]) if len(row) == 9 else 5
+            self.assertGreater(own_sqn(int(row[5]) + 1, bits), used[row[0]])
             self.assertEqual(row[6], row[5])
         told = [line for line in done.stderr.splitlines() if " is left out: " in line]
         self.assertEqual(len(told), len(left_out), done.stderr)
@@ -439,9 +467,19 @@ class Inputs(unittest.TestCase):
         self.assertEqual(done.stderr, f"import: {database}: no subscriber came over\n")
 
     def test_written_file_has_the_header_and_one_row_a_subscriber(self):
-        out = io.StringIO()
-        tool.write([tool.Subscriber(IMSI, K, "opc", OPC, "8000", 7)], out)
-        self.assertEqual(out.getvalue(), f"imsi,k,kind,op,amf,seq,usim\n{IMSI},{K},opc,{OPC},8000,7,7\n")
+        usual = tool.Subscriber(IMSI, K, "opc", OPC, "8000", 0xE5)
+        other = tool.Subscriber(f"{IMSI[:-1]}1", K, "opc", OPC, "8000", 0xE5, 6)
+        seven, nine = "imsi,k,kind,op,amf,seq,usim", "imsi,k,kind,op,amf,seq,usim,bits,age"
+        first, second = f"{IMSI},{K},opc,{OPC},8000,7,7", f"{IMSI[:-1]}1,{K},opc,{OPC},8000,3,3"
+        cases = [
+            ([usual], [seven, first]),
+            ([usual, other], [nine, f"{first},5,-", f"{second},6,-"]),
+            ([other], [nine, f"{second},6,-"]),
+        ]
+        for subscribers, lines in cases:
+            out = io.StringIO()
+            tool.write(subscribers, out)
+            self.assertEqual(out.getvalue().splitlines(), lines)
 
 
 if __name__ == "__main__":

@@ -23,7 +23,7 @@ from unittest import mock
 import test_gateway
 from eap.usim import MAX_SEQ, Usim
 from ends import run_main
-from gateway_centre import read_subscribers
+from gateway_centre import LONG_HEADER, Refused, read_subscribers
 from gateway_leases import Away, Lease, LeasedCentre, Master, site_of
 from test_gateway import SILENCE, SOON, SUBSCRIBERS, TOOLS, A, B, Gateways, auts, functions, seq_in
 from trial import K, OPC, loaded
@@ -100,6 +100,12 @@ class Leased(unittest.TestCase):
             sites = [site_of(place, count) for place in range(1, count + 1)]
             indices = [it for index, size in sites for it in range(index, index + size)]
             self.assertEqual(indices, list(range(count * (32 // count))))
+
+    def test_leases_are_for_the_usual_index_without_an_age_limit(self):
+        for profile in ("4,-", "6,-", "5,64"):
+            text = f"{','.join(LONG_HEADER)}\n{A},{K},opc,{OPC},8000,0,0,{profile}\n"
+            with self.subTest(profile=profile), self.assertRaises(Refused):
+                LeasedCentre(read_subscribers(text.encode()), 10, site_of(2, 4))
 
     def test_request_says_what_counts_as_used_and_what_auts_told(self):
         self.assertEqual(self.centre.request(self.centre.needs([A, B])), f"lease 8 8 {A}:0:0 {B}:40:0\n")

@@ -214,6 +214,33 @@ class Objects(unittest.TestCase):
         self.assertEqual(values, ["1a" * 32, "2b" * 16, "3c" * 32, "4d" * 32])
         self.assertEqual([it["result"] for it in found if "result" in it], ["confirmed", "noseparation", "servingrefused", "homerefused"])
 
+    def test_auts_is_of_the_failure_before_it(self):
+        objects = list(objects_in(text_of("auts-full-print")))
+        self.assertEqual([line_of(it) for it in objects], text_of("auts-full-print").splitlines())
+        found = [it for it in objects if it["kind"] == "auts"]
+        self.assertEqual([(it["round"], it["job"], it.get("imsi"), it.get("number"), it.get("session"), it.get("end")) for it in found], [
+            (1, 1, "001010000000001", 1, None, None), (1, 1, None, None, 1, "peer"), (1, 2, "001010000000002", 10, None, None),
+            (2, 1, None, None, 3, "peer")])
+        # The AUTS and the RAND of the first.
+        self.assertEqual((found[0]["auts"], found[0]["rand"]), ("b5c9d934552d073052b7aadb8ded", "8a35d86fbcde6accb2cc7d4cd8ea2492"))
+
+    def test_auts_of_no_failure_is_refused(self):
+        begun, auts = "round 1\njob 1\n", f"auts {'0a' * 14} {'0b' * 16}\n"
+        started = "session 1 open\nstart 1 sent 1\npacket 1 0101000501\n"
+        none = "the AUTS is of no synchronisation failure"
+        cases = [
+            (auts, f"line 3: {none}"),
+            (f"give 001010000000001 1 accepted\n{auts}", f"line 4: {none}"),
+            (f"give 001010000000001 1 sync 000000003e94\n{auts}{auts}", f"line 5: {none}"),
+            (f"{started}{auts}", f"line 6: {none}"),
+            (f"{started}deliver 1 peer 1 sync 000000003e94 sent 2\npacket 2 02010004\n{auts}", f"line 8: {none}"),
+            ("give 001010000000001 1 sync 000000003e94\nauts 00 11\n", "line 4: the bytes aren't those of an AUTS and a RAND"),
+        ]
+        for text, why in cases:
+            with self.assertRaises(Unreadable) as refused:
+                list(objects_in(begun + text))
+            self.assertEqual(str(refused.exception), why, text)
+
     def test_line_of_eps_or_5g_that_is_of_no_vector_is_refused(self):
         begun, vector = "round 1\njob 1\n", "vector 001010000000001 1\n"
         keys = f"seaf {'3c' * 32} {'4d' * 32}\n"
@@ -522,7 +549,7 @@ class Numbers(unittest.TestCase):
     def test_refusal_has_its_cause(self):
         # Number 33 is accepted in line 36, and number 2 in line 37; 1 and 33 have IND 1.
         refused = [step[2:] for step in self.steps("out-of-order", REFUSED)]
-        self.assertEqual(refused, [[1, "place", 33, 36], [2, "place", 2, 37]])
+        self.assertEqual(refused, [[1, "place", 33, 36, 1], [2, "place", 2, 37, 2]])
         self.assertEqual([step[2:] for step in self.steps("stale-vector", REFUSED)], [[1, "before", 500, 0]])
         self.assertEqual({step[3] for step in self.steps("far-numbers", REFUSED)}, {"far"})
 

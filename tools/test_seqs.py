@@ -104,6 +104,16 @@ class Seqs(unittest.TestCase):
         for margin in ("-1", "x", FURTHEST + 1, "99999999999"):
             self.refused(2, "margin", "--reserved", "-", "--margin", str(margin), said="")
 
+    def test_index_lengths_and_age_limits_stay(self):
+        header = f"{HEADER},bits,age"
+        self.file.write_text(f"{header}\n{row(ONE, 1)},6,-\n{row(TWO, 2)},0,40\n")
+        status, out, _ = self.ran("--reserved", "-", "--margin", "10", said=f"reserved {ONE} 64\n")
+        self.assertEqual((status, out.splitlines()), (0, [header, f"{row(ONE, 74)},6,-", f"{row(TWO, 12)},0,40"]))
+        self.refused(1, "above 4398046511103", "--reserved", "-", "--margin", "0", said=f"reserved {ONE} 4398046511104\n")
+        for text in (f"{header}\n{row(ONE, 1)}\n", f"{HEADER}\n{row(ONE, 1)},5,-\n", f"{header}\n{row(ONE, 1)},7,-\n"):
+            self.file.write_text(text)
+            self.refused(2, "subscribers.csv: ", "--reserved", "-", "--margin", "0", said="")
+
     def test_a_wrong_file_of_subscribers_is_refused(self):
         cases = ["", "imsi,k\n", f"{HEADER}\n{ONE},465b\n", f"{HEADER}\n{row(ONE, 'x')}\n", f"{HEADER}\n{row('12345', 0)}\n",
                  f"{HEADER}\n{row(ONE, 0)}\n{row(ONE, 0)}\n"]

@@ -14,6 +14,7 @@ from xml.etree import ElementTree
 
 import transcript
 from eap import ciphers
+from eap.usim import sqn_of
 from ends import UNWRITTEN, Missing, run_main
 from trial import loaded
 
@@ -379,9 +380,17 @@ class Numbers(unittest.TestCase):
             "drew 502", "accepted 502 (000000003ed6)"])
 
     def test_number_of_an_sqn(self):
-        self.assertEqual([ladders.own_note(f"accepted {sqn}") for sqn in ("00000000016b", "ffffffffffff", "000000000000")], [
+        self.assertEqual([ladders.own_note(f"accepted {sqn}", 5) for sqn in ("00000000016b", "ffffffffffff", "000000000000")], [
             "accepted 11 (00000000016b)", "accepted 8796093022207 (ffffffffffff)", "accepted 0 (000000000000)"])
-        self.assertEqual([ladders.own_note(note) for note in ("counter 1", "wrongmac", "accepted x")], ["counter 1", "wrongmac", "accepted x"])
+        self.assertEqual([ladders.own_note(note, 5) for note in ("counter 1", "wrongmac", "accepted x")], ["counter 1", "wrongmac", "accepted x"])
+
+    def test_index_length_is_that_of_most_sqns(self):
+        for bits in range(7):
+            with self.subTest(bits=bits):
+                sqns = [sqn_of(number, bits).hex() for number in (1, 2, 3, 40, 41, 70)]
+                self.assertEqual(transcript.index_bits(sqns), bits)
+                self.assertEqual([transcript.seq_of(sqn, bits) for sqn in sqns], [1, 2, 3, 40, 41, 70])
+        self.assertEqual(transcript.index_bits([]), 5)
 
 
 class Slopes(unittest.TestCase):

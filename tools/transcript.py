@@ -76,8 +76,10 @@ class Event:
     sent: Packet | None = None
     # What is left of the line: `ended success`, `ignored closed`, `nosuchpacket`; nothing if a packet is all that came.
     step: str = ""
-    # With a full print: RAND, AUTN, XRES, CK and IK of the number that was drawn; K_encr, K_aut, K_re, MSK and EMSK of the end.
+    # With a full print: RAND, AUTN, XRES, CK and IK of the number that was drawn; AUTS of a synchronisation failure and the RAND
+    # that it answers; K_encr, K_aut, K_re, MSK and EMSK of the end.
     vector: list | None = None
+    failure: list | None = None
     keys: list | None = None
 
 
@@ -114,6 +116,8 @@ class Session:
     # The only subscriber whose number moved in its round, and the only one up to the end of its round; nothing if there are several.
     only_moved: str = ""
     only_ever: str = ""
+    # How many bits the subscriber's IND has.
+    bits: int = 5
     # The key of what is encrypted in the session since its last challenge or resumption, if the server succeeded in a full
     # print.
     k_encr: bytes | None = None
@@ -212,9 +216,34 @@ def subscriber_of(session):
     return permanent[-1][1:].decode() if permanent else ""
 
 
-def seq_of(sqn):
+def index_bits(sqns):
+    """How many bits IND has in the SQNs of a subscriber, which are given by their 12 hexadecimal digits. A transcript doesn't say it;
+    but in the centre's SQNs IND is the remainder of SEQ. It is the usual 5 bits if that is so in most of them."""
+    values = [int(it, 16) for it in sqns]
+    fit = {bits: sum(it % 2**bits == (it >> bits) % 2**bits for it in values) for bits in (5, 6, 4, 3, 2, 1, 0)}
+    return next(bits for bits, count in fit.items() if 2 * count > len(values) or not values)
+
+
+def seq_of(sqn, bits):
     """The number that an SQN has, which is given by its 12 hexadecimal digits (TS 33.102 Annex C.1.1)."""
-    return int(sqn, 16) // 32
+    return int(sqn, 16) >> bits
+
+
+def sqns_in(session):
+    """The SQNs that a session's USIM told."""
+    notes = [note.split() for event in session.events for note in event.notes]
+    return [note[1] for note in notes if note[0] in ("accepted", "sync")]
+
+
+def find_bits(sessions):
+    """Tells each session how many bits IND has, by the SQNs of all sessions of its subscriber."""
+    groups = {}
+    for session in sessions:
+        groups.setdefault(subscriber_of(session) or session.number, []).append(session)
+    for group in groups.values():
+        bits = index_bits([sqn for session in group for sqn in sqns_in(session)])
+        for session in group:
+            session.bits = bits
 
 
 def rows_in(session):
@@ -228,6 +257,8 @@ class Reader:
         self.sessions, self.round, self.job_number, self.job, self.event = {}, 0, 0, None, None
         # The line before, if it changes a packet.
         self.change = None
+        # Whether the line before is a `give` line with a synchronisation failure.
+        self.refused = False
         # The session of the last `sim` line of the job, and how many sessions of such lines there are.
         self.sim, self.sims = None, 0
         # The sessions of the round, and the subscribers whose numbers moved in it and up to it.
@@ -246,7 +277,8 @@ class Reader:
 
     def read(self, line, text):
         words = text.split(" ")
-        word, change, self.change = words[0], self.change, None
+        word, change, refused = words[0], self.change, self.refused
+        self.change, self.refused = None, word == "give" and words[3:4] == ["sync"]
         if word in ("round", "job") and len(words) == 2:
             self.begin(word, self.number(words[1]))
         elif word == "session" and len(words) == 3 and words[2] in ("open", "agree", "differ"):
@@ -255,6 +287,8 @@ class Reader:
             self.bytes_of_packet(words, change)
         elif word == "bytes" and len(words) == 6:
             self.bytes_of_vector(words)
+        elif word == "auts" and len(words) == 3:
+            self.auts(words, refused)
         elif word == "keys" and len(words) == 6:
             self.keys(words)
         elif word in EVENTS and len(words) > EVENTS[word]:
@@ -317,6 +351,17 @@ class Reader:
             self.event.vector = words[1:]
         elif self.job:
             self.job.vectors[words[1]] = words[2:]
+
+    def auts(self, words, refused):
+        """AUTS of the line before, and the RAND that it answers. That of a `give` line is of no event."""
+        if not re.fullmatch(r"[0-9a-f]{28} [0-9a-f]{32}", " ".join(words[1:])):
+            raise Unreadable("the bytes aren't those of an AUTS and a RAND")
+        if refused:
+            return
+        event = self.event
+        if not event or event.failure or event.sent and event.sent.data or not any(note.startswith("sync ") for note in event.notes):
+            raise Unreadable("the AUTS is of no synchronisation failure")
+        event.failure = words[1:]
 
     def keys(self, words):
         if not self.event or not re.fullmatch(r"[0-9a-f]{32}", words[1]):
@@ -444,6 +489,7 @@ def sessions_in(text):
             raise Unreadable(f"line {line}: {reason}") from None
     for session in reader.sessions.values():
         find_copies(session)
+    find_bits(reader.sessions.values())
     return list(reader.sessions.values())
 
 

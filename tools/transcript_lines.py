@@ -23,6 +23,7 @@ LINES = {
              "sync {imsi} {result=beyond} {number} {seq}", "sync {imsi} {result=wrongmac}"],
     "give": ["give {imsi} {number} {result=accepted}", "give {imsi} {number} {result=sync} {sqn}",
              "give {imsi} {number} {result=absent}"],
+    "auts": ["auts {auts} {rand}"],
     "kasme": ["kasme {k_asme}"],
     "hxresstar": ["hxresstar {hxres_star}"],
     "fiveg": ["fiveg {imsi} {result=noseparation}", "fiveg {imsi} {result=servingrefused}", "fiveg {imsi} {result=homerefused}",
@@ -64,7 +65,7 @@ STEPS = ["", "ended {ended=success}", "ignored {ignored}", "{refused=nosuchpacke
 HEX = "(?:[0-9a-f]{2})+"
 # What a field looks like, if it isn't a number.
 TEXTS = {"imsi": "[0-9]{6,15}", "stop": "fault|full", "sqn": "[0-9a-f]{12}", "end": "server|peer", "why": "[a-z]+",
-         "ignored": "[a-z]+", "rand": "[0-9a-f]{32}", "autn": "[0-9a-f]{32}", "xres": HEX, "ck": "[0-9a-f]{32}",
+         "ignored": "[a-z]+", "auts": "[0-9a-f]{28}", "rand": "[0-9a-f]{32}", "autn": "[0-9a-f]{32}", "xres": HEX, "ck": "[0-9a-f]{32}",
          "ik": "[0-9a-f]{32}", "bytes": "(?:[0-9a-f]{2})*", "byte": "[0-9a-f]{2}", "k_encr": "[0-9a-f]{32}",
          "k_aut": "[0-9a-f]{64}", "k_re": "[0-9a-f]{64}", "msk": "[0-9a-f]{128}", "emsk": "[0-9a-f]{128}", "k_asme": "[0-9a-f]{64}", "hxres_star": "[0-9a-f]{32}",
          "home": "[0-9a-f]{64}", "device": "[0-9a-f]{64}"}
@@ -139,8 +140,9 @@ class Lines:
 
     def __init__(self):
         self.reader = Reader()
-        # What a line `bytes` is of: the subscriber's or the session's number before it.
-        self.drawn = None
+        # What a line `bytes` is of: the subscriber's or the session's number before it. What a line `auts` is of: the number that
+        # was given, or the end that answered.
+        self.drawn = self.refused = None
         # What a line on a key of EPS or on 5G is of: the vector that was released last in the job. Whether the line before is a
         # confirmed 5G authentication.
         self.released, self.confirmed = None, False
@@ -151,8 +153,8 @@ class Lines:
         self.reader.read(line, text)
         event = self.reader.event
         found = fields_of_event(event) if event is not before and event else self.fields_of_line(text)
-        if found["kind"] not in ("bytes", "packet", "keys"):
-            self.drawn = self.drawn_in(found)
+        if found["kind"] not in ("bytes", "auts", "packet", "keys"):
+            self.drawn, self.refused = self.drawn_in(found), refused_in(found)
         if found["kind"] in ("job", "vector"):
             self.released = self.drawn
         self.confirmed = found["kind"] == "fiveg" and found["result"] == "confirmed"
@@ -164,6 +166,8 @@ class Lines:
             if self.drawn is None:
                 raise Unreadable("the bytes are of no number")
             return found | self.drawn
+        if found["kind"] == "auts":
+            return found | self.refused
         if found["kind"] in ("kasme", "hxresstar", "fiveg", "seaf"):
             return found | self.vector_of(found)
         if found["kind"] in ("packet", "keys") and self.reader.event:
@@ -191,6 +195,15 @@ class Lines:
         if found["kind"] == "verdict":
             return {"round": reader.round, "job": reader.sessions[found["session"]].job}
         return {"round": reader.round, "job": None if found["kind"] in OUTSIDE_OF_JOBS else reader.job_number}
+
+
+def refused_in(found):
+    """Of a line with a synchronisation failure, what the AUTS after it is of: the subscriber and the number, or the session and the
+    end."""
+    if found["kind"] == "give" and found["result"] == "sync":
+        return {"imsi": found["imsi"], "number": found["number"]}
+    is_refused = any(note["note"] == "sync" for note in found.get("notes", []))
+    return {"session": found["session"], "end": found["end"]} if is_refused else None
 
 
 def refusal_in(text):

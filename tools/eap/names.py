@@ -8,7 +8,7 @@ from .streams import NAMES_STREAM, sixteen_of
 # re-authentication identities.
 PERMANENT, PSEUDONYM, RENEWAL = {23: b"0", 50: b"6"}, 1, 2
 DIGITS = {PSEUDONYM: {23: b"2", 50: b"7"}, RENEWAL: {23: b"4", 50: b"8"}}
-LAST_ORDINAL, NAME_SIZE = 2**48 - 1, 33
+LAST_ORDINAL, LONGEST_KEPT = 2**48 - 1, 255
 
 
 def username(text):
@@ -20,9 +20,9 @@ def with_realm(name, realm):
 
 
 def name_in(inner, kind):
-    """The name in an encrypted attribute, if it has the size of one that is given."""
+    """What a device keeps of the name in an encrypted attribute, if it is there: its username, of 1 to 255 bytes."""
     name = username(inner.get(kind, b""))
-    return name if len(name) == NAME_SIZE else None
+    return name if 1 <= len(name) <= LONGEST_KEPT else None
 
 
 class Names:

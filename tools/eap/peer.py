@@ -138,9 +138,11 @@ class Peer(End):
             return self.refuse(head, data, "missing")
         if why := self.refused_for(attrs):
             return self.refuse(head, data, why, REJECT)
-        note, f, auts = self.device.usim.challenge(attrs[AT_RAND][2:], attrs[AT_AUTN][2:])
+        rand = attrs[AT_RAND][2:]
+        note, f, auts = self.device.usim.challenge(rand, attrs[AT_AUTN][2:])
         self.notes.append(note)
         if auts:
+            self.failure = auts, rand
             function = number_attr(AT_KDF, 1) if self.kind == PRIME else b""
             return self.send(head, data, self.message(head, SYNC, attr(AT_AUTS, auts) + function))
         return self.on_accepted(head, data, attrs, f) if f else self.refuse(head, data, "wrongautn", REJECT)

@@ -96,7 +96,7 @@ class Server(End):
         self.notes.append(f"drew {number}")
         self.row, self.rand = row, rand_of(self.home.key, row.place, number)
         self.f = row.subscriber.functions(self.rand)
-        autn = self.f.autn(sqn_of(number), row.amf)
+        autn = self.f.autn(sqn_of(number, row.subscriber.bits), row.amf)
         keys = self.challenged = Keys(self.kind, self.name, self.identity, autn, self.f)
         self.vector = self.rand, autn, self.f.res, *keys.pair
         self.inputs = self.kind, self.name, row.place, self.rand, autn, self.identity

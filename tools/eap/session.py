@@ -15,7 +15,7 @@ from .messages import Head, checkcode
 from .milenage import Functions
 from .names import LAST_ORDINAL, PERMANENT, Names, username
 from .streams import Draws
-from .usim import MAX_SEQ, REACH, Usim, seq_of
+from .usim import BITS, REACH, Usim, seq_of, top_of
 
 LAST_COUNTER = 65535
 
@@ -26,6 +26,9 @@ class Subscriber:
     imsi: str = "001010000000001"
     k: bytes = bytes.fromhex("465b5ce8b199b49faa5f0a2ee238a6bc")
     opc: bytes = bytes.fromhex("cd63cb71954a9f4e48a5994e37a02baf")
+    # How many bits IND has, and the age limit of the USIM if it has one.
+    bits: int = BITS
+    age: int = None
 
     def functions(self, rand):
         """f1 to f5* of a RAND."""
@@ -66,15 +69,17 @@ class Row:
 
     def draw(self):
         """The next number; nothing if none is left."""
-        if self.number >= MAX_SEQ:
+        if self.number >= top_of(self.subscriber.bits):
             return None
         self.number += 1
         self.drawn += 1
         return self.number
 
     def resynchronise(self, sqn_ms):
-        """Takes the SQN_MS of an AUTS: the note of it."""
-        seq, seen = seq_of(sqn_ms), self.number
+        """Takes the SQN_MS of an AUTS: the note of it. A SEQ that is none of the subscriber's numbers is as good as a wrong MAC."""
+        seq, seen = seq_of(sqn_ms, self.subscriber.bits), self.number
+        if seq > top_of(self.subscriber.bits):
+            return "badauts"
         if seen + 1 - seq > REACH:
             return f"beyond {seen} {seq}"
         self.skipped += max(0, seq - seen)
@@ -120,7 +125,7 @@ class Device:
 
     def __init__(self, subscriber, opening, key, place=0, realm=b""):
         self.subscriber, self.key, self.place, self.realm = subscriber, key, place, realm
-        self.usim, self.names, self.contexts = Usim(subscriber.functions, opening), {}, {}
+        self.usim, self.names, self.contexts = Usim(subscriber.functions, opening, subscriber.bits, subscriber.age), {}, {}
 
     def adopt_challenged(self, kind, context):
         """After a full authentication a device keeps the new context, if an identity was given."""
@@ -151,8 +156,9 @@ class End:
         self.begin_turn()
 
     def begin_turn(self):
-        """What a turn leaves: its notes, whether it found a right AT_MAC, and the vector that it drew."""
-        self.notes, self.has_checked, self.vector = [], False, None
+        """What a turn leaves: its notes, whether it found a right AT_MAC, the vector that it drew, and AUTS with the RAND that it
+        answers if the USIM refused."""
+        self.notes, self.has_checked, self.vector, self.failure = [], False, None, None
 
     @property
     def has_ended(self):

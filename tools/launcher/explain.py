@@ -23,18 +23,20 @@ MAX_SHOWN = 160
 # The longest word that is shown: in a line that may hold keys, and in any other one.
 LONGEST_IN_SECRET, LONGEST_PLAIN = 4, 15
 # The first words of the lines that hold no key.
-PLAIN = "workers print realm round restart job draw give sync session start deliver repeat giveup plain tamper cut".split()
+PLAIN = "workers print realm round restart job draw give sync auts session start deliver repeat giveup plain tamper cut".split()
 
 CAUSES_OF_SUBSCRIBERS = {
-    "header": "the first record isn't imsi,k,kind,op,amf,seq,usim",
-    "fieldcount": "the record doesn't have seven fields",
+    "header": "the first record isn't imsi,k,kind,op,amf,seq,usim, nor the same with ,bits,age",
+    "fieldcount": "the record doesn't have as many fields as the header",
     "imsi": "IMSI isn't 6 to 15 decimal digits",
     "key": "K isn't 32 hexadecimal digits",
     "kind": "KIND is neither op nor opc",
     "op": "OP isn't 32 hexadecimal digits",
     "amf": "AMF isn't 4 hexadecimal digits",
-    "seq": "SEQ isn't 1 to 13 decimal digits, or it is above 8796093022207",
-    "usim": "USIM isn't 1 to 13 decimal digits, or it is above 8796093022207",
+    "bits": "BITS isn't one digit from 0 to 6",
+    "age": "AGE is neither - nor a number from 1 to 281474976710655",
+    "seq": "SEQ isn't 1 to 15 decimal digits, or it is above the subscriber's greatest number",
+    "usim": "USIM isn't 1 to 15 decimal digits, or it is above the subscriber's greatest number",
     "twice": "an earlier subscriber has the same IMSI",
     "toomany": "there are more than 65536 subscribers",
 }
@@ -52,7 +54,7 @@ CAUSES_OF_LINES = {
     "limit": "a limit is exceeded",
 }
 # The causes that a comment behind other words, or behind a blank, has.
-CAUSES_OF_FORM = ("fields", "unknownword", "hex", *"imsi key kind op amf seq usim".split())
+CAUSES_OF_FORM = ("fields", "unknownword", "hex", *"imsi key kind op amf bits age seq usim".split())
 OF_COMMENTS = "; a comment is a line of its own, with # as its first byte"
 
 
