@@ -4,10 +4,10 @@
     bench/first_build.py [--write] [--log FILE]
     bench/first_build.py --reckon N
 
-In a temporary clone of the last commit `./auc prove --anew` proves every crate that the program stands on, whatever an
-earlier run on this machine passed, and builds the program. Nothing else should run on the machine meanwhile. --write puts
-the figures into README.md and CONTRIBUTING.md, each between its marks; the script `auc` reads them there. --log says where
-the build's output goes; otherwise it goes to standard error.
+In a temporary clone of the last commit `./auc prove --anew --portable` proves every crate that the program stands on,
+whatever an earlier run on this machine passed, and builds the program for the kit's default processor. Nothing else should run
+on the machine meanwhile. --write puts the figures into README.md and CONTRIBUTING.md, each between its marks; the script `auc`
+reads them there. --log says where the build's output goes; otherwise it goes to standard error.
 
 --reckon builds nothing. It reckons from the minutes of each crate in CONTRIBUTING.md what a build takes on N processors, from
 4 on, with 6 GB of memory for each, and prints when which crates are proved. The order is that of tools/launcher/staging.py. A
@@ -49,7 +49,7 @@ def measured(log):
     with tempfile.TemporaryDirectory(prefix="auc-first-build-") as room:
         subprocess.run(["git", "clone", "-q", TOP, f"{room}/clone"], check=True)
         began = time.monotonic()
-        child = subprocess.Popen(["./auc", "prove", "--anew"], cwd=f"{room}/clone", stdout=log, stderr=log)
+        child = subprocess.Popen(["./auc", "prove", "--anew", "--portable"], cwd=f"{room}/clone", stdout=log, stderr=log)
         _, status, usage = os.wait4(child.pid, 0)
         child.returncode = os.waitstatus_to_exitcode(status)
         return child.returncode, (usage.ru_utime + usage.ru_stime) / 60, (time.monotonic() - began) / 60

@@ -9,7 +9,7 @@ eapoltest; without them the sessions are left out. All is on the loopback, in a 
 sessions    EAP-AKA, EAP-AKA' and EAP-SIM, each three times, before and after the gateway was killed. The USIM is ahead at
             first, so the first session by EAP-AKA and EAP-AKA' has a resynchronisation.
 kills       four clients ask for vectors of twelve subscribers, some of them with AUTS that are right, replayed or wrong. The
-            gateway, or the program that it runs, is killed at random moments. Each SQN that a client received is counted.
+            gateway, or the program that it keeps, is killed at random moments. Each SQN that a client received is counted.
 
 The exit status is 0 only if each session succeeded and no SQN came twice.
 """
@@ -37,8 +37,7 @@ from gateway_centre import Subscriber
 # The leading digit of the permanent identity of each method, and where its USIM is opened.
 METHODS = {"AKA": ("0", 500), "AKA'": ("6", 5000), "SIM": ("1", 0)}
 SESSIONS, CLIENTS, SUBSCRIBERS = 3, 4, 12
-# Vectors are kept ahead for fewer subscribers than there are, so that the program runs all the time.
-AHEAD, MOST_ANSWERS, LONGEST_WAIT = 8, 100, 3
+MOST_ANSWERS, LONGEST_WAIT = 100, 3
 
 
 def options():
@@ -62,7 +61,7 @@ class Gateway:
         self.folder, self.given, self.words = folder, given, words
         self.path = folder / "centre"
         (folder / "journal").mkdir()
-        rows = [",".join(row_of(place)) + "\n" for place in range(subscribers)]
+        rows = [",".join((imsi(place), *KEYS)) + "\n" for place in range(subscribers)]
         (folder / "subscribers").write_text(f"{HEADER}\n" + "".join(rows))
         self.child = None
 
@@ -84,7 +83,7 @@ class Gateway:
         self.child.wait()
 
     def kill_program(self):
-        """Kills the next run that is under way, if there is one soon: how many it killed."""
+        """Kills the program, if there is one soon: how many it killed."""
         path = Path(f"/proc/{self.child.pid}/task/{self.child.pid}/children")
         until = time.monotonic() + LONGEST_WAIT
         while time.monotonic() < until:
@@ -231,7 +230,7 @@ def killed(gateway, clients, given):
 def all_kills(given):
     with tempfile.TemporaryDirectory(dir="/tmp") as name:
         folder = Path(name)
-        gateway = Gateway(folder, given, SUBSCRIBERS, "--ahead", str(AHEAD), "--batch", str(AHEAD))
+        gateway = Gateway(folder, given, SUBSCRIBERS)
         clients = [Client(folder, place, given.seed + place) for place in range(CLIENTS)]
         try:
             gateway.start()

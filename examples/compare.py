@@ -1,16 +1,18 @@
 #!/usr/bin/env python3
-"""Runs each scenario of examples/ and compares what the program prints with the file of its expected output.
+"""Runs each scenario and each service of examples/ and compares what the program prints with the file of its expected output.
 
     examples/compare.py [--program PROGRAM] [--after LINE]
 
 PROGRAM is crates/auc_cli/out/auc_cli, which `rt ci`, `rt run` and `./auc prove` build, unless it is given. NAME.scenario has
 its expected output in NAME.expected, and the exit status must be 0; a scenario over a file of subscribers stands in
-the table below. Each example gets a line, and the last line is `N passed, M failed`. With --after, LINE is the last
-line of `rt ci`, and its counts are added; if LINE has no such counts, that is one failure.
+the table below. NAME.blocks is the standard input of a service, and NAME.expected has its replies. Each example gets a
+line, and the last line is `N passed, M failed`. With --after, LINE is the last line of `rt ci`, and its counts are added;
+if LINE has no such counts, that is one failure.
 
 The exit status is 0 if nothing failed, else 1.
 """
 import argparse
+import os
 import re
 import subprocess
 import sys
@@ -39,19 +41,22 @@ def counts_in(line):
     return (int(found[1]), int(found[2])) if found else (0, 1)
 
 
-def words_of(name):
+def words_of(path):
     """The words that run an example, from any folder."""
-    files = [f"{name}.scenario", *([SUBSCRIBERS[name]] if name in SUBSCRIBERS else [])]
+    if path.suffix == ".blocks":
+        return ["serve"]
+    files = [path.name, *([SUBSCRIBERS[path.stem]] if path.stem in SUBSCRIBERS else [])]
     return ["run", *(str(HERE / file) for file in files)]
 
 
-def fault_of(name, program):
+def fault_of(path, program):
     """What is wrong with an example; nothing if it is right."""
-    expected = HERE / f"{name}.expected"
+    expected = path.with_suffix(".expected")
     if not expected.exists():
         return f"there is no {expected.name}"
     try:
-        ran = ran_in_new_folder([program, *words_of(name)], timeout=SECONDS)
+        with open(path if path.suffix == ".blocks" else os.devnull, "rb") as heard:
+            ran = ran_in_new_folder([program, *words_of(path)], stdin=heard, timeout=SECONDS)
     except OSError as error:
         return f"the program could not be run: {error.strerror}"
     except subprocess.TimeoutExpired:
@@ -65,7 +70,7 @@ def fault_of(name, program):
 
 
 def stray(names):
-    """The expected outputs that no scenario has."""
+    """The expected outputs that no example has."""
     return sorted(path.name for path in HERE.glob("*.expected") if path.stem not in names)
 
 
@@ -73,14 +78,14 @@ def main():
     given = options()
     if not given.program.exists():
         print(f"examples: {given.program} isn't there; `./auc prove` builds it", file=sys.stderr)
-    names = sorted(path.stem for path in HERE.glob("*.scenario"))
+    examples = sorted([*HERE.glob("*.scenario"), *HERE.glob("*.blocks")])
     passed, failed = counts_in(given.after) if given.after is not None else (0, 0)
-    for name in names:
-        fault = fault_of(name, given.program.resolve())
-        print(f"examples/{name}.scenario: {'FAILED: ' + fault if fault else 'as expected'}")
+    for path in examples:
+        fault = fault_of(path, given.program.resolve())
+        print(f"examples/{path.name}: {'FAILED: ' + fault if fault else 'as expected'}")
         passed, failed = passed + (not fault), failed + bool(fault)
-    for name in stray(names):
-        print(f"examples/{name}: FAILED: there is no scenario for it")
+    for name in stray([path.stem for path in examples]):
+        print(f"examples/{name}: FAILED: there is no example for it")
         failed += 1
     print(f"{passed} passed, {failed} failed")
     sys.exit(1 if failed else 0)

@@ -1,32 +1,33 @@
-"""The authentication centre behind tools/gateway: its subscribers, the runs of the program, and the vectors drawn ahead.
+"""The authentication centre behind tools/gateway: its subscribers, the program as a child that stays alive, the blocks that it is
+asked, and the vectors of its replies.
 
-No socket is used here. Each vector is one that a run of the program released; AUTS alone are read here, by
-tools/eap.
+No socket is used here. Each vector is one that the program released.
 """
 import csv
 import io
 import os
 import re
 import subprocess
-from collections import OrderedDict, defaultdict, deque
+import time
+from collections import defaultdict, deque
 from itertools import islice
 from typing import NamedTuple
 
 from eap.milenage import Aes, Functions, opc_of
-from eap.usim import BITS, REACH, Usim, seq_of, top_of, triplet
+from eap.usim import BITS, Usim, seq_of, top_of, triplet
 
-# A run draws as many numbers of a subscriber as the program reserves at once. A run that drew one would begin 64 above the
-# last, so all its numbers would have one index, and a USIM refuses those out of order.
-AHEAD = 64
+# Seconds from the start of the program to its next start at the earliest, and for its end.
+BETWEEN_STARTS, LONGEST_END = 1, 5
+# Of a block: the most subscribers, and AUTS of a subscriber. Both keep it below its limit of 1048576 bytes.
+MOST_JOBS, MOST_AUTS = 1024, 4
 HEADER = "imsi,k,kind,op,amf,seq,usim".split(",")
 # The header of a file whose records also have the index length and the age limit, and what the others stand for.
 LONG_HEADER, USUAL = [*HEADER, "bits", "age"], (str(BITS), "-")
 ROW = re.compile(
     r"[0-9]{6,15},[0-9a-f]{32},opc?,[0-9a-f]{32},[0-9a-f]{4},[0-9]{1,15},[0-9]{1,15}(,[0-6],(-|[0-9]{1,15}))?", re.IGNORECASE)
 
-# With these statuses each vector in a whole line was released, and its number is reserved on the disk.
-RELEASING = (0, 6, 8, 10)
 STATUSES = {
+    0: "the program ended",
     1: "the program didn't know its words",
     2: "the program refused a subscriber",
     3: "the program refused the scenario",
@@ -102,7 +103,7 @@ def read_subscribers(data):
     return {row[0]: Subscriber(*row) for row in rows[1:]}
 
 
-# ---- runs of the program
+# ---- the program
 
 def in_memory(data):
     """A file that is on no disk, since it has keys: its descriptor."""
@@ -112,41 +113,130 @@ def in_memory(data):
     return held
 
 
-class Run:
-    """A run of the program that is under way, over a scenario and perhaps a file of subscribers."""
+class Heard(NamedTuple):
+    """What came of a call of the program. The text counts if each vector in its whole lines was released."""
+    status: int
+    text: str
+    counts: bool
 
-    def __init__(self, program, folder, *files):
+
+class Program:
+    """The program as a child, and what it has printed."""
+
+    def __init__(self):
+        self.child, self.text = None, bytearray()
+
+    def start(self, words, files, **more):
+        """Starts it, with the names of files behind its words. They are on no disk."""
         held = [in_memory(data) for data in files]
-        words = [program, "run", *(f"/proc/self/fd/{descriptor}" for descriptor in held)]
         try:
-            self.child = subprocess.Popen(words, cwd=folder, stdin=subprocess.DEVNULL, stdout=subprocess.PIPE, pass_fds=held)
+            words = [*words, *(f"/proc/self/fd/{descriptor}" for descriptor in held)]
+            self.child = subprocess.Popen(words, stdout=subprocess.PIPE, pass_fds=held, **more)
         finally:
             for descriptor in held:
                 os.close(descriptor)
-        self.output = self.child.stdout
-        os.set_blocking(self.output.fileno(), False)
-        self.pieces = []
+        os.set_blocking(self.child.stdout.fileno(), False)
 
-    def hear(self):
+    def output(self):
+        """What has to be listened to, if anything."""
+        return self.child and self.child.stdout
+
+    def take_output(self):
         """Takes what was printed since: whether the output has ended."""
         try:
-            piece = os.read(self.output.fileno(), 2**20)
+            piece = os.read(self.child.stdout.fileno(), 2**20)
         except BlockingIOError:
             return False
-        self.pieces.append(piece)
+        self.text += piece
         return not piece
 
+    def taken(self):
+        text, self.text = self.text.decode("ascii", "replace"), bytearray()
+        return text
+
     def ended(self):
-        """The status, which is below 0 if a signal ended the program, and the text."""
-        self.output.close()
-        return self.child.wait(), b"".join(self.pieces).decode("ascii", "replace")
+        """The status of a child whose output has ended. It is below 0 if a signal ended the program."""
+        self.child.stdout.close()
+        child, self.child = self.child, None
+        return child.wait()
 
     def kill(self):
-        self.child.kill()
+        if self.child is not None:
+            self.child.kill()
 
+
+class Service(Program):
+    """The program as a child that stays alive and answers one block after the other (docs/SERVICE.md)."""
+
+    def __init__(self, program, folder, data, workers):
+        super().__init__()
+        self.words, self.folder, self.data, self.workers = [program, "serve"], folder, data, workers
+        # What the child has still to get, how many replies it owes, and when another child may be started.
+        self.unsent, self.due, self.next_start = b"", 0, 0
+
+    def is_down(self):
+        """Whether it has to be started, also if nobody waits."""
+        return self.child is None
+
+    def is_ready(self):
+        return self.child is not None or self.next_start <= time.monotonic()
+
+    def begin_first(self):
+        self.begin(b"")
+
+    def begin(self, block):
+        """Hands on a block, if there is one; to a new child behind its header."""
+        if self.child is None:
+            self.next_start = time.monotonic() + BETWEEN_STARTS
+            # An interrupt of the gateway must not end the program before its answer.
+            self.start(self.words, [self.data], cwd=self.folder, stdin=subprocess.PIPE, start_new_session=True)
+            os.set_blocking(self.child.stdin.fileno(), False)
+            self.unsent, self.due = self.header(), 1
+        self.unsent, self.due = self.unsent + block, self.due + bool(block)
+        self.flush()
+
+    def header(self):
+        """The RANDs of a child follow from bytes that no other child has."""
+        lines = f"randkey {os.urandom(32).hex()}", f"workers {self.workers}", "print full", "end", ""
+        return "\n".join(lines).encode("ascii")
+
+    def flush(self):
+        """Hands on what the pipe takes. A child that has ended is seen when it is heard."""
+        try:
+            while self.unsent:
+                self.unsent = self.unsent[os.write(self.child.stdin.fileno(), self.unsent):]
+        except BlockingIOError:
+            pass
+        except BrokenPipeError:
+            self.unsent = b""
+
+    def hear(self):
+        """What came of the last block, or nothing as long as its reply isn't whole. What isn't whole when the child has ended
+        doesn't count."""
+        if self.take_output():
+            self.child.stdin.close()
+            self.unsent = b""
+            return Heard(self.ended(), self.taken(), False)
+        if self.text.endswith(b"end\n") and self.text.split(b"\n").count(b"end") == self.due:
+            self.due = 0
+            return Heard(0, self.taken(), True)
+        return None
+
+    def end(self):
+        """Ends the child as its input ends, and by a signal if that takes too long."""
+        if self.child is not None:
+            self.child.stdin.close()
+            try:
+                self.child.wait(LONGEST_END)
+            except subprocess.TimeoutExpired:
+                self.kill()
+            self.ended()
+
+
+# ---- vectors
 
 def lines_by_subscriber(text):
-    """The lines that a run printed of each subscriber, as words: `vector` with its bytes behind it, `sync`, `withheld` and
+    """The lines that were printed of each subscriber, as words: `vector` with its bytes behind it, `sync`, `withheld` and
     `exhausted`. A last line without its end isn't whole, and doesn't count."""
     found, vector = defaultdict(list), None
     for line in text.split("\n")[:-1]:
@@ -159,7 +249,19 @@ def lines_by_subscriber(text):
     return found
 
 
-# ---- vectors
+def auts_told(imsi, seq):
+    """What is told of an AUTS with this SEQ_MS, or with a wrong MAC-S: its cause, and the sentence."""
+    if seq is None:
+        return "wrongmac", f"an AUTS of {imsi} has a wrong MAC-S"
+    return "auts", f"the USIM of {imsi} is at {seq}"
+
+
+def told(words):
+    """What is told of a line that is no vector's."""
+    if words[0] == "sync" and words[2] != "beyond":
+        return auts_told(words[1], None if words[2] == "wrongmac" else words[-1])
+    return words[0], f"the program said: {' '.join(words)}"
+
 
 class Vector(NamedTuple):
     number: int
@@ -179,81 +281,92 @@ class Vector(NamedTuple):
         return f"{kc.hex()}:{sres.hex()}:{self.rand}"
 
 
+def vector_in(words):
+    """The vector of a `vector` line, which has its bytes behind it."""
+    return Vector(int(words[2]), *words[3:])
+
+
+class Job(NamedTuple):
+    """What a block asks of a subscriber: AUTS with their RANDs, and behind them requests."""
+    auts: tuple
+    requests: tuple
+
+    def lines(self, imsi):
+        return ["job", *(f"auts {imsi} {it} 0" for it in self.auts), *(f"draw {imsi} {it.count}" for it in self.requests)]
+
+
 class Centre:
-    """The vectors that were drawn ahead, and what is to be asked of the program for more."""
+    """What the service is asked for those who wait, and what they get of its replies. Each request draws the numbers that it asks
+    for, and no others."""
 
-    def __init__(self, subscribers, most):
-        self.subscribers, self.most = subscribers, most
-        # By subscriber, the one that was served last at the end.
-        self.ahead = OrderedDict()
-        # The greatest number that was drawn, or that an AUTS told: no vector at or below it is taken from a run.
+    def __init__(self, subscribers):
+        self.subscribers = frozenset(subscribers)
+        # By subscriber, the AUTS that the program has still to be told, in their order; and by request, what the last reply gave.
+        self.auts, self.ready = defaultdict(dict), {}
+        # The greatest number of each subscriber: later ones are above it, unless somebody put an older journal back.
         self.floors = {}
-        # The SEQ of an AUTS that the program has still to be told.
-        self.moves = {}
 
-    def take(self, imsi, count):
-        """The next vectors of a subscriber, or nothing if fewer were drawn ahead."""
-        ready = self.ahead.get(imsi, ())
-        if len(ready) < count:
-            return None
-        self.ahead.move_to_end(imsi)
-        return [ready.popleft() for _ in range(count)]
+    def take(self, request):
+        """The vectors of a request, or nothing if it has none yet."""
+        return self.ready.pop(request, None)
 
-    def resynchronise(self, imsi, seq):
-        """Keeps those vectors that a USIM of this SEQ_MS can accept. If none is left, the program is told of the AUTS
-        before it draws again. A replayed AUTS is below the vectors that are ready, and changes nothing."""
-        self.floors[imsi] = max(self.floors.get(imsi, 0), seq)
-        kept = deque(it for it in self.ahead.pop(imsi, ()) if seq < it.number <= seq + REACH)
-        if kept:
-            self.ahead[imsi] = kept
-        else:
-            self.move(imsi, seq)
-
-    def move(self, imsi, seq):
-        self.moves[imsi] = max(self.moves.get(imsi, 0), seq)
+    def take_auts(self, imsi, auts, rand):
+        """Keeps an AUTS for the subscriber's next block, so that a number above it is reserved there, and the AUTS needn't be told
+        again. Of too many the last ones are kept. What an AUTS is, the program's reply tells."""
+        kept = self.auts[imsi]
+        kept[f"{auts} {rand}"] = True
+        if len(kept) > MOST_AUTS:
+            del kept[next(iter(kept))]
 
     def batch(self, waiting, most):
-        """Those who wait and whom the next run can serve, at most so many."""
-        return list(islice(waiting, most))
+        """What the next block asks of those who wait, at most of so many."""
+        found = islice(waiting.items(), min(most, MOST_JOBS))
+        return {imsi: Job(tuple(self.auts.get(imsi, ())), tuple(requests)) for imsi, requests in found}
 
     def needs(self, waiting):
-        """What has to be asked before a run can serve those who wait: here nothing, since the journal says where a run begins."""
+        """What has to be asked elsewhere: nothing, since the journal has the numbers."""
         return {}
 
-    def row(self, imsi):
-        """A subscriber as the program reads it, and how many numbers the next run draws of it."""
-        return self.subscribers[imsi], AHEAD
-
     def scenario(self, batch):
-        """One round with a job for each subscriber. Its RANDs follow from bytes that no other run has."""
-        rows = [(*self.row(imsi), self.moves.get(imsi)) for imsi in batch]
-        lines = [f"randkey {os.urandom(32).hex()}", "print full", *(row.line() for row, _, _ in rows), "round"]
-        for row, count, move in rows:
-            lines += ["job", f"draw {row.imsi} {count}" if move is None else f"sync {row.imsi} {move} - {count}"]
-        return "\n".join([*lines, ""]).encode("ascii")
+        """A block of one round with a job for each subscriber, or nothing if there is none."""
+        lines = [line for imsi, job in batch.items() for line in job.lines(imsi)]
+        return "\n".join(["round", *lines, "end", ""]).encode("ascii") if lines else b""
 
     def learn(self, batch, text):
-        """Takes the vectors of a run's text: those of the batch that got one, and the lines that said why others didn't."""
-        found, given, refusals = lines_by_subscriber(text), set(), []
-        for imsi in batch:
-            for words in found[imsi]:
-                if words[0] == "vector":
-                    given.add(imsi)
-                    self.add(imsi, Vector(int(words[2]), *words[3:]))
-                elif words[0] == "sync" and self.moves.get(imsi) == int(words[-1]):
-                    del self.moves[imsi]
-                if words[0] in ("withheld", "exhausted") or words[0] == "sync" and words[2] == "beyond":
-                    refusals.append(" ".join(words))
-        while len(self.ahead) > self.most:
-            self.ahead.popitem(last=False)
-        return given, refusals
+        """Takes a reply: those of the batch that got a vector, and what is told."""
+        found, given = lines_by_subscriber(text), set()
+        sentences = [told(line.split()) for line in text.split("\n") if line.startswith("refused ")]
+        self.ready = {}
+        for imsi, job in batch.items():
+            self.forget(imsi, job.auts)
+            sentences += [told(words) for words in found[imsi] if words[0] != "vector"]
+            numbers = [int(words[2]) for words in found[imsi] if words[0] == "vector"]
+            if not self.rises(imsi, numbers):
+                sentences.append(("again", f"numbers of {imsi} came again: somebody put an older journal back"))
+            elif self.give(job.requests, found[imsi]):
+                given.add(imsi)
+        return given, sentences
 
-    def add(self, imsi, vector):
+    def rises(self, imsi, numbers):
+        """Whether all numbers are above those that came before."""
         floor = self.floors.get(imsi, 0)
-        if vector.number <= floor:
-            # An AUTS came during the run, or somebody put an older journal back: the number has to rise first.
-            self.move(imsi, floor)
-            return
-        self.floors[imsi] = vector.number
-        self.ahead.setdefault(imsi, deque()).append(vector)
-        self.ahead.move_to_end(imsi)
+        self.floors[imsi] = max([floor, *numbers])
+        return all(number > floor for number in numbers)
+
+    def forget(self, imsi, auts):
+        """Forgets the AUTS that the program was told."""
+        kept = self.auts.pop(imsi, {})
+        left = {it: True for it in kept if it not in auts}
+        if left:
+            self.auts[imsi] = left
+
+    def give(self, requests, lines):
+        """Gives the vectors of some lines to requests, in their order: whether there was one. Behind a number that is out of its
+        reach the USIM would refuse each of them."""
+        if any(words[0] == "sync" and words[2] == "beyond" for words in lines):
+            return False
+        vectors = deque(vector_in(words) for words in lines if words[0] == "vector")
+        for request in requests:
+            if request.count <= len(vectors):
+                self.ready[request] = [vectors.popleft() for _ in range(request.count)]
+        return any(request in self.ready for request in requests)

@@ -1,4 +1,5 @@
-"""The numbers of tools/gateway if several gateways share them: leases that a command gives out, and runs that begin at them.
+"""The numbers of tools/gateway if several gateways share them: leases that a command gives out, runs that begin at them, and the
+vectors that were drawn ahead.
 
 The command is `tools/master` or another one with its words. A gateway keeps its leases in memory alone, so after a restart
 it asks for new ones, and the numbers that it held are nobody's.
@@ -9,15 +10,17 @@ import select
 import subprocess
 import tempfile
 import time
-from collections import deque
+from collections import OrderedDict, deque
 from itertools import chain, islice
 from typing import NamedTuple
 
-from eap.usim import MAX_SEQ
-from gateway_centre import Centre, Refused, Run
+from eap.usim import MAX_SEQ, REACH
+from gateway_centre import Heard, Program, Refused, auts_told, lines_by_subscriber, told, vector_in
 
 # The journal of such a run matters as long as the run, so it stands in memory if there is room for files there.
 IN_MEMORY = "/dev/shm"
+# With these statuses each vector in a whole line was released, and its number is reserved on the disk.
+RELEASING = (0, 6, 8, 10)
 # A USIM whose index has 5 bits keeps the greatest SEQ of each of so many indices, and a number's index is its remainder (TS 33.102
 # Annex C.1.1).
 INDICES = 32
@@ -99,21 +102,48 @@ def leases_in(answer):
 
 # ---- the runs
 
-class FreshRun(Run):
-    """A run in a folder of its own, which ends with it: no journal moves its numbers away from the lease."""
+class Runs(Program):
+    """Runs of the program, one after the other, each in a folder of its own, which ends with it: no journal moves its numbers away
+    from the lease."""
 
-    def __init__(self, program, folder, *files):
-        self.own = tempfile.TemporaryDirectory(prefix="auc-run-", dir=folder)
+    # A run takes its scenario at once.
+    unsent = b""
+
+    def __init__(self, program, folder, data):
+        super().__init__()
+        self.words, self.folder, self.data, self.own = [program, "run"], folder, data, None
+
+    def is_down(self):
+        return False
+
+    def is_ready(self):
+        return True
+
+    def begin_first(self):
+        """A run that serves nothing, and judges the file of subscribers."""
+        self.begin(b"", self.data)
+
+    def begin(self, *files):
+        self.own = tempfile.TemporaryDirectory(prefix="auc-run-", dir=self.folder)
         try:
-            super().__init__(program, self.own.name, *files)
+            self.start(self.words, files, cwd=self.own.name, stdin=subprocess.DEVNULL)
         except OSError:
             self.own.cleanup()
             raise
 
-    def ended(self):
-        found = super().ended()
+    def flush(self):
+        pass
+
+    def hear(self):
+        """What came of a run, or nothing as long as it goes on."""
+        if not self.take_output():
+            return None
+        status, text = self.ended(), self.taken()
         self.own.cleanup()
-        return found
+        return Heard(status, text, status in RELEASING and bool(text))
+
+    def end(self):
+        """Each run ends by itself, and the gateway waits for it."""
 
 
 # ---- the leases
@@ -141,23 +171,78 @@ class Lease(NamedTuple):
         return self.last - self.first + 1
 
 
-class LeasedCentre(Centre):
-    """A centre whose runs draw the numbers of leases, each lease whole and in one run."""
+class LeasedCentre:
+    """What runs are asked for those who wait. They draw the numbers of leases, each lease whole and in one run, and the vectors are
+    kept until they are asked for."""
 
     def __init__(self, subscribers, most, site):
-        super().__init__(subscribers, most)
+        self.subscribers, self.most = subscribers, most
         unusual = next((it.imsi for it in subscribers.values() if not it.is_usual()), None)
         if unusual:
             raise Refused(f"leases are numbers by an index of 5 bits, without an age limit, and {unusual} has another profile")
         self.site, self.leases = site, {}
+        # By subscriber, the one that was served last at the end.
+        self.ahead = OrderedDict()
+        # The greatest number that was drawn, or that an AUTS told: no vector at or below it is taken from a run.
+        self.floors = {}
+        # The SEQ of an AUTS that the program has still to be told.
+        self.moves = {}
+
+    # The vectors
+
+    def take(self, request):
+        """The next vectors for a request, or nothing if fewer were drawn ahead."""
+        ready = self.ahead.get(request.imsi, ())
+        if len(ready) < request.count:
+            return None
+        self.ahead.move_to_end(request.imsi)
+        return [ready.popleft() for _ in range(request.count)]
+
+    def add(self, imsi, vector):
+        """Takes a vector whose number is leased and above the floor, and no other."""
+        lease, floor = self.leases[imsi], self.floors.get(imsi, 0)
+        if not lease.first <= vector.number <= lease.last:
+            return
+        if vector.number <= floor:
+            # An AUTS came during the run: the number has to rise first.
+            self.move(imsi, floor)
+            return
+        self.floors[imsi] = vector.number
+        self.ahead.setdefault(imsi, deque()).append(vector)
+        self.ahead.move_to_end(imsi)
+
+    def keep(self, imsi, is_right):
+        """Keeps those vectors of a subscriber whose number is right: whether one is left."""
+        kept = deque(it for it in self.ahead.pop(imsi, ()) if is_right(it.number))
+        if kept:
+            self.ahead[imsi] = kept
+        return bool(kept)
+
+    # AUTS
+
+    def take_auts(self, imsi, auts, rand):
+        """Reads an AUTS by the subscriber's key, and tells what it is."""
+        seq = self.subscribers[imsi].seq_in(auts, rand)
+        if seq is not None:
+            self.resynchronise(imsi, seq)
+        return auts_told(imsi, seq)
+
+    def resynchronise(self, imsi, seq):
+        """Keeps those vectors that a USIM of this SEQ_MS can accept. If none is left, the program is told of the AUTS
+        before it draws again. A replayed AUTS is below the vectors that are ready, and changes nothing."""
+        self.floors[imsi] = max(self.floors.get(imsi, 0), seq)
+        if not self.keep(imsi, lambda number: seq < number <= seq + REACH):
+            self.move(imsi, seq)
+
+    def move(self, imsi, seq):
+        self.moves[imsi] = max(self.moves.get(imsi, 0), seq)
+
+    # The leases
 
     def has_lease(self, imsi):
         """Whether there is a lease, given by a store that knew of the AUTS if one has to be told."""
         lease = self.leases.get(imsi)
         return lease is not None and lease.usim >= self.moves.get(imsi, 0)
-
-    def batch(self, waiting, most):
-        return list(islice(filter(self.has_lease, waiting), most))
 
     def needs(self, waiting):
         """What to ask, of those who wait without a lease and of those whose AUTS the store has still to be told: which number
@@ -178,40 +263,55 @@ class LeasedCentre(Centre):
         if sorted(imsi for imsi, *_ in found) != sorted(needs) or not all(self.is_right(needs[it[0]], *it[1:]) for it in found):
             raise Away("an answer doesn't belong to its request")
         spent = []
-        for imsi, *lease in found:
-            self.leases[imsi] = Lease(*lease)
-            self.forget(imsi, self.leases[imsi].usim)
-            if self.leases[imsi].count() < 1:
+        for imsi, *words in found:
+            lease = self.leases[imsi] = Lease(*words)
+            # Vectors at or below the SEQ of an AUTS are of no use, also of one that another gateway told.
+            self.keep(imsi, lambda number: number > lease.usim)
+            if lease.count() < 1:
                 spent.append(imsi)
                 del self.leases[imsi]
                 self.moves.pop(imsi, None)
         return spent
 
     def is_right(self, need, first, last, usim):
-        floor, told = need
-        return floor < first and last < first + self.site.size and last <= MAX_SEQ and told <= usim
+        floor, least = need
+        return floor < first and last < first + self.site.size and last <= MAX_SEQ and least <= usim
 
-    def forget(self, imsi, usim):
-        """Drops the vectors at or below the SEQ of an AUTS, also of one that another gateway told."""
-        kept = deque(it for it in self.ahead.get(imsi, ()) if it.number > usim)
-        if kept:
-            self.ahead[imsi] = kept
-        else:
-            self.ahead.pop(imsi, None)
+    # The runs
+
+    def batch(self, waiting, most):
+        """Those who wait and whom the next run can serve, at most so many."""
+        return list(islice(filter(self.has_lease, waiting), most))
+
+    def scenario(self, batch):
+        """One round with a job for each subscriber. Its RANDs follow from bytes that no other run has."""
+        lines = [f"randkey {os.urandom(32).hex()}", "print full", *map(self.row, batch), "round"]
+        for imsi in batch:
+            lines += ["job", self.drawing(imsi)]
+        return "\n".join([*lines, ""]).encode("ascii")
 
     def row(self, imsi):
-        lease = self.leases[imsi]
-        return self.subscribers[imsi]._replace(seq=str(lease.first - 1)), lease.count()
+        """A subscriber as the program reads it: it draws from the first number of the lease on."""
+        return self.subscribers[imsi]._replace(seq=str(self.leases[imsi].first - 1)).line()
+
+    def drawing(self, imsi):
+        count, move = self.leases[imsi].count(), self.moves.get(imsi)
+        return f"draw {imsi} {count}" if move is None else f"sync {imsi} {move} - {count}"
 
     def learn(self, batch, text):
-        """A run whose text counts has spent its leases, however many of their numbers it gave."""
-        found = super().learn(batch, text)
+        """Takes the vectors of a run's text: those of the batch that got one, and what is told. Such a run has spent its leases,
+        however many of their numbers it gave."""
+        found, given, sentences = lines_by_subscriber(text), set(), []
         for imsi in batch:
+            for words in found[imsi]:
+                if words[0] == "vector":
+                    given.add(imsi)
+                    self.add(imsi, vector_in(words))
+                elif words[0] == "sync" and self.moves.get(imsi) == int(words[-1]):
+                    del self.moves[imsi]
+                if words[0] in ("withheld", "exhausted") or words[0] == "sync" and words[2] == "beyond":
+                    sentences.append(told(words))
             del self.leases[imsi]
-        return found
-
-    def add(self, imsi, vector):
-        """Takes a vector whose number is leased, and no other."""
-        lease = self.leases[imsi]
-        if lease.first <= vector.number <= lease.last:
-            super().add(imsi, vector)
+        while len(self.ahead) > self.most:
+            self.ahead.popitem(last=False)
+        return given, sentences

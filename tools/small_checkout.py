@@ -25,6 +25,7 @@ PROGRAM = """#!/bin/sh
 # The stand-in for rt: it notes its words, builds by a copy, and fails or waits if it is told to.
 RT = """#!/bin/sh
 [ "$1" = version ] && echo "stand-in kit" && exit
+[ "$1" = doc ] && echo "$KIT/START-HERE.md" && exit
 echo "$*" >>"$CALLS"
 [ -z "$RT_NAP" ] || { echo $$ >"$RT_PID"; exec sleep "$RT_NAP"; }
 while [ -n "$RT_GATE" ] && [ ! -e "$RT_GATE" ]; do sleep 0.05; done
@@ -32,11 +33,24 @@ while [ -n "$RT_GATE" ] && [ ! -e "$RT_GATE" ]; do sleep 0.05; done
 [ -z "$RT_FAILS" ] || exit 1
 case $1 in
     ci) printf 'jobs=%s\\n' "$RT_JOBS" >>"$CALLS"; find . -type f | LC_ALL=C sort >"$RT_FILES"
-        printf 'rt: auc_low is kept: earlier\\n'; sleep 0.6; printf '== auc_cli\\n'
+        printf 'rt: auc_low is kept: earlier\\n'; sleep ${RT_PAUSE-0.6}; printf '== auc_cli\\n'
         [ -n "$RT_LEAVES_NONE" ] || { mkdir -p crates/auc_cli/out; cp "$RT_PROGRAM" crates/auc_cli/out/auc_cli; } ;;
     run) mkdir -p out; cp "$RT_PROGRAM" out/auc_cli; shift 2; exec out/auc_cli "$@" ;;
     try) printf '%s\\n' "$SAYS"; echo run=ended >&2; exit "${STATUS:-0}" ;;
 esac
+"""
+# Stand-ins for the kit's rattle and its linker: they note their words. What they build has the processor's name in a comment.
+RATTLE = """#!/bin/sh
+[ "$2" != --help ] || { echo 'For x86-64: `x86-64-v2`, the default, `x86-64-v3`'; exit; }
+echo "rattle $*" >>"$CALLS"
+echo "logic=proved functions=1 target=x86_64-unknown-linux-gnu cpu=${RATTLE_CPU-x86-64-v3} sum=0 native=nat,char,string" \\
+    "logic-built=trusted libraries-built=trusted statements=trusted"
+"""
+LINKER = """#!/bin/sh
+echo "rattle-link $*" >>"$CALLS"
+while [ "$1" != -o ]; do shift; done
+{ cat "${LINKED-$RT_PROGRAM}"; echo "# $2"; } >"$2"
+chmod +x "$2"
 """
 # A stand-in for an rt that keeps in the folder KEPT what `rt ci NAME` passed. It notes its words and jobs when it begins and
 # when it ends, and each crate that it proves. It waits at the crates RT_NAPS, and fails at the crate RT_FAILS once one waits.
@@ -116,6 +130,10 @@ class Checkout(unittest.TestCase):
         for name, text in texts.items():
             (self.top / name).write_text(text)
         self.executable("bin/rt", RT)
+        self.executable("kit/bin/rattle", RATTLE)
+        self.executable("kit/bin/rattle-link", LINKER)
+        with (self.top / "tools/launcher/processor.py").open("a") as file:
+            file.write(f"\n\nCPUINFO = Path({str(self.room / 'cpuinfo')!r})\n")
         self.program = self.executable("program", PROGRAM)
         self.environment = {
             **os.environ,
@@ -124,6 +142,7 @@ class Checkout(unittest.TestCase):
             "RT_PROGRAM": str(self.program),
             "RT_PID": f"{self.room}/pid",
             "RT_FILES": f"{self.room}/files",
+            "KIT": f"{self.room}/kit",
             "TMPDIR": f"{self.room}/tmp",
             "XDG_CACHE_HOME": f"{self.room}/cache",
         }
@@ -161,12 +180,17 @@ class Checkout(unittest.TestCase):
         """The calls of the stand-ins so far."""
         return self.calls.read_text().splitlines() if self.calls.exists() else []
 
-    def proved(self):
+    def proved(self, name="auc"):
         """Puts a proved program into its place, as a build leaves it."""
-        place = self.out / "proved/auc"
-        place.parent.mkdir(parents=True)
+        place = self.out / "proved" / name
+        place.parent.mkdir(parents=True, exist_ok=True)
         shutil.copy(self.program, place)
         return place
+
+    def processors(self, *flags):
+        """Has the machine of the calls to come processors with these flags, one for each argument."""
+        lines = [f"processor\t: {place}\nflags\t\t: fpu {it}\n" for place, it in enumerate(flags)]
+        (self.room / "cpuinfo").write_text("".join(lines))
 
     def aged(self, path, seconds=60):
         then = time.time() - seconds

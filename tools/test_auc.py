@@ -11,15 +11,18 @@ import resource
 import shutil
 import signal
 import subprocess
+import tempfile
 import time
 import unittest
+from pathlib import Path
+from unittest import mock
 
 from ends import run_main
-from launcher import costs, explain
+from launcher import compiling, costs, explain, processor
 from small_checkout import OPEN, PIPES, SECONDS, TOP, Checkout, as_a_user
 from trial import HEADER, K, OPC
 
-WRONG = ["", "rnu", "--hlep", "-x run", "--old", "--journal-dir", "prove x", "prove --jobs 0", "prove --jobs", "--version x"]
+WRONG = ["", "rnu", "--hlep", "-x run", "--old", "--journal-dir", "prove x", "prove --jobs 0", "prove --jobs", "--version x", "--portable"]
 RECORD = f"001010000000001,{K},opc,{OPC},8000,0,0"
 
 
@@ -117,6 +120,32 @@ class Runs(Checkout):
         (self.here / "auc.journal").write_text("")
         self.assertEqual(self.auc("run", "x", JOURNAL=1).stderr, told)
 
+    def test_a_service_hears_the_callers_input_and_is_heard_at_once(self):
+        echo = "#!/bin/sh\necho \"$*\"\nwhile read -r line; do echo \"got $line\"; done\nexit 8\n"
+        self.executable("top/crates/auc_cli/out/proved/auc", echo)
+        for options in ([], ["--progress"]):
+            child = self.started(*options, "serve", "s.csv", stdin=subprocess.PIPE, **PIPES)
+            self.assertEqual(child.stdout.readline(), "serve s.csv\n")
+            for line in ("round\n", "end\n"):
+                child.stdin.write(line)
+                child.stdin.flush()
+                self.assertEqual(child.stdout.readline(), f"got {line}")
+            self.assertEqual(child.communicate(timeout=SECONDS)[0], "")
+            self.assertEqual(child.returncode, 8)
+
+    def test_a_new_journal_is_told_while_a_service_goes_on(self):
+        begins = "#!/bin/sh\nread -r line\nprintf AUC-SQN-JOURNAL1 >auc.journal\necho $line\ncat\n"
+        self.executable("top/crates/auc_cli/out/proved/auc", begins)
+        for options in ([], ["--progress"]):
+            child = self.started(*options, "serve", stdin=subprocess.PIPE, **PIPES)
+            child.stdin.write("end\n")
+            child.stdin.flush()
+            self.assertEqual(child.stderr.readline(), f"auc: a new journal was begun: {self.here}/auc.journal\n")
+            said, told = child.communicate("more\n", timeout=SECONDS)
+            self.assertEqual((child.returncode, said), (0, "end\nmore\n"))
+            self.assertNotIn("a new journal was begun", told, "it is told once")
+            (self.here / "auc.journal").unlink()
+
     def test_reserved_makes_no_journal(self):
         ran = self.auc("reserved")
         self.assertEqual((ran.returncode, ran.stdout, ran.stderr), (4, "", f"auc: no journal in {self.here}\n"))
@@ -130,7 +159,9 @@ class Runs(Checkout):
         other.mkdir()
         ran = self.auc("--journal-dir", "../centre", "run", "day.scenario", "sub/s.csv", JOURNAL=1, AUC_JOURNAL_DIR=other)
         self.assertEqual(ran.stderr, f"auc: a new journal was begun: {centre}/auc.journal\n")
-        self.assertEqual(self.noted(), [f"{centre}: run {self.here}/day.scenario {self.here}/sub/s.csv"])
+        self.auc("--journal-dir", "../centre", "serve", "sub/s.csv")
+        calls = [f"{centre}: run {self.here}/day.scenario {self.here}/sub/s.csv", f"{centre}: serve {self.here}/sub/s.csv"]
+        self.assertEqual(self.noted(), calls)
         ran = self.auc("reserved", AUC_JOURNAL_DIR=other)
         self.assertEqual((ran.returncode, ran.stderr), (4, f"auc: no journal in {other}\n"))
         self.assertEqual(self.auc("--journal-dir=../centre", "reserved", SAYS="x").stdout, "x\n")
@@ -228,6 +259,32 @@ class Explanations(Checkout):
         self.assertEqual(self.said(3, "refused scenario 7 fields"), "a.scenario: refused scenario 7 fields")
         self.assertEqual(self.said(3, "round 1"), "auc: the file of the scenario is refused (status 3)")
 
+    def test_a_refused_header_is_not_heard_again(self):
+        self.assertEqual(
+            self.said(3, "refused scenario 2 fields", words=("serve",)),
+            "auc: the header is refused, by the line on standard output (status 3)")
+        self.assertEqual(len(self.noted()), 1)
+
+    def test_a_refused_record_of_a_service_is_found_without_its_input(self):
+        self.write("s.csv", f"{HEADER}\n12345\n")
+        judge = '#!/bin/sh\nreadlink /proc/$$/fd/0 >>"$CALLS"\necho refused subscribers 1 fieldcount\nexit 2\n'
+        self.executable("top/crates/auc_cli/out/proved/auc", judge)
+        child = self.started("serve", "s.csv", stdin=subprocess.PIPE, **PIPES)
+        self.assertEqual(child.stderr.readline(), "s.csv:2: 12345: the record doesn't have as many fields as the header (fieldcount)\n")
+        self.assertEqual((child.communicate(timeout=SECONDS), child.returncode), (("refused subscribers 1 fieldcount\n", ""), 2))
+        first, second = self.noted()
+        self.assertEqual((first[:5], second), ("pipe:", "/dev/null"), "the second run takes nothing of the input")
+
+    def test_faults_of_a_services_input_and_length_have_their_words(self):
+        words = ("serve", "s.csv")
+        self.assertEqual(self.said(4, words=words), "s.csv: No such file or directory (status 4)")
+        self.write("s.csv", RECORD)
+        self.assertEqual(self.said(4, words=words), "auc: standard input could not be read (status 4)")
+        self.assertIn("the service has heard all blocks that it can number", self.said(9, words=words))
+        with open(self.here / "s.csv", "wb") as file:
+            file.truncate(67108865)
+        self.assertEqual(self.said(9, words=words), "s.csv: it has 67108865 bytes, more than 67108864 (status 9)")
+
     def test_a_file_that_is_no_journal_is_named(self):
         self.assertEqual(
             self.said(7, "refused journal 5"),
@@ -296,6 +353,8 @@ class Explanations(Checkout):
             ran.stderr.splitlines(),
             ["auc: nothing is proved in this run", "a.scenario:1: draw 1: the line is in the wrong place (outoforder)"])
         self.assertEqual(self.noted(), [f"try --data input1={self.here}/a.scenario -- run input1"])
+        self.auc("--unproved", "serve", "a.scenario")
+        self.assertEqual(self.noted()[1:], [f"try --data input1={self.here}/a.scenario -- serve input1"])
 
 
 class Builds(Checkout):
@@ -403,6 +462,129 @@ class Builds(Checkout):
         self.assertIn("the command rt of the Rattle kit isn't on the PATH", ran.stderr)
 
 
+AVX2 = " ".join(processor.FEATURES)
+OTHERS = AVX2.replace(" avx2", "")
+NAMES = ["auc", "auc.x86-64-v3"]
+
+
+class Processors(unittest.TestCase):
+    def chosen(self, text, portable=False, can=True):
+        """The sentence on the processor for this text of /proc/cpuinfo; without a text there is no such file."""
+        with tempfile.TemporaryDirectory() as room, mock.patch.object(compiling, "can_build_for", lambda _: can):
+            file = Path(room) / "cpuinfo"
+            file.write_text(text) if text else None
+            with mock.patch.object(processor, "CPUINFO", file):
+                return processor.choice(portable).sentence().removeprefix("the program is built for ")
+
+    def test_each_feature_of_each_processor_counts(self):
+        own = "x86-64-v3: this processor has it. The default, x86-64-v2, is built too"
+        cases = [
+            (f"flags\t\t: fpu {AVX2} avx512f\n", own),
+            (f"flags : {AVX2.replace('abm', 'lzcnt')}\n", own),
+            *((f"flags : {' '.join({*processor.FEATURES} - {it})}\n", f"x86-64-v2, the default: this processor lacks {it} of x86-64-v3")
+              for it in processor.FEATURES),
+            (f"flags : {AVX2}\nflags : {OTHERS}\n", "x86-64-v2, the default: this processor lacks avx2 of x86-64-v3"),
+            (f"vmx flags : {AVX2}\nFeatures : asimd\n", "x86-64-v2, the default: the system doesn't tell what this processor has"),
+            ("", "x86-64-v2, the default: the system doesn't tell what this processor has"),
+        ]
+        for text, sentence in cases:
+            self.assertEqual(self.chosen(text), sentence, text)
+
+    def test_the_kit_and_the_caller_count_too(self):
+        text = f"flags : {AVX2}\n"
+        self.assertEqual(self.chosen(text, portable=True), "x86-64-v2, the default: --portable asks for it")
+        self.assertEqual(self.chosen(text, can=False), "x86-64-v2, the default: this kit doesn't build for x86-64-v3")
+
+    def test_only_a_whole_proof_for_the_processor_counts(self):
+        end = "sum=0 native=nat,char,string logic-built=trusted libraries-built=trusted"
+        line = f"logic=proved functions=9 axioms=5 target=x86_64-unknown-linux-gnu cpu=x86-64-v3 {end}"
+        for it in (line, f"{line} statements=trusted"):
+            self.assertTrue(compiling.is_proved(["rt: x", it, "linked"], "x86-64-v3"), it)
+        others = ["logic=not-proved", line.replace("v3", "v2"), line.replace("cpu=x86-64-v3 ", ""), line.replace("cpu", "hides=1 cpu"),
+                  f"{line} incremental=trusted", line.replace("sum", "foreign=1 sum"), f"{line}x"]
+        for it in [[], *([line, it] for it in others)]:
+            self.assertFalse(compiling.is_proved(it, "x86-64-v3"), it)
+
+
+class BuildsForProcessors(Checkout):
+    def setUp(self):
+        super().setUp()
+        self.environment["RT_PAUSE"] = "0"
+
+    def kept(self):
+        return sorted(it.name for it in (self.out / "proved").iterdir())
+
+    def rattle(self):
+        """The calls of the kit's own commands so far."""
+        return [it for it in self.noted() if it.startswith("rattle")]
+
+    def own(self):
+        """A program that tells that it is the one for this processor."""
+        return self.executable("own", "#!/bin/sh\n[ \"$1\" = vector ] || echo own\n")
+
+    def test_with_avx2_the_program_is_built_for_it_and_run(self):
+        self.processors(AVX2)
+        ran = self.auc("run", "x", LINKED=self.own(), SAYS="default")
+        self.assertEqual((ran.returncode, ran.stdout), (0, "own\n"))
+        self.assertIn("61 minutes of processor time", ran.stderr, "the program's crate is proved once more")
+        self.assertIn("auc: the program is built for x86-64-v3: this processor has it. The default, x86-64-v2, is built too\n", ran.stderr)
+        self.assertEqual((self.kept(), self.noted()[0]), (NAMES, "ci"))
+        proved, linked = self.rattle()
+        for words in ("rattle build --crate-name auc_cli src/main.rt ", f" --extern std={self.room}/kit/rlibs/std.rlib ",
+                      " --extern auc_low=../auc_low/out/rlib/auc_low.rlib ", " -L dependency=../auc_low/out/rlib ", " --cpu=x86-64-v3 "):
+            self.assertIn(words, proved)
+        self.assertIn(" -o out/x86-64-v3 out/x86-64-v3.o ", linked)
+        ran = self.auc("run", "x", RT_FAILS=1)
+        self.assertEqual((ran.stdout, ran.stderr), ("own\n", ""), "the second call builds nothing")
+        self.assertRegex(self.auc("--version").stdout, "\nproved and built here from these sources, for x86-64-v3\n")
+        ran = self.auc("--portable", "run", "x", SAYS="default", RT_FAILS=1)
+        self.assertEqual((ran.stdout, ran.stderr), ("default\n", ""), "the default is there, too")
+
+    def test_without_avx2_the_default_is_built_and_the_lack_told(self):
+        self.processors(AVX2, OTHERS)
+        ran = self.auc("run", "x", SAYS="default")
+        self.assertEqual((ran.returncode, ran.stdout), (0, "default\n"))
+        self.assertIn("auc: the program is built for x86-64-v2, the default: this processor lacks avx2 of x86-64-v3\n", ran.stderr)
+        self.assertEqual((self.kept(), self.rattle()), (["auc"], []))
+        self.assertRegex(self.auc("--version").stdout, "\nproved and built here from these sources, for x86-64-v2\n")
+
+    def test_portable_builds_the_default_alone_and_prove_the_other_one_after_that(self):
+        self.processors(AVX2)
+        ran = self.auc("prove", "--portable")
+        self.assertIn("auc: the program is built for x86-64-v2, the default: --portable asks for it\n", ran.stderr)
+        self.assertEqual((ran.returncode, self.kept(), self.rattle()), (0, ["auc"], []))
+        self.assertEqual(self.auc("run", "x", SAYS="default").stdout, "default\n", "a current program is run")
+        self.assertIn(f"the proved program is {self.out}/proved/auc.x86-64-v3\n", self.auc("prove", LINKED=self.own()).stderr)
+        self.assertEqual((self.kept(), len(self.rattle())), (NAMES, 2))
+        calls = len(self.noted())
+        for words, name in ((["prove"], "auc.x86-64-v3"), (["prove", "--portable"], "auc")):
+            self.assertTrue(self.auc(*words).stderr.endswith(f"the proved program is {self.out}/proved/{name}\n"))
+        self.assertEqual(len(self.noted()), calls, "both are current")
+
+    def test_a_kept_program_for_another_processor_is_not_run(self):
+        program = self.proved("auc.x86-64-v3")
+        self.processors(OTHERS)
+        self.assertEqual(self.auc("run", "x", SAYS="own", RT_FAILS=1).returncode, 70)
+        self.assertIn("not proved", self.auc("--version").stdout)
+        self.assertIn("no program was proved here yet", self.auc("--old", "run", "x").stderr)
+        self.processors(AVX2)
+        self.assertEqual(self.auc("run", "x", SAYS="own", RT_FAILS=1).stdout, "own\n")
+        self.assertEqual(self.auc("--portable", "run", "x", SAYS="own", RT_FAILS=1).returncode, 70)
+        self.aged(program)
+        self.assertEqual(self.auc("--old", "run", "x", SAYS="old").stdout, "old\n")
+
+    def test_if_it_cannot_be_built_for_this_processor_the_default_is_run(self):
+        self.processors(AVX2)
+        bad = self.executable("bad", "#!/bin/sh\nexit 1\n")
+        failed = f"the program could not be built for x86-64-v3, so it is that for x86-64-v2; see {self.out}/build.log\n"
+        cases = [({"RATTLE_CPU": "x86-64-v2"}, failed), ({"LINKED": bad}, failed), ({"KIT": "none"}, "doesn't build for x86-64-v3\n")]
+        for how, told in cases:
+            ran = self.auc("prove", "--anew", **how)
+            self.assertEqual((ran.returncode, self.kept()), (0, ["auc"]), how)
+            self.assertIn(told, ran.stderr)
+        self.assertEqual(self.auc("run", "x", SAYS="default").stdout, "default\n")
+
+
 class Releases(Checkout):
     def setUp(self):
         super().setUp()
@@ -472,6 +654,10 @@ class Releases(Checkout):
         self.assertEqual(self.auc("run", "x", without_rt=True).returncode, 0)
 
     def test_prove_builds_here(self):
+        self.processors(AVX2)
+        self.assertIn("`./auc prove` proves and builds it here, for x86-64-v3\n", self.auc("run", "x").stderr)
+        self.assertEqual(self.noted().pop(), f"{self.here}: run x", "the program of the release is run, and none built")
+        self.calls.unlink()
         self.assertEqual(self.auc("prove").returncode, 0)
         self.assertEqual(self.noted()[0], "ci")
         self.assertIn("proved and built here", self.auc("--version").stdout)

@@ -6,7 +6,7 @@ and judges what it leaves there.
 
 - A file auc.journal is a journal after each run: it begins with the header of one, or has no bytes.
 - With standard output closed the status is 5, the journal has the bytes of before, and none is made if there was none.
-- With others closed the run is as with all open: output, status and journal.
+- With others closed the run is as with all open: output, status and journal. But a service without standard input has no header.
 
 The exit status is 0 only if each rule holds.
 """
@@ -21,15 +21,16 @@ from trial import HEADER as FIELDS, KEYS, K, OPC, folder_with
 
 TOP = Path(__file__).resolve().parent.parent
 JOURNAL, HEADER = "auc.journal", b"AUC-SQN-JOURNAL1"
-WRITE_FAULT = 5
+WRITE_FAULT, NO_HEADER = 5, (b"refused scenario 1 unfinished\n", 3)
 SECONDS = 60
 FILES = {
     "day.scenario": "round\njob\ndraw 001010000000001 3\njob\ndraw 001010000000001 100\n",
     "subscribers.csv": f"{FIELDS}\n001010000000001,{','.join(KEYS)}\n",
+    "day.blocks": "end\nround\njob\ndraw 001010000000001 3\nend\n",
 }
 FORMS = [
     ["run", "day.scenario", "subscribers.csv"], ["reserved"], ["load", "7", "2", "2", "2"],
-    ["vector", K, OPC, "23553cbe9637a89d218ae64dae47bf35", "ff9bb4d0b607", "b9b9"],
+    ["vector", K, OPC, "23553cbe9637a89d218ae64dae47bf35", "ff9bb4d0b607", "b9b9"], ["serve", "subscribers.csv"],
 ]
 SUBSETS = [set(it) for count in range(4) for it in itertools.combinations((0, 1, 2), count)]
 
@@ -41,19 +42,27 @@ def journal_in(folder):
 
 
 def ran(program, words, journal, closed):
-    """A run over a journal of these bytes, if there are any: its output, its status, and the journal after it."""
+    """A run over a journal of these bytes, if there are any, whose input is blocks: its output, its status, and the journal after it."""
 
     def close():
         for descriptor in closed:
             os.close(descriptor)
 
     with folder_with(FILES if journal is None else FILES | {JOURNAL: journal}) as folder:
-        done = subprocess.run(
-            [program, *words], cwd=folder, stdin=subprocess.DEVNULL, stdout=subprocess.PIPE, stderr=subprocess.PIPE,
-            preexec_fn=close, timeout=SECONDS,
-        )
+        with open(Path(folder, "day.blocks"), "rb") as blocks:
+            done = subprocess.run(
+                [program, *words], cwd=folder, stdin=blocks, stdout=subprocess.PIPE, stderr=subprocess.PIPE, preexec_fn=close,
+                timeout=SECONDS,
+            )
         assert not done.stderr, (words, closed, done.stderr)
         return done.stdout, done.returncode, journal_in(folder)
+
+
+def wanted_of(words, journal, closed, whole):
+    """What a run has to come to, if it comes to this with all open."""
+    if 1 in closed:
+        return b"", WRITE_FAULT, journal
+    return (*NO_HEADER, journal) if 0 in closed and words[0] == "serve" else whole
 
 
 def judge(program, words, journal):
@@ -63,7 +72,7 @@ def judge(program, words, journal):
     breaches = 0
     for closed in SUBSETS:
         found = ran(program, words, journal, closed)
-        wanted = (b"", WRITE_FAULT, journal) if 1 in closed else whole
+        wanted = wanted_of(words, journal, closed, whole)
         is_journal = not found[2] or found[2].startswith(HEADER)
         if found != wanted or not is_journal:
             breaches += 1

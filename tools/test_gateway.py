@@ -5,6 +5,7 @@
 
 AUTS are made by the program's own `vector`, and SQNs are read by tools/eap.
 """
+import fcntl
 import os
 import random
 import signal
@@ -15,12 +16,13 @@ import sys
 import tempfile
 import time
 import unittest
+from contextlib import contextmanager
 from pathlib import Path
 
 from eap.session import Subscriber
 from eap.usim import MAX_SEQ, sqn_of, top_of, triplet
 from ends import run_main
-from gateway_centre import LONG_HEADER, Centre, Refused, read_subscribers
+from gateway_centre import BETWEEN_STARTS, LONG_HEADER, MOST_AUTS, Centre, Refused, Service, read_subscribers
 from trial import HEADER, K, OPC
 
 TOOLS = Path(__file__).resolve().parent
@@ -32,7 +34,32 @@ ROWS = f"{A},{K},opc,{OPC},8000,0,0\n{B},{K},op,{OP},8000,40,0\n{FAR},{K},opc,{O
 SUBSCRIBERS = f"{HEADER}\n{ROWS}"
 # Seconds that a test waits for what has to come, and for what must not.
 SOON, SILENCE = 30, 0.2
-KILLS, SEED = 50, 7
+KILLS, PROGRAM_KILLS, SEED = 50, 4, 7
+# The front of a stand-in for a program that stays alive: `block` is the next block, and `reply` what the program replies to it.
+BESIDE = """
+held = int(sys.argv[2].rpartition("/")[2])
+program = subprocess.Popen([PROGRAM, *sys.argv[1:]], stdin=subprocess.PIPE, stdout=subprocess.PIPE, pass_fds=[held])
+
+def lines_to_end(file):
+    text = b""
+    for line in file:
+        text += line
+        if line == b"end\\n":
+            break
+    return text
+
+def block():
+    return lines_to_end(sys.stdin.buffer)
+
+def reply(block):
+    program.stdin.write(block)
+    program.stdin.flush()
+    return lines_to_end(program.stdout)
+
+def say(text):
+    sys.stdout.buffer.write(text)
+    sys.stdout.flush()
+"""
 
 
 def functions(rand):
@@ -137,6 +164,19 @@ class Gateways(unittest.TestCase):
         """How many gateways have said that they serve."""
         return self.log.read_text().count("gateway: serves ") if self.log.exists() else 0
 
+    def program_of(self, child):
+        """The process of the program that a gateway keeps."""
+        until = time.monotonic() + SOON
+        while time.monotonic() < until:
+            found = Path(f"/proc/{child.pid}/task/{child.pid}/children").read_text().split()
+            if found:
+                return int(found[0])
+            time.sleep(0.01)
+        self.fail(f"the gateway keeps no program: {self.log.read_text()}")
+
+    def kill_program(self, child):
+        os.kill(self.program_of(child), signal.SIGKILL)
+
     def client(self, connected=True):
         self.clients += 1
         client = Client(self.folder / f"client{self.clients}")
@@ -144,6 +184,15 @@ class Gateways(unittest.TestCase):
         if connected:
             client.socket.connect(str(self.path))
         return client
+
+    def served(self, client, imsi=A):
+        """The first answer with a vector."""
+        until = time.monotonic() + SOON
+        while time.monotonic() < until:
+            answer = client.vector(imsi)
+            if not answer.endswith("FAILURE"):
+                return answer
+        self.fail(f"nothing is served: {self.log.read_text()}")
 
     def end(self, child):
         """The status after SIGTERM."""
@@ -156,6 +205,20 @@ class Gateways(unittest.TestCase):
         self.assertEqual(child.wait(SOON), 1)
         return self.log.read_text().splitlines()[-1]
 
+    @contextmanager
+    def journal_in_other_hands(self):
+        """Holds the lock of the journal, as soon as nobody has it."""
+        until = time.monotonic() + SOON
+        with (self.folder / "auc.journal").open("ab") as journal:
+            while True:
+                try:
+                    fcntl.flock(journal, fcntl.LOCK_EX | fcntl.LOCK_NB)
+                    break
+                except BlockingIOError:
+                    self.assertLess(time.monotonic(), until)
+                    time.sleep(0.01)
+            yield
+
     def script(self, text):
         """A program that stands for the centre's, with the words PROGRAM and its own words at hand."""
         path = self.folder / "program"
@@ -164,20 +227,16 @@ class Gateways(unittest.TestCase):
         return path
 
 
-class Runs(unittest.TestCase):
-    """What is asked of the program, and what is taken from its text."""
+# ---- blocks
 
-    def setUp(self):
-        self.centre = Centre(read_subscribers(SUBSCRIBERS.encode()), 10)
+class Asked:
+    """A request that waits."""
 
-    def asked(self):
-        return self.centre.scenario([A]).decode().splitlines()[-1]
+    def __init__(self, count):
+        self.count = count
 
-    def given(self, *lines, end="\n"):
-        self.centre.learn([A], "\n".join(("round 1", "job 1", *lines)) + end)
-        vectors = self.centre.take(A, 1)
-        return vectors and vectors[0].number
 
+class Subscribers(unittest.TestCase):
     def test_profile_of_a_subscriber_is_handed_on(self):
         rows = f"{A},{K},opc,{OPC},8000,0,0,3,-\n{B},{K},opc,{OPC},8000,0,0,5,-\n{FAR},{K},opc,{OPC},8000,0,0,6,20\n"
         of = read_subscribers(f"{','.join(LONG_HEADER)}\n{rows}".encode())
@@ -192,25 +251,85 @@ class Runs(unittest.TestCase):
         with self.assertRaises(Refused):
             read_subscribers(f"{HEADER}\n{rows}".encode())
 
-    def test_auts_is_told_once(self):
-        self.assertEqual(self.asked(), f"draw {A} 64")
-        self.centre.resynchronise(A, 700)
-        self.assertEqual(self.asked(), f"sync {A} 700 - 64")
-        self.assertEqual(self.given(f"sync {A} moved 0 700", f"vector {A} 701", "bytes 0 1 2 3 4"), 701)
-        self.assertEqual(self.asked(), f"draw {A} 64")
 
-    def test_auts_that_comes_during_a_run_is_told_after_it(self):
-        self.centre.resynchronise(A, 700)
-        self.assertIsNone(self.given(f"vector {A} 1", "bytes 0 1 2 3 4"))
-        self.assertEqual(self.asked(), f"sync {A} 700 - 64")
+class Blocks(unittest.TestCase):
+    """What is asked of the program, and what is taken from its replies."""
 
-    def test_line_that_is_not_whole_gives_no_vector(self):
-        self.assertIsNone(self.given(f"vector {A} 1", "bytes 0 1 2 3 4", end=""))
-        self.assertEqual(self.given(f"vector {A} 2", "bytes 0 1 2 3 4"), 2)
+    def setUp(self):
+        self.centre = Centre(read_subscribers(SUBSCRIBERS.encode()))
+        self.requests = [Asked(1), Asked(3), Asked(1)]
 
-    def test_each_run_has_another_key_of_its_rands(self):
-        keys = {self.centre.scenario([A]).splitlines()[0] for _ in range(20)}
-        self.assertEqual(len(keys), 20)
+    def asked(self, *requests, **more):
+        """The block for these requests of A and what more waits, as lines, and its batch."""
+        self.batch = self.centre.batch({A: requests, **more}, 10)
+        return self.centre.scenario(self.batch).decode().splitlines()
+
+    def given(self, *lines):
+        """The numbers that each request got by a reply with these lines, and what was told."""
+        text = "\n".join(("ready", "end", "round 1", "job 1", *lines, "end", ""))
+        given, told = self.centre.learn(self.batch, text)
+        vectors = [self.centre.take(it) for it in self.batch[A].requests]
+        self.assertEqual(A in given, any(vectors))
+        return [it and [vector.number for vector in it] for it in vectors], [sentence for _, sentence in told]
+
+    def vectors(self, *numbers):
+        return [line for number in numbers for line in (f"vector {A} {number}", "bytes 0 1 2 3 4")]
+
+    def test_block_has_a_job_for_each_subscriber_with_its_requests_in_order(self):
+        self.centre.take_auts(A, "11", "22")
+        lines = self.asked(*self.requests, **{B: [Asked(1)]})
+        draws = f"draw {A} 1", f"draw {A} 3", f"draw {A} 1"
+        self.assertEqual(lines, ["round", "job", f"auts {A} 11 22 0", *draws, "job", f"draw {B} 1", "end"])
+        self.assertEqual(list(self.centre.batch({A: [], B: []}, 1)), [A])
+        self.assertEqual(self.centre.scenario(self.centre.batch({}, 1)), b"")
+
+    def test_each_request_gets_its_vectors_once(self):
+        self.asked(*self.requests)
+        self.assertEqual(self.given(*self.vectors(1, 2, 3, 4, 5)), ([[1], [2, 3, 4], [5]], []))
+        self.assertEqual([self.centre.take(it) for it in self.requests], [None, None, None])
+        self.asked(*self.requests)
+        lines = [*self.vectors(6, 7), f"withheld {A} 8 fault"]
+        self.assertEqual(self.given(*lines), ([[6], None, [7]], [f"the program said: withheld {A} 8 fault"]))
+
+    def test_vectors_of_a_request_that_waits_no_longer_are_nobodys(self):
+        self.asked(*self.requests)
+        self.centre.learn(self.batch, "\n".join((*self.vectors(1, 2, 3, 4, 5), "end", "")))
+        self.asked(*self.requests)
+        self.assertEqual(self.given(f"exhausted {A} 0")[0], [None, None, None])
+
+    def test_auts_is_told_until_a_reply_came(self):
+        self.centre.take_auts(A, "11", "22")
+        self.centre.take_auts(A, "33", "44")
+        for _ in range(2):
+            self.assertEqual(self.asked(Asked(1))[2:4], [f"auts {A} 11 22 0", f"auts {A} 33 44 0"])
+        self.centre.take_auts(A, "55", "66")
+        found = self.given(f"sync {A} wrongmac", f"sync {A} moved 0 700", *self.vectors(701))
+        self.assertEqual(found, ([[701]], [f"an AUTS of {A} has a wrong MAC-S", f"the USIM of {A} is at 700"]))
+        self.assertEqual(self.asked(Asked(1))[2:], [f"auts {A} 55 66 0", f"draw {A} 1", "end"])
+        self.assertEqual(self.given(f"sync {A} inrange 701 700", *self.vectors(702))[1], [f"the USIM of {A} is at 700"])
+        self.assertEqual(self.asked(Asked(1))[2:], [f"draw {A} 1", "end"])
+
+    def test_last_ones_of_many_auts_are_kept(self):
+        for place in range(9):
+            self.centre.take_auts(A, place, place)
+        self.assertEqual(self.asked(Asked(1))[2:-2], [f"auts {A} {place} {place} 0" for place in range(9 - MOST_AUTS, 9)])
+
+    def test_number_out_of_reach_is_not_handed_out(self):
+        self.asked(Asked(1))
+        self.assertEqual(self.given(f"sync {A} beyond 268435500 0", *self.vectors(268435501))[0], [None])
+
+    def test_number_that_came_before_is_not_handed_out(self):
+        for numbers, wanted in (((1, 2), [1]), ((2, 3), None), ((3, 4), None), ((5,), [5])):
+            self.asked(Asked(1))
+            found, told = self.given(*self.vectors(*numbers))
+            self.assertEqual((found, len(told)), ([wanted], 0 if wanted else 1), numbers)
+
+    def test_refused_block_is_told_and_gives_nothing(self):
+        self.centre.take_auts(A, "11", "22")
+        self.asked(Asked(1))
+        given, told = self.centre.learn(self.batch, "refused scenario 3 hex\nend\n")
+        self.assertEqual((given, told), (set(), [("refused", "the program said: refused scenario 3 hex")]))
+        self.assertEqual(self.asked(Asked(1))[2:], [f"draw {A} 1", "end"])
 
 
 # ---- answers
@@ -321,10 +440,16 @@ class Resynchronisation(Gateways):
         self.resynchronise(client, client.vector(B), 5000, B)
         self.assertEqual([seq_in(client.vector(B)), seq_in(client.vector(A))], [5001, 1])
 
-    def test_auts_between_the_vectors_that_are_ready_drops_those_at_or_below_it(self):
+    def test_auts_goes_before_requests_that_came_with_it(self):
         _, client = self.start()
-        self.resynchronise(client, client.vector(), 10)
-        self.assertEqual(seq_in(client.vector()), 11)
+        answer = client.vector()
+        self.resynchronise(client, answer, 10)
+        client.say(f"AKA-REQ-AUTH {A}")
+        self.resynchronise(client, answer, 20)
+        client.say(f"SIM-REQ-AUTH {A} 2")
+        self.assertIn(seq_in(client.hear()), (11, 21))
+        self.assertEqual(client.hear().split()[0], "SIM-RESP-AUTH")
+        self.assertIn(seq_in(client.vector()), (23, 24))
 
     def test_wrong_auts_changes_nothing(self):
         _, client = self.start()
@@ -344,6 +469,7 @@ class Resynchronisation(Gateways):
         self.resynchronise(client, client.vector(FAR), 0, FAR)
         self.assertEqual(client.vector(FAR), f"AKA-RESP-AUTH {FAR} FAILURE")
         self.assertIn("beyond", self.log.read_text())
+        self.assertEqual(seq_in(client.vector()), 1)
 
 
 # ---- what goes wrong
@@ -380,34 +506,125 @@ class Killed(Gateways):
             child.wait()
         self.assertEqual(numbers, [1, 65, 129, 193])
 
-    def test_nothing_of_a_killed_run_is_handed_out(self):
-        # Each second run over subscribers of a scenario is killed after half of its text was printed.
-        program = self.script("""
-held = [int(word.rpartition("/")[2]) for word in sys.argv[2:]]
-done = subprocess.run([PROGRAM, *sys.argv[1:]], stdout=subprocess.PIPE, pass_fds=held)
-with open("runs", "a") as file:
-    file.write("x")
-odd = os.path.getsize("runs") % 2 == 0
-sys.stdout.buffer.write(done.stdout[:len(done.stdout) // 2] if odd else done.stdout)
-sys.stdout.flush()
-if odd:
-    os.kill(os.getpid(), signal.SIGKILL)
-sys.exit(done.returncode)
+    def test_no_number_comes_twice_over_kills_of_the_program(self):
+        child, client = self.start()
+        numbers = []
+        for _ in range(PROGRAM_KILLS):
+            numbers += [seq_in(client.vector()), seq_in(client.vector())]
+            self.kill_program(child)
+        numbers.append(seq_in(client.vector()))
+        self.assertEqual(numbers, [*(64 * kill + it for kill in range(PROGRAM_KILLS) for it in (1, 2)), 64 * PROGRAM_KILLS + 1])
+        self.assertIn("the program was ended by signal 9", self.log.read_text())
+
+    def test_auts_counts_although_the_program_is_killed_behind_it(self):
+        child, client = self.start()
+        rand = client.vector().split()[2]
+        client.say(f"AKA-AUTS {A} {auts(rand, 700)} {rand}")
+        client.ask("AKA-REQ-AUTH 999999")
+        self.kill_program(child)
+        self.assertEqual(seq_in(client.vector()), 701)
+
+    def test_nothing_of_a_reply_that_is_not_whole_is_handed_out(self):
+        # Each program but the first is killed after half of its third reply, of which the first is that to the header.
+        program = self.script(BESIDE + """
+for place in range(10**6):
+    text = reply(block())
+    if place == 3:
+        say(text[:len(text) // 2])
+        program.kill()
+        program.wait()
+        os.kill(os.getpid(), signal.SIGKILL)
+    if not text:
+        break
+    say(text)
 """)
         _, client = self.start(program=program)
-        numbers = [seq_in(client.vector()) for _ in range(130)]
-        # The runs reserved 1 to 64 for nobody, then 65 to 128, and so on.
-        self.assertEqual(numbers, [*range(65, 129), *range(193, 257), 321, 322])
+        numbers = [seq_in(client.vector()) for _ in range(5)]
+        # Of 1 to 64 and of 65 to 128 the third ones were nobody's.
+        self.assertEqual(numbers, [1, 2, 65, 66, 129])
         self.assertIn("the program was ended by signal 9", self.log.read_text())
+
+    def test_program_ends_with_the_gateway(self):
+        for number in signal.SIGTERM, signal.SIGINT, signal.SIGKILL:
+            child, client = self.start()
+            client.vector()
+            child.send_signal(number)
+            child.wait(SOON)
+            with self.journal_in_other_hands():
+                pass
+
+
+class Restarted(Gateways):
+    """The program that is started again."""
+
+    def test_program_is_started_at_most_once_a_second(self):
+        program = self.script("""
+with open("starts", "a") as file:
+    file.write("x")
+if os.path.exists("broken"):
+    sys.exit(8)
+os.execv(PROGRAM, [PROGRAM, *sys.argv[1:]])
+""")
+        child, client = self.start("--patience", "0.5", program=program)
+        (self.folder / "broken").touch()
+        begun = time.monotonic()
+        self.kill_program(child)
+        answers = [client.vector() for _ in range(5)]
+        most = 2 + (time.monotonic() - begun) / BETWEEN_STARTS
+        self.assertLessEqual((self.folder / "starts").stat().st_size, most)
+        self.assertEqual(set(answers), {f"AKA-RESP-AUTH {A} FAILURE"})
+        log = self.log.read_text()
+        self.assertLessEqual(log.count("the journal is full (status 8)"), most)
+        self.assertIn("the journal is full (status 8)", log)
+        (self.folder / "broken").unlink()
+        self.served(client)
+
+    def test_program_is_started_although_nobody_asks(self):
+        child, client = self.start()
+        first = self.program_of(child)
+        self.kill_program(child)
+        until = time.monotonic() + SOON
+        while self.program_of(child) == first and time.monotonic() < until:
+            time.sleep(0.01)
+        self.assertNotEqual(self.program_of(child), first)
+        self.assertEqual(seq_in(client.vector()), 1)
+
+    def test_answers_while_the_disk_fails(self):
+        # The journal has room for one frame, as long as there is a file of this name.
+        program = self.script("""
+import resource
+if os.path.exists("full"):
+    signal.signal(signal.SIGXFSZ, signal.SIG_IGN)
+    resource.setrlimit(resource.RLIMIT_FSIZE, (36, resource.getrlimit(resource.RLIMIT_FSIZE)[1]))
+os.execv(PROGRAM, [PROGRAM, *sys.argv[1:]])
+""")
+        (self.folder / "full").touch()
+        child, client = self.start("--patience", "3", program=program)
+        sqns = [sqn_in(client.vector()), sqn_in(client.vector())]
+        self.assertEqual(client.vector(B), f"AKA-RESP-AUTH {B} FAILURE")
+        self.assertEqual(client.vector(), f"AKA-RESP-AUTH {A} FAILURE")
+        self.assertEqual(client.vector("999999"), "AKA-RESP-AUTH 999999 FAILURE")
+        (self.folder / "full").unlink()
+        sqns += [sqn_in(self.served(client)), sqn_in(client.vector())]
+        self.assertEqual(sqns, [33, 66, 65 * 32 + 1, 66 * 32 + 2])
+        self.assertEqual(sqn_in(self.served(client, B)) >> 5, 41)
+        log = self.log.read_text()
+        self.assertIn(f"the program said: withheld {B} 41 fault", log)
+        self.assertIn("the journal couldn't be opened or written", log)
+        self.assertEqual(self.end(child), 0)
 
 
 class Slow(Gateways):
-    def test_slow_program_gets_fewer_subscribers_a_run(self):
+    def test_slow_program_gets_fewer_subscribers_a_block(self):
         # A fifth of a second for each subscriber, so that eight of them take longer than a request waits.
-        program = self.script("""
-scenario = open(sys.argv[2]).read()
-time.sleep(scenario.count("job") / 5)
-os.execv(PROGRAM, [PROGRAM, *sys.argv[1:]])
+        program = self.script(BESIDE + """
+while True:
+    asked = block()
+    time.sleep(asked.count(b"job") / 5)
+    text = reply(asked)
+    if not text:
+        break
+    say(text)
 """)
         imsis = [f"00101{place:010}" for place in range(100, 140)]
         self.file.write_text(SUBSCRIBERS + "".join(f"{imsi},{K},opc,{OPC},8000,0,0\n" for imsi in imsis))
@@ -420,64 +637,104 @@ os.execv(PROGRAM, [PROGRAM, *sys.argv[1:]])
             served.append(sum(not client.hear().endswith("FAILURE") for client in clients))
         self.assertGreater(sum(served[1:]), 0, served)
 
+    def test_request_fails_in_its_time_while_the_program_stands_still(self):
+        child, client = self.start("--patience", "0.3")
+        self.assertEqual(seq_in(client.vector()), 1)
+        program = self.program_of(child)
+        os.kill(program, signal.SIGSTOP)
+        self.assertEqual(client.vector(), f"AKA-RESP-AUTH {A} FAILURE")
+        self.assertEqual(client.vector("999999"), "AKA-RESP-AUTH 999999 FAILURE")
+        os.kill(program, signal.SIGCONT)
+        # The number of the request that failed is nobody's.
+        self.assertGreaterEqual(seq_in(self.served(client)), 3)
+
+    def test_block_that_no_pipe_takes_is_handed_on_in_pieces(self):
+        program = self.script("""
+time.sleep(0.3)
+for line in sys.stdin:
+    if line == "end\\n":
+        print("end", flush=True)
+""")
+        service = Service(str(program), str(self.folder), b"", 1)
+        self.addCleanup(service.end)
+        begun = time.monotonic()
+        service.begin(b"# a comment\n" * 50_000 + b"end\n")
+        self.assertTrue(service.unsent)
+        self.assertLess(time.monotonic() - begun, 0.3)
+        found = service.hear()
+        while found is None and time.monotonic() - begun < SOON:
+            service.flush()
+            found = service.hear()
+            time.sleep(0.001)
+        self.assertEqual(found, (0, "end\nend\n", True))
+
+    def test_each_program_has_another_key_of_its_rands(self):
+        keys = {Service("", "", b"", 1).header().splitlines()[0] for _ in range(20)}
+        self.assertEqual(len(keys), 20)
+
 
 class OlderJournal(Gateways):
     def test_number_does_not_come_again_while_the_gateway_lives(self):
-        _, client = self.start()
+        child, client = self.start()
         journal = self.folder / "auc.journal"
         numbers = [seq_in(client.vector())]
         older = journal.read_bytes()
         numbers += [seq_in(client.vector()) for _ in range(127)]
+        self.assertEqual(numbers, list(range(1, 129)))
         journal.write_bytes(older)
-        numbers += [seq_in(client.vector()) for _ in range(3)]
-        self.assertEqual(numbers, list(range(1, 132)))
+        self.kill_program(child)
+        self.assertEqual([client.vector() for _ in range(64)], [f"AKA-RESP-AUTH {A} FAILURE"] * 64)
+        self.assertIn(f"numbers of {A} came again", self.log.read_text())
+        self.assertEqual(seq_in(client.vector()), 129)
 
 
 class Held(Gateways):
     """The journal is in another process's hands."""
 
-    def held(self):
-        """A run by hand that stands still while it has the journal."""
-        scenario = self.folder / "scenario"
-        rounds = ["round", "job", f"draw {B} 1000"] * 1000
-        scenario.write_text("\n".join([f"subscriber {B} {K} opc {OPC} 8000 0 0", *rounds, ""]))
-        child = subprocess.Popen([PROGRAM, "run", scenario], cwd=self.folder, stdout=subprocess.PIPE)
-        child.stdout.readline()
+    @contextmanager
+    def held(self, child):
+        """The program of a gateway is killed, and the journal is held before there is another one."""
         child.send_signal(signal.SIGSTOP)
-        self.addCleanup(child.stdout.close)
-        self.addCleanup(self.kill, child)
-        return child
+        self.kill_program(child)
+        with self.journal_in_other_hands():
+            child.send_signal(signal.SIGCONT)
+            yield
 
     def test_request_fails_after_its_time_and_later_ones_are_served(self):
-        _, client = self.start("--patience", "0.3")
-        other = self.held()
-        self.assertEqual(client.vector(), f"AKA-RESP-AUTH {A} FAILURE")
-        self.assertIn("another process uses it", self.log.read_text())
-        other.kill()
-        other.wait()
-        until = time.monotonic() + SOON
-        while client.vector().endswith("FAILURE") and time.monotonic() < until:
-            pass
+        child, client = self.start("--patience", "0.3")
+        with self.held(child):
+            until = time.monotonic() + SOON
+            while "another process uses it" not in self.log.read_text() and time.monotonic() < until:
+                self.assertEqual(client.vector(), f"AKA-RESP-AUTH {A} FAILURE")
+        self.served(client)
         self.assertLess(time.monotonic(), until)
 
     def test_request_waits_until_the_journal_is_free(self):
-        _, client = self.start()
-        other = self.held()
-        client.say(f"AKA-REQ-AUTH {A}")
-        self.assertIsNone(client.hear(SILENCE))
-        other.kill()
-        other.wait()
+        child, client = self.start()
+        with self.held(child):
+            client.say(f"AKA-REQ-AUTH {A}")
+            self.assertIsNone(client.hear(SILENCE))
         self.assertEqual(seq_in(client.hear()), 1)
 
     def test_waiting_requests_get_failure_at_the_end(self):
         child, client = self.start()
-        self.held()
-        client.say(f"AKA-REQ-AUTH {A}")
-        client.say(f"SIM-REQ-AUTH {B} 3")
-        time.sleep(SILENCE)
-        self.assertEqual(self.end(child), 0)
+        with self.held(child):
+            client.say(f"AKA-REQ-AUTH {A}")
+            client.say(f"SIM-REQ-AUTH {B} 3")
+            time.sleep(SILENCE)
+            self.assertEqual(self.end(child), 0)
         self.assertEqual({client.hear(), client.hear()}, {f"AKA-RESP-AUTH {A} FAILURE", f"SIM-RESP-AUTH {B} FAILURE"})
         self.assertFalse(self.path.exists())
+
+    def test_gateway_starts_when_the_journal_gets_free(self):
+        with self.journal_in_other_hands():
+            child = self.begin()
+            time.sleep(SILENCE)
+        until = time.monotonic() + SOON
+        while not self.times_served() and time.monotonic() < until:
+            time.sleep(0.01)
+        self.assertEqual(seq_in(self.client().vector()), 1)
+        self.assertEqual(self.end(child), 0)
 
 
 class Starts(Gateways):

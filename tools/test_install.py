@@ -15,7 +15,7 @@ from unittest import mock
 
 from ends import run_main
 from launcher import help as texts
-from launcher import install
+from launcher import install, processor
 from small_checkout import PIPES, SECONDS, TOP, Checkout
 
 # The stand-in for a program that runs while it is replaced.
@@ -35,8 +35,8 @@ class Prefix(Checkout):
         super().setUp()
         for name in [f"tools/{it}" for it in (*install.TOOLS, *install.MODULES, "completion.bash")]:
             shutil.copy(TOP / name, self.top / name)
-        for name in install.PACKAGES:
-            shutil.copytree(TOP / "tools" / name, self.top / "tools" / name, dirs_exist_ok=True)
+        for name in {*install.PACKAGES} - {"launcher"}:
+            shutil.copytree(TOP / "tools" / name, self.top / "tools" / name)
         for name in ("docs/auc.1", "docs/USER-GUIDE.md", "docs/OPERATOR.md", "docs/INSTALL.md", "examples/first.scenario"):
             (self.top / name).parent.mkdir(exist_ok=True)
             shutil.copy(TOP / name, self.top / name)
@@ -85,6 +85,8 @@ class Installs(Prefix):
         self.assertEqual(self.noted(), [])
 
     def test_the_released_program_goes_before_the_one_that_was_proved_here(self):
+        self.processors(" ".join(processor.FEATURES))
+        self.proved("auc.x86-64-v3").write_text("#!/bin/sh\necho for this processor alone\n")
         self.proved().write_text("#!/bin/sh\necho proved here\n")
         self.install()
         self.assertEqual(self.installed("run", "x", SAYS="released").stdout, "released\n")
@@ -364,6 +366,7 @@ class Completions(unittest.TestCase):
         cases = [
             (["re"], ["reserved"]), (["run", "examples/first.s"], ["examples/first.scenario"]),
             (["run", "examples/first.scenario", "examples/subs"], ["examples/subscribers.csv"]),
+            (["serve", "examples/subs"], ["examples/subscribers.csv"]), (["serv"], ["serve"]),
             (["--journal-dir", "exam"], ["examples"]), (["--journal-dir", "examples", "res"], ["reserved"]),
             (["install", "exam"], ["examples"]), (["install", "--r"], ["--remove"]), (["install", "--remove", "exam"], ["examples"]),
             (["reserved", ""], []), (["vector", ""], []), (["vector", *"abcde", ""], ["autn"]), (["vector", *"abcdef", ""], []),

@@ -131,6 +131,23 @@ class Leased(unittest.TestCase):
         words = self.asked()
         self.assertEqual((words[2].split()[6], words[-1]), ("711", f"sync {A} 700 - 8"))
 
+    def test_auts_that_comes_during_a_run_is_told_after_it(self):
+        self.grant(f"leased {A}:8:15:0")
+        self.centre.resynchronise(A, 700)
+        self.learn(*range(8, 16))
+        self.assertEqual(self.ahead(), [])
+        self.grant(f"leased {A}:712:719:700")
+        self.assertEqual(self.asked()[-1], f"sync {A} 700 - 8")
+
+    def test_line_that_is_not_whole_gives_no_vector(self):
+        self.grant(f"leased {A}:8:15:0")
+        self.centre.learn([A], f"round 1\njob 1\nvector {A} 8\nbytes 0 1 2 3 4\nvector {A} 9\nbytes 0 1 2 3 4")
+        self.assertEqual(self.ahead(), [8])
+
+    def test_each_run_has_another_key_of_its_rands(self):
+        self.grant(f"leased {A}:8:15:0")
+        self.assertEqual(len({self.asked()[0] for _ in range(20)}), 20)
+
     def test_vector_outside_the_lease_is_not_taken(self):
         self.grant(f"leased {A}:8:15:0")
         self.learn(7, 8, 15, 16, 80)

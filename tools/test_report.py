@@ -24,7 +24,8 @@ from trial import loaded
 TOOLS = Path(__file__).resolve().parent
 TOP = TOOLS.parent
 EXAMPLES = TOP / "examples"
-EXPECTED = sorted(EXAMPLES.glob("*.expected"))
+# The transcripts of the examples. The replies of a service are none.
+EXPECTED = sorted(it.with_suffix(".expected") for it in EXAMPLES.glob("*.scenario"))
 WHOLE_PAGE = (TOP / "docs/TRANSCRIPT.md").read_text()
 # A line for EPS, and 5G authentications of each outcome; the keys are runs of equal bytes.
 FURTHER = f"""round 1

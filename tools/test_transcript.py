@@ -23,6 +23,8 @@ EXAMPLES, CHARTS = TOOLS.parent / "examples", TOOLS.parent / "docs/charts"
 FULL = EXAMPLES / "session-full-print.expected"
 PSEUDONYMS = EXAMPLES / "pseudonyms-full-print.expected"
 AGAIN = EXAMPLES / "re-authentication-full-print.expected"
+# The transcripts of the examples. The replies of a service are none.
+EXPECTED = sorted(it.with_suffix(".expected") for it in EXAMPLES.glob("*.scenario"))
 
 
 chart, pcap = loaded("chart"), loaded("pcap")
@@ -278,7 +280,7 @@ class Charts(unittest.TestCase):
         self.assertEqual(ladder_of(lines).facts, "EAP-AKA, subscriber 001010000000001")
 
     def test_picture_has_each_label(self):
-        for text in [CHANGED, SIM, *(path.read_text() for path in EXAMPLES.glob("*.expected"))]:
+        for text in [CHANGED, SIM, *(path.read_text() for path in EXPECTED)]:
             shown = [it for it in self.ladders(text) if it.rows]
             if shown:
                 root = ElementTree.fromstring(picture.picture(shown))
@@ -338,7 +340,7 @@ class Titles(unittest.TestCase):
             self.assertEqual(ladders.ladder_of(sessions[1]).facts, facts)
 
     def test_no_subscriber_of_an_example_is_wrong(self):
-        for path in EXAMPLES.glob("*.expected"):
+        for path in EXPECTED:
             scenario = path.with_suffix(".scenario").read_text().splitlines()
             rows = [line.split() for line in scenario]
             told = {words[1]: words[2] for words in rows if len(words) > 6 and words[0] == "session"}
@@ -433,7 +435,7 @@ class Slopes(unittest.TestCase):
         self.assertLess(tail[1], tip[1])
 
     def test_no_row_stands_above_the_one_before(self):
-        for path in EXAMPLES.glob("*.expected"):
+        for path in EXPECTED:
             for session in transcript.sessions_in(path.read_text()):
                 if session.events:
                     rows = ladders.rows_of(session)

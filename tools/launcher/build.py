@@ -4,6 +4,9 @@
 proved again, and so stages prove the crates before that, which takes less time. It works on a copy of these crates alone,
 without their must-fail edits: the gate tries those. The new program is then run at the first test set of TS 35.208, and moved
 to its place at the very end, so the old one stays until then.
+
+That program is for the kit's default processor. If this one has more, the program is built for it, too, and kept beside the
+first one: tools/launcher/processor.py.
 """
 import contextlib
 import fcntl
@@ -19,7 +22,7 @@ import time
 from dataclasses import dataclass
 from pathlib import Path
 
-from . import costs, sources, staging
+from . import compiling, costs, processor, sources, staging
 from .following import Builders
 from .places import CRATE, OUT, TOP, Stopped, say
 
@@ -33,19 +36,32 @@ TRIAL = ["vector", K, OPC, RAND, "ff9bb4d0b607", "b9b9"]
 PASSABLE = 0o711
 
 
-def built():
-    """The programs that were proved here, by this script or by the gate."""
-    return [it for it in (PROVED, GATES) if os.access(it, os.X_OK) and it.is_file()]
+def place_of(cpu):
+    """Where the program for a processor is kept. Its name tells which one."""
+    return PROVED if cpu == processor.DEFAULT else PROVED.with_name(f"{PROVED.name}.{cpu}")
 
 
-def current():
+def cpu_of(program):
+    """The processor that a program which was proved here is for. The gate's is for the default."""
+    return processor.V3 if program == place_of(processor.V3) else processor.DEFAULT
+
+
+def built(portable=False):
+    """The programs that were proved here, by this script or by the gate, and that run on this processor: first the one for it.
+    Those for the default alone, if they are asked for."""
+    programs = [it for it in (place_of(processor.V3), PROVED, GATES) if os.access(it, os.X_OK) and it.is_file()]
+    cpus = (processor.DEFAULT,) if portable else (processor.DEFAULT, processor.V3)
+    return [it for it in programs if cpu_of(it) in cpus and processor.runs(cpu_of(it))]
+
+
+def current(portable=False):
     """A proved program that no source is newer than; nothing if there is none."""
-    return next((it for it in built() if sources.are_older_than(it)), None)
+    return next((it for it in built(portable) if sources.are_older_than(it)), None)
 
 
-def last():
+def last(portable=False):
     """The program that was proved last; nothing if there is none."""
-    return max(built(), key=lambda it: it.stat().st_mtime_ns, default=None)
+    return max(built(portable), key=lambda it: it.stat().st_mtime_ns, default=None)
 
 
 def need_rt():
@@ -105,20 +121,22 @@ def pass_crates(given, builders):
     return builders.run(["ci", "--anew"] if is_anew else ["ci"], given.jobs)
 
 
-def announce(jobs):
-    measured = costs.build()
+def announce(jobs, choice):
+    measured = costs.build(is_for_two=choice.cpu != processor.DEFAULT)
     how = f"{jobs} jobs side by side" if jobs > 1 else "one crate after the other"
     say(
         f"proving and building the program, {how}: {measured.work} minutes of processor time, about"
         f" {math.ceil(measured.minutes(jobs))} minutes in all, less if some crates are proved; the log is {LOG}"
     )
+    say(choice.sentence())
 
 
-def keep(program):
-    """Moves a copy of the new program to its place, whole."""
-    beside = PROVED.with_suffix(".new")
+def keep(program, place, began):
+    """Moves a copy of a new program to its place, whole. A source that was changed since the beginning makes it an old one."""
+    os.utime(program, ns=(began, began))
+    beside = place.with_name(f"{place.name}.new")
     shutil.copy2(program, beside)
-    os.replace(beside, PROVED)
+    os.replace(beside, place)
 
 
 def passes_trial(program, log):
@@ -128,35 +146,55 @@ def passes_trial(program, log):
         return False
 
 
-def prove(given):
+def default_program(given, builders, crate):
+    """The program for the default, proved and built in the folder of its crate."""
+    made, is_proved = crate / "out" / CRATE.name, pass_crates(given, builders)
+    if is_proved and not made.exists():
+        # (the gate of this kit leaves no program)
+        builders.run(["run", "--", *TRIAL], given.jobs, crate)
+    if not is_proved or not passes_trial(made, builders.log):
+        raise Stopped(f"the program was not built; see {LOG}. If the memory ran out, `./auc prove --jobs 1` takes less")
+    return made
+
+
+def program_for(cpu, given, builders, crate):
+    """The program for another processor, from what the default one was built from; nothing if it couldn't be built."""
+    say(f"now {CRATE.name} is proved once more, and the program compiled for {cpu}")
+    made = compiling.built(cpu, crate, builders, min(costs.MOST, given.jobs or costs.jobs_here()))
+    if made and passes_trial(made, builders.log):
+        return made
+    say(f"the program could not be built for {cpu}, so it is that for {processor.DEFAULT}; see {LOG}")
+    return None
+
+
+def prove(given, cpu):
     """Proves and builds. The caller holds the lock."""
     began = time.time_ns()
-    announce(given.jobs or costs.jobs_here())
     with contextlib.ExitStack() as stack:
         room, log = stack.enter_context(leaving_nothing()), stack.enter_context(LOG.open("w", encoding="utf-8"))
         builders = stack.enter_context(Builders(room / "repository", passable(room / "aside"), log))
         copy_crates(builders.folder)
         crate = builders.folder / "crates" / CRATE.name
-        made = crate / "out" / CRATE.name
-        is_proved = pass_crates(given, builders)
-        if is_proved and not made.exists():
-            # (the gate of this kit leaves no program)
-            builders.run(["run", "--", *TRIAL], given.jobs, crate)
-        if not is_proved or not passes_trial(made, log):
-            raise Stopped(
-                f"the program was not built; see {LOG}. If the memory ran out, `./auc prove --jobs 1` takes less"
-            )
-        # A source that was changed since the beginning makes this program an old one.
-        os.utime(made, ns=(began, began))
-        keep(made)
+        keep(default_program(given, builders, crate), PROVED, began)
+        other = program_for(cpu, given, builders, crate) if cpu != processor.DEFAULT else None
+        if other:
+            keep(other, place_of(cpu), began)
 
 
 @dataclass
 class Options:
-    """How to build: with so many jobs side by side, and whether a crate is proved anew that an earlier run passed."""
+    """How to build: with so many jobs side by side, whether a crate is proved anew that an earlier run passed, and whether the
+    program is that for the default alone."""
 
     jobs: int = None
     anew: bool = False
+    portable: bool = False
+
+
+def is_there(choice, portable):
+    """Whether the program to run here is current, and for the processor that was chosen."""
+    found = current(portable)
+    return found is not None and cpu_of(found) == choice.cpu
 
 
 def build(given=Options()):
@@ -169,7 +207,9 @@ def build(given=Options()):
         except BlockingIOError:
             say("another call builds the program; waiting for it")
             fcntl.flock(lock, fcntl.LOCK_EX)
-        if given.anew or not current():
-            prove(given)
+        choice = processor.choice(given.portable)
+        if given.anew or not is_there(choice, given.portable):
+            announce(given.jobs or costs.jobs_here(), choice)
+            prove(given, choice.cpu)
             say("the program is proved and built")
-    return current() or last()
+    return current(given.portable) or last(given.portable)

@@ -87,10 +87,12 @@ class Build(NamedTuple):
         return alone + (self.work - alone) / processors
 
 
-def build():
-    """The build that was measured last."""
+def build(is_for_two=False):
+    """The build that was measured last, which is for one processor. For two, the program's crate is proved once more."""
     found = MEASURED.search(page())
-    return Build(*map(int, found.groups())) if found else Build(60, 60, 1)
+    one = Build(*map(int, found.groups())) if found else Build(60, 60, 1)
+    more = minutes_by_crate()[PROGRAM] if is_for_two else 0
+    return Build(round(one.work + more), round(one.wall + shortened(more, min(MOST, one.processors))), one.processors)
 
 
 # ---- what this machine has

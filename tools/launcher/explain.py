@@ -52,6 +52,8 @@ CAUSES_OF_LINES = {
     "twice": "an earlier line, session, start or subscriber is the same",
     "usimbusy": "an earlier job of this round gives to this USIM or has a session of it",
     "limit": "a limit is exceeded",
+    "notlive": "the line may not stand in a block of a service",
+    "unfinished": "the input ended before the line `end`",
 }
 # The causes that a comment behind other words, or behind a blank, has.
 CAUSES_OF_FORM = ("fields", "unknownword", "hex", *"imsi key kind op amf bits age seq usim".split())
@@ -68,9 +70,12 @@ class Call:
     names: list
     said: str = None
 
+    def is_service(self):
+        return self.words[0] == "serve"
+
     def files(self):
-        """The files of a run in the order in which the program reads them, each with the caller's name for it."""
-        return [*zip(self.words[1:], self.names[1:])][::-1] if self.words[0] == "run" else []
+        """The files of a run or a service in the order in which the program reads them, each with the caller's name for it."""
+        return [*zip(self.words[1:], self.names[1:])][::-1] if self.words[0] in ("run", "serve") else []
 
     def last_line(self, words, folder):
         """The words of the last line that the program printed, or prints for these words in a folder."""
@@ -133,7 +138,10 @@ def cause_of_record(path, name, number, why):
 
 
 def refusal(call, status):
-    """Which record or line is refused, and why. It is found by a second run over the same files in a folder of its own."""
+    """Which record or line is refused, and why. It is found by a second run over the same files in a folder of its own. A header
+    was heard once, and only the caller has its refusal."""
+    if call.is_service() and status == 3:
+        return f"auc: the header is refused, by the line on standard output (status {status})"
     with tempfile.TemporaryDirectory() as folder:
         words = [call.words[0], *(os.path.join(os.getcwd(), it) for it in call.words[1:])]
         said = call.last_line(words, folder)
@@ -171,7 +179,8 @@ def fault_of_input(path):
 
 def unreadable(call, status):
     faults = [(name, fault_of_input(path)) for path, name in call.files()]
-    fault = next((f"{name}: {it}" for name, it in faults if it), "auc: a file could not be read")
+    other = "standard input" if call.is_service() else "a file"
+    fault = next((f"{name}: {it}" for name, it in faults if it), f"auc: {other} could not be read")
     return f"{fault} (status {status})"
 
 
@@ -180,6 +189,8 @@ def too_long(call, status):
         size = os.stat(path).st_size
         if size > MAX_BYTES:
             return f"{name}: it has {size} bytes, more than {MAX_BYTES} (status {status})"
+    if call.is_service():
+        return f"auc: the service has heard all blocks that it can number, or one without an end (status {status})"
     return f"auc: a file has more than {MAX_BYTES} bytes (status {status})"
 
 

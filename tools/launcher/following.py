@@ -1,5 +1,5 @@
-"""Runs rt, several at once if need be, and follows each to its end. Its whole lines go to the log as they come, and the share
-of the work that is done to standard error."""
+"""Runs the kit's commands, several at once if need be, and follows each to its end. Its whole lines go to the log as they come,
+and the share of the work that is done to standard error."""
 import os
 import re
 import select
@@ -16,7 +16,7 @@ EVERY = 250
 
 
 def end_with_parent():
-    """Has the system end this process if the script ends, however it ends. rt ends its provers itself."""
+    """Has the system end this process if the script ends, however it ends. rt and rattle end their provers themselves."""
     import ctypes  # a run that builds nothing doesn't wait for this
 
     ctypes.CDLL(None).prctl(END_WITH_PARENT, signal.SIGTERM)
@@ -54,14 +54,14 @@ class Progress:
 
 
 class Builder:
-    """An rt that was started in a folder. What it writes goes to a file in the folder `room`, and there it may put things
+    """A command that was started in a folder. What it writes goes to a file in the folder `room`, and there it may put things
     aside. Without a number of jobs it takes the processors and the memory that are there."""
 
     def __init__(self, words, folder, jobs, room):
         environment = {**os.environ, "TMPDIR": str(room), **({"RT_JOBS": str(jobs)} if jobs else {})}
         file, name = tempfile.mkstemp(suffix=".log", dir=room)
         how = {"cwd": folder, "env": environment, "stdin": subprocess.DEVNULL, "stdout": file, "stderr": file}
-        self.process = subprocess.Popen(["rt", *words], preexec_fn=end_with_parent, **how)
+        self.process = subprocess.Popen(words, preexec_fn=end_with_parent, **how)
         os.close(file)
         self.status, self.output, self.rest = None, open(name, "rb"), b""
 
@@ -105,12 +105,16 @@ class Builders:
         self.progress.tell()
         return heard
 
-    def run(self, words, jobs=None, folder=None):
-        """Runs one to its end: whether it ended well."""
-        builder = self.start(words, jobs, folder)
+    def followed(self, builder):
+        """Follows one to its end: whether it ended well, and its lines."""
+        lines = []
         while builder.status is None:
-            self.wait()
-        return builder.status == 0
+            lines += dict(self.wait())[builder]
+        return builder.status == 0, lines
+
+    def run(self, words, jobs=None, folder=None):
+        """Runs rt to its end: whether it ended well."""
+        return self.followed(self.start(["rt", *words], jobs, folder))[0]
 
     def end(self):
         """Ends those that run."""

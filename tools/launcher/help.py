@@ -9,12 +9,14 @@ NO_WORDS, NO_JOURNAL = 1, 4
 FORMS = [
     ("run SCENARIO", "run the scenario in the file SCENARIO"),
     ("run SCENARIO SUBSCRIBERS", "the same, with the subscribers of the CSV file SUBSCRIBERS"),
+    ("serve", "stay alive: read blocks of lines from standard input, and reply to each on standard output"),
+    ("serve SUBSCRIBERS", "the same, with the subscribers of the CSV file SUBSCRIBERS"),
     ("reserved", "print up to which number each subscriber's numbers are reserved"),
     ("vector K OPC RAND SQN AMF", "print the functions of Milenage at these hexadecimal values"),
     ("vector K OPC RAND SQN AMF autn", "the same, and then AUTN"),
     ("auts K OPC RAND SQN", "print the AUTS with which a USIM whose SQN_MS is SQN answers RAND"),
     ("load KEY SUBSCRIBERS JOBS WORKERS", "let workers draw in many jobs, and print a digest of the vectors"),
-    ("prove [--jobs N] [--anew]", "prove and build the program here, with N jobs side by side"),
+    ("prove [--jobs N] [--anew] [--portable]", "prove and build the program here, with N jobs side by side"),
     ("install PREFIX", "install the program, its pages and its tools under the folder PREFIX"),
     ("install --remove PREFIX", "take away what was installed there"),
     ("--version", "print the version, and whether the program is proved"),
@@ -25,19 +27,21 @@ OPTIONS = [
     ("--progress", "tell on standard error, once a second, how many rounds and lines are written"),
     ("--old", "don't build: if the sources changed, run the program that was proved last"),
     ("--unproved", "run without any proof and without a journal, after about a minute"),
+    ("--portable", "run, or build, the program for the kit's default processor, x86-64-v2"),
 ]
 # What an installed copy doesn't do.
-BUILDING = ("prove", "--old", "--unproved")
+BUILDING = ("prove", "--old", "--unproved", "--portable")
 WIDTH = 30
 
 CENTRE = """
-A run keeps what it reserved in the file auc.journal of that folder, or else of the folder that you call it in. That folder
-is the centre: the same files in another folder give the same numbers once more.
+A run or a service keeps what it reserved in the file auc.journal of that folder, or else of the folder that you call it in.
+That folder is the centre: the same files in another folder give the same numbers once more.
 """
 BUILDS = """
 The proved program of the last release runs at once. If the sources aren't those of the release, the first call proves and
 builds the program. That takes about {work} minutes of processor time: {here} minutes on this machine, and {measured} on
-{processors} processors.
+{processors} processors. If this processor has x86-64-v3 (AVX2), the program is built for that, too, and one crate proved once
+more; --portable leaves it out.
 """
 STATUS = """
 The status is the program's; but it is {no_words} for words that aren't here, {no_journal} for `reserved` in a folder

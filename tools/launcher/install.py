@@ -49,7 +49,7 @@ def file_of(path, mode=PLAIN):
 def pages():
     """The documents and examples, in the folders that they have in the repository."""
     patterns = ("README.md", "CHANGELOG.md", "LICENSE", "docs/*.md", "docs/charts/*.svg", "docs/pictures/*.png", "examples/*.scenario",
-                "examples/*.expected", "examples/*.csv")
+                "examples/*.blocks", "examples/*.expected", "examples/*.csv")
     found = [it for pattern in patterns for it in TOP.glob(pattern)]
     return {f"{PAGES}/{it.relative_to(TOP)}": file_of(it) for it in found}
 
@@ -99,10 +99,11 @@ def kit():
 
 
 def tree_at_hand():
-    """What this copy installs. Nothing is built for it."""
+    """What this copy installs. Nothing is built for it. The program is one for the default processor, since the tree may go to
+    another machine."""
     if IS_INSTALLED:
         return tree_of_copy()
-    packed, own = release.read(), build.current()
+    packed, own = release.read(), build.current(portable=True)
     if packed and packed.is_of_sources_at_hand():
         return tree_of_checkout(release.program_of(packed), packed)
     if not own:

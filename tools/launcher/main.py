@@ -10,7 +10,9 @@ from .explain import Call, explain
 from .help import FOLDER, NO_JOURNAL, NO_WORDS, help_text
 from .places import CRATE, IS_INSTALLED, JOURNAL, NOT_RUN, TOP, Stopped, put, say, tell, version
 
-FORMS = ("run", "reserved", "vector", "auts", "load")
+FORMS = ("run", "serve", "reserved", "vector", "auts", "load")
+# The forms whose further words name files. They alone begin a journal.
+WITH_FILES = ("run", "serve")
 INTERRUPTED = 130
 
 class WrongWords(Exception):
@@ -25,6 +27,7 @@ class Options:
     old: bool = False
     unproved: bool = False
     progress: bool = False
+    portable: bool = False
     words: list = field(default_factory=list)
 
 
@@ -34,7 +37,7 @@ def options(words):
         option, equals, value = words.pop(0).partition("=")
         if option == "--journal-dir" and (equals or words):
             given.folder = value if equals else words.pop(0)
-        elif option in ("--old", "--unproved", "--progress") and not equals:
+        elif option in ("--old", "--unproved", "--progress", "--portable") and not equals:
             setattr(given, option[2:], True)
         else:
             raise WrongWords
@@ -47,23 +50,25 @@ def options(words):
 # ---- which program is run
 
 
-def chosen(old):
+def chosen(given):
     """The program to run, as a context. It is built if there is no other; an installed copy has one."""
     if IS_INSTALLED:
         return contextlib.nullcontext(TOP / "program")
-    own = build.current()
+    own = build.current(given.portable)
     if own:
         return contextlib.nullcontext(own)
     packed = release.read()
     if packed and packed.is_of_sources_at_hand():
         release.introduce(packed)
         return release.unpacked(packed)
-    return last_proved(packed) if old else contextlib.nullcontext(build.build())
+    if given.old:
+        return last_proved(packed, given.portable)
+    return contextlib.nullcontext(build.build(build.Options(portable=given.portable)))
 
 
-def last_proved(packed):
+def last_proved(packed, portable):
     """The program that was proved here last, or else that of the release, though the sources are others now."""
-    own = build.last()
+    own = build.last(portable)
     if own:
         say(f"this is {own}, which was proved before the sources changed")
         return contextlib.nullcontext(own)
@@ -77,8 +82,9 @@ def standing():
     """Whether the program is proved, in a sentence."""
     if IS_INSTALLED:
         return install.standing()
-    if build.current():
-        return "proved and built here from these sources"
+    own = build.current()
+    if own:
+        return f"proved and built here from these sources, for {build.cpu_of(own)}"
     packed = release.read()
     if packed and packed.is_of_sources_at_hand():
         return f"the proved program of version {packed.version}, built from these sources with {packed.kit}"
@@ -97,14 +103,31 @@ def enter(folder):
 
 
 def seen_from_anywhere(words):
-    """The words with the files of a run as whole paths."""
+    """The words with the files of a run or a service as whole paths."""
     here = os.getcwd()
-    return [words[0], *(os.path.join(here, it) if it else it for it in words[1:])] if words[0] == "run" else words
+    return [words[0], *(os.path.join(here, it) if it else it for it in words[1:])] if words[0] in WITH_FILES else words
 
 
 def is_blank(journal):
     """Whether there is no journal, or one without a byte."""
-    return not journal.exists() or journal.stat().st_size == 0
+    try:
+        return journal.stat().st_size == 0
+    except OSError:
+        return True
+
+
+class Begun:
+    """Says once that a journal was begun, if there was none before. A service says it while it lives."""
+
+    def __init__(self, words, journal):
+        self.journal, self.is_awaited = journal, words[0] in WITH_FILES and is_blank(journal)
+
+    def told(self):
+        """Whether there is nothing to say any more."""
+        if self.is_awaited and not is_blank(self.journal):
+            say(f"a new journal was begun: {self.journal.absolute()}")
+            self.is_awaited = False
+        return not self.is_awaited
 
 
 def run_proved(given):
@@ -115,19 +138,18 @@ def run_proved(given):
     if words == ["reserved"] and not os.path.lexists(journal):
         say(f"no journal in {os.getcwd()}")
         return NO_JOURNAL
-    with chosen(given.old) as program:
-        was_blank = is_blank(journal)
-        status = (running.run_telling if given.progress else running.run)(program, words)
-        if words[0] == "run" and was_blank and not is_blank(journal):
-            say(f"a new journal was begun: {journal.absolute()}")
+    with chosen(given) as program:
+        begun = Begun(words, journal)
+        status = (running.run_telling if given.progress else running.run)(program, words, begun.told)
+        begun.told()
         explain(Call(program, words, given.words), status)
     return status
 
 
 def copied(words):
-    """The words for rt try, which runs the program in a folder of its own: the files of a run are copied there."""
+    """The words for rt try, which runs the program in a folder of its own: the files of a run or a service are copied there."""
     copies, words = [], list(words)
-    for place, word in enumerate(words[1:] if words[0] == "run" else [], 1):
+    for place, word in enumerate(words[1:] if words[0] in WITH_FILES else [], 1):
         if os.path.isfile(word):
             words[place] = f"input{place}"
             copies += ["--data", f"{words[place]}={os.path.realpath(word)}"]
@@ -149,12 +171,12 @@ def run_unproved(given):
 
 
 def prove(words):
-    """The words after `prove`: --jobs N and --anew, if they are there."""
+    """The words after `prove`: --jobs N, --anew and --portable, if they are there."""
     given, words = build.Options(), list(words)
     while words:
         word = words.pop(0)
-        if word == "--anew":
-            given.anew = True
+        if word in ("--anew", "--portable"):
+            setattr(given, word[2:], True)
         elif word == "--jobs" and words and words[0].isdecimal() and int(words[0]) > 0:
             given.jobs = int(words.pop(0))
         else:

@@ -14,7 +14,7 @@ import os
 from dataclasses import asdict, dataclass
 from pathlib import Path
 
-from . import sources
+from . import processor, sources
 from .places import OUT, TOP, Stopped, say
 
 FOLDER = TOP / "release"
@@ -111,7 +111,7 @@ def introduce(release):
                 return
     say(
         f"this is the proved program of version {release.version}, built from these sources with {release.kit};"
-        " `./auc prove` proves and builds it here"
+        f" `./auc prove` proves and builds it here{f', for {processor.V3}' if processor.runs(processor.V3) else ''}"
     )
     for note in notes():
         with contextlib.suppress(OSError):

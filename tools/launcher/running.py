@@ -12,6 +12,8 @@ NAME = "auc"
 OUTPUT = 1
 WRITE_FAULT = 5
 CHUNK = 65536
+# How many seconds there are between two looks at a program that goes on.
+LOOK = 1
 
 
 def started(program, words, **how):
@@ -32,9 +34,23 @@ def started(program, words, **how):
     return process
 
 
-def run(program, words):
-    """Runs the program: its exit status, as a shell has it."""
-    return as_a_shell_has_it(started(program, words).wait())
+def nothing_to_tell():
+    return True
+
+
+def run(program, words, told=nothing_to_tell):
+    """Runs the program: its exit status, as a shell has it. It calls `told` now and then, until that says that nothing is left
+    to be told."""
+    return as_a_shell_has_it(ended(started(program, words), told))
+
+
+def ended(process, told):
+    while not told():
+        try:
+            return process.wait(LOOK)
+        except subprocess.TimeoutExpired:
+            pass
+    return process.wait()
 
 
 def as_a_shell_has_it(status):
@@ -82,15 +98,16 @@ def is_open(descriptor):
     return True
 
 
-def run_telling(program, words):
+def run_telling(program, words, told=nothing_to_tell):
     """The same as run, and tells what is written. The output goes through the script; if it can't be written, the program
     finds its own output closed. Lines that the program wrote before it could see that are lost too, so the status then is
     the write fault's."""
     if not is_open(OUTPUT):
-        return run(program, words)
+        return run(program, words, told)
     process, progress, is_written = started(program, words, stdout=subprocess.PIPE), Progress(), True
     while is_written and (chunk := os.read(process.stdout.fileno(), CHUNK)):
         is_written = write_whole(chunk)
+        told()
         if is_written:
             progress.add(chunk)
     process.stdout.close()
@@ -100,6 +117,7 @@ def run_telling(program, words):
 
 
 def printed(program, words, folder):
-    """What the program prints in a folder, as text."""
-    how = {"stdout": subprocess.PIPE, "stderr": subprocess.DEVNULL}
+    """What the program prints in a folder, as text. A scenario may be the caller's standard input, which a service would wait
+    for."""
+    how = {"stdout": subprocess.PIPE, "stderr": subprocess.DEVNULL, "stdin": None if words[0] == "run" else subprocess.DEVNULL}
     return subprocess.run([NAME, *words], executable=program, cwd=folder, **how).stdout.decode(errors="replace")

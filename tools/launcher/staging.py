@@ -191,7 +191,7 @@ def prove(plan, builders, is_anew, leaves_row):
     stages = {}
     while True:
         for stage in [] if leaves_row and plan.is_row() else plan.begin(costs.free_memory()):
-            stages[builders.start(["ci", *stage.crates], 1 if stage.jobs == 1 else None)] = stage
+            stages[builders.start(["rt", "ci", *stage.crates], 1 if stage.jobs == 1 else None)] = stage
         if not builders.running:
             return
         for builder, lines in builders.wait():

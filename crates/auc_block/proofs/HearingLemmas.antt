@@ -9,7 +9,7 @@ use Rattle.std.proofs.lemmas.List.Folds.{concat-append}
 use Rattle.std.proofs.lemmas.List.Quantifiers.{position-Some}
 use Rattle.std.proofs.lemmas.List.Sums.{fails_before_first}
 use Rattle.auc_block.specs.Block.{begun, first_block, is_end}
-use Rattle.auc_block.specs.Hearing.{IsHeard, IsNext, IsTrouble, Waits}
+use Rattle.auc_block.specs.Hearing.{HasNoBlock, IsHeard, IsNext, IsTrouble, Waits}
 use Rattle.auc_block.specs.InnerHearing.{EndAlike, IsFound, IsGathered, IsLeft, IsOpen, IsSearched, IsSkipped, IsTaken, Passes, rest_of}
 use Rattle.auc_block.specs.Turns.{Says, Turns}
 use Rattle.auc_block.specs.declared.blocks.Gathered.TheVariants.{Long}
@@ -450,12 +450,18 @@ long_next old mid new waited front waiting before ended next begin heard long sk
   next_skipped next front (concat skipped.1.pieces) skipped.0 waiting ended skipped.1.whole long.0.0 long.1 skipped.2,
 )
 
+-- a text without a whole block, for any trouble
+pub no_block : (why : Trouble) (text : List ℕ) → first_block text ≡ None → HasNoBlock why text
+no_block Failed text none = none
+no_block NoMemory text none = tt
+no_block Endless text none = none
+
 -- why none is
 pub long_trouble : (old mid new : Option (List Turn)) (waited front waiting : List ℕ) (before : Bool) (why : Trouble) (begin first then now : ℕ) → IsHeard old mid waited front → IsGathered (Long begin) front before → then ≡ first
-    → ((text : List ℕ) × IsHeard mid new front text × IsTrouble why text then now) → (text : List ℕ) × IsHeard old new waited text × (IsTrouble why text first now × Waits waiting text)
+    → ((text : List ℕ) × IsHeard mid new front text × (IsTrouble why text then now × (first_block text ≡ None))) → (text : List ℕ) × IsHeard old new waited text × (IsTrouble why text first now × Waits waiting text × HasNoBlock why text)
 long_trouble old mid new waited front waiting before why begin first then now heard long same trouble =
     let P : ℕ → Type 0 = λ n. IsTrouble why trouble.0 n now in (
       trouble.0,
       heard_more old mid new waited front trouble.0 heard trouble.1,
-      (subst P same trouble.2, waits_overlong front (concat trouble.1.pieces) trouble.0 waiting trouble.1.whole long.0.0 long.1),
+      (subst P same trouble.2.0, waits_overlong front (concat trouble.1.pieces) trouble.0 waiting trouble.1.whole long.0.0 long.1, no_block why trouble.0 trouble.2.1),
     )

@@ -42,3 +42,9 @@ abbrev pub IsTrouble : Trouble → List ℕ → ℕ → ℕ → Type 0
 IsTrouble Failed text before now = Rose before now
 IsTrouble NoMemory text before now = now ≡ before
 IsTrouble Endless text before now = (now ≡ before) × (2 ^ 64 - 1 ≤ length text)
+
+-- no block was whole if a call failed, or if the block that is too long didn't end
+abbrev pub HasNoBlock : Trouble → List ℕ → Type 0
+HasNoBlock Failed text = first_block text ≡ None
+HasNoBlock NoMemory text = Unit {0}
+HasNoBlock Endless text = first_block text ≡ None

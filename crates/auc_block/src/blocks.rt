@@ -1,7 +1,8 @@
 //! Blocks that are heard.
 
-ghost use Rattle.std.specs.Prelude.{◌≡◌, ◌≤◌, ◌<◌, [], ℕ, List, length, take, drop, IfOk, IfErr, OnOk, OnErr, MatchResult};
-ghost use Rattle.auc_block.specs.Hearing.{IsHeard, IsNext, IsTrouble, Waits};
+ghost use Rattle.std.specs.Prelude.{◌≡◌, ◌≤◌, ◌<◌, [], ℕ, List, length, take, drop, IfOk, IfErr, OnOk, OnErr, MatchResult, None};
+ghost use Rattle.auc_block.specs.Block.{first_block};
+ghost use Rattle.auc_block.specs.Hearing.{HasNoBlock, IsHeard, IsNext, IsTrouble, Waits};
 ghost use Rattle.auc_block.specs.InnerHearing.{IsGathered, IsLeft, IsSearched, IsSkipped, IsTaken};
 
 use crate::next_block::NextBlock;
@@ -33,7 +34,7 @@ pub(crate) enum Gathered {
 /// Hears until a whole block waits, and answers it; the bytes after its line `end` wait for the next call. A
 /// piece is heard only while no whole block waits, and nothing is said. If the block is longer than [`LIMIT`],
 /// its bytes are dropped as they are heard. If it fails, all bytes that were heard wait, unless the block is
-/// longer. `room` is what one call of the wire fills.
+/// longer; and no whole block was heard, unless memory ran out. `room` is what one call of the wire fills.
 pub fn hear_block<W: Wire>(
     alloc: Global,
     wire: &mut W,
@@ -47,7 +48,8 @@ pub fn hear_block<W: Wire>(
         × MatchResult result
         (λ next. IsNext next text waiting.new.items (W.ended wire.new))
         (λ why. IsTrouble why text (W.faults wire.old) (W.faults wire.new)
-        × Waits waiting.new.items text) }
+        × Waits waiting.new.items text
+        × HasNoBlock why text) }
     ensures quiet { OnOk result (W.faults wire.new ≡ W.faults wire.old) }
 {
     match gather(wire, waiting, room)? {
@@ -69,6 +71,7 @@ fn gather<W: Wire>(
     ensures gathered { IfOk result (λ found. IsGathered found waiting.new.items (W.ended wire.new)) }
     ensures quiet { OnOk result (W.faults wire.new ≡ W.faults wire.old) }
     ensures trouble { IfErr result (λ why. IsTrouble why [] (W.faults wire.old) (W.faults wire.new)) }
+    ensures none { OnErr result (first_block waiting.new.items ≡ None) }
 {
     let mut begin = 0;
     let mut place = 0;
@@ -136,7 +139,7 @@ fn skip_block<W: Wire>(
         × IsHeard (W.turns wire.old) (W.turns wire.new) waiting.old.items text
         × MatchResult result
         (λ next. IsSkipped next text waiting.new.items (W.ended wire.new))
-        (λ why. IsTrouble why text (W.faults wire.old) (W.faults wire.new)) }
+        (λ why. IsTrouble why text (W.faults wire.old) (W.faults wire.new) × (first_block text ≡ None)) }
     ensures quiet { OnOk result (W.faults wire.new ≡ W.faults wire.old) }
 {
     keep_front(waiting, begin);

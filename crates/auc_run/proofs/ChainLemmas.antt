@@ -1,5 +1,5 @@
 -- For the law of chains: what a run releases is above what its file reserved, and at most what its image reserves.
-use Rattle.std.proofs.Common.{◌≡◌, ◌<◌, ◌≤◌, ◌⊎◌, ℕ, List, [], ◌∷◌, length, All, Contains, Option, Result, Ok, false, inl, inr, refl, sym, ◌∙◌, ap, subst, arith}
+use Rattle.std.proofs.Common.{◌≡◌, ◌<◌, ◌≤◌, ◌⊎◌, ℕ, List, [], ◌∷◌, length, All, Contains, Option, None, Result, Ok, false, inl, inr, refl, sym, ◌∙◌, ap, subst, arith}
 use Rattle.std.specs.Prelude.{slice_index}
 use Rattle.std.proofs.Math.ListN.{length-map}
 use Rattle.std.proofs.lemmas.List.Elements.{All-nil, All-cons}
@@ -14,9 +14,13 @@ use Rattle.auc_transcript.proofs.Facts.{early_of_end}
 use Rattle.auc_world.specs.Lines.{numbers_of}
 use Rattle.auc_world.specs.Transcript.{beginning, lines_of}
 use Rattle.auc_world.specs.declared.record.LineRecord.{LineRecord}
-use Rattle.auc_run.specs.Chain.{AreChained, ChainRun, DrewAbove, EachOtherRunIsOfAChain, EachRunDrawsAboveEarlierRuns, EachServedRunIsOfAChain, Releases, ServedOn, identities}
+use Rattle.auc_run.specs.Chain.{AreChained, ChainRun, DrewAbove, EachOtherRunIsOfAChain, EachRunDrawsAboveEarlierRuns, EachServedRunIsOfAChain, EachServiceIsOfAChain, Releases, ServedOn, identities}
 use Rattle.auc_run.specs.Crash.{IsFound, limits_in}
+use Rattle.auc_run.specs.Outcome.{IsWritten}
 use Rattle.auc_run.specs.Output.{setting_of}
+use Rattle.auc_run.specs.Service.{parts_in}
+use Rattle.auc_run.specs.declared.status.Status.{Status}
+use Rattle.auc_run.specs.declared.status.Status.TheVariants as ended
 
 -- the limit of a subscriber by frames that a file is read as is what the file reserves for its identity
 limit_by : (rows : List Row) (file : List ℕ) (frames : List Frame) (end sub : ℕ) → read_image file ≡ Ok (record { frames = frames; end = end }) → sub < length rows
@@ -113,3 +117,39 @@ other_chained seen may_leave from disk status old new told image remembers leave
   keeps = λ closable. remembers.keeps told (λ is. closable) image leaves;
   closable = λ closable. remembers.closable told closable image leaves;
 }
+
+-- an output that tells nothing tells nothing of any text
+untold_written : (status : Status) (text : List ℕ) → IsWritten status None None text
+untold_written ended.WriteFault text = record { front = []; rest = text; whole = refl; appended = refl }
+untold_written ended.Done text = refl
+untold_written ended.Usage text = refl
+untold_written ended.SubscribersRefused text = refl
+untold_written ended.ScenarioRefused text = refl
+untold_written ended.ReadFault text = refl
+untold_written ended.StoreFault text = refl
+untold_written ended.NotJournal text = refl
+untold_written ended.StoreFull text = refl
+untold_written ended.TooLong text = refl
+untold_written ended.NoMemory text = refl
+
+-- what makes a service one of a chain
+pub service_chained : {D : Type 0} (seen : D → Option (List ℕ)) (may_leave : D → List ℕ → Type 0) → EachServiceIsOfAChain seen may_leave
+service_chained seen may_leave from disk shelf subscribers status old new told image serves remembers leaves =
+    let service = serves.service in
+    record {
+      rounds = inr (record {
+        script = serves.header;
+        found = serves.found;
+        is_found = subst (λ (bytes : Option (List ℕ)). IsFound bytes serves.found) told.1 serves.is_found;
+        stop = service.stop;
+        served = parts_in service.answers;
+        end = service.end;
+        output = service.text;
+        is_output = service.output;
+        written = untold_written status service.text;
+        lines_are = refl;
+        kept = service.kept image (told, leaves);
+      });
+      keeps = λ closable. remembers.keeps told (λ is. closable) image leaves;
+      closable = λ closable. remembers.closable told closable image leaves;
+    }

@@ -3,7 +3,7 @@ use Rattle.std.proofs.Common.{◌≤◌, List, [], ◌∷◌, length, All, arith
 use Rattle.std.proofs.lemmas.List.{length-append}
 use Rattle.std.proofs.lemmas.List.Elements.{All-nil, All-cons, All-head, All-tail, All-weaker}
 use Rattle.auc_jobs.specs.Serving.{IsKnownLine, AreKnown}
-use Rattle.auc_script.specs.Limits.{IsLine, IsPart, IsWithin}
+use Rattle.auc_script.specs.Limits.{AreJobs, IsBlock, IsLine, IsPart, IsWithin}
 use Rattle.auc_script.specs.Numbers.{most_jobs}
 use Rattle.auc_lines.specs.Part.{jobs_of}
 use Rattle.auc_lines.specs.declared.part.Line.{Line}
@@ -41,6 +41,19 @@ known_line rows (Plain session) is = tt
 known_line rows (Tamper packet place byte) is = tt
 known_line rows (Cut packet length) is = tt
 
+-- a round that has not too many jobs
+known_round : (rows : List Row) (jobs : List (List Line)) → AreJobs rows jobs → length jobs ≤ most_jobs → IsKnownPart rows (Round jobs)
+known_round rows jobs are few = record {
+  known = All-weaker (λ job. All (IsLine rows) job) (AreKnown rows)
+      (λ job lines. All-weaker (IsLine rows) (IsKnownLine rows) (known_line rows) job lines) jobs are.lines;
+  apart = are.apart;
+  few = few;
+}
+
+-- that of a block
+pub known_block : (rows : List Row) (jobs : List (List Line)) → IsBlock rows jobs → IsKnownPart rows (Round jobs)
+known_block rows jobs block = known_round rows jobs block.are_jobs block.few
+
 -- parts that have not too many jobs together
 known_parts : (rows : List Row) (parts : List Part) → All (IsPart rows) parts → length (jobs_of parts) ≤ most_jobs → All (IsKnownPart rows) parts
 known_parts rows [] each few = All-nil (IsKnownPart rows)
@@ -48,13 +61,7 @@ known_parts rows (Restart ∷ parts) each few =
     All-cons (IsKnownPart rows) Restart parts tt (known_parts rows parts (All-tail (IsPart rows) Restart parts each) few)
 known_parts rows (Round jobs ∷ parts) each few =
     let cut = length-append jobs (jobs_of parts) in
-    let here = All-head (IsPart rows) (Round jobs) parts each in
-    All-cons (IsKnownPart rows) (Round jobs) parts (record {
-      known = All-weaker (λ job. All (IsLine rows) job) (AreKnown rows)
-          (λ job lines. All-weaker (IsLine rows) (IsKnownLine rows) (known_line rows) job lines) jobs here.lines;
-      apart = here.apart;
-      few = omega (arith, cut);
-    })
+    All-cons (IsKnownPart rows) (Round jobs) parts (known_round rows jobs (All-head (IsPart rows) (Round jobs) parts each) (omega (arith, cut)))
     (known_parts rows parts (All-tail (IsPart rows) (Round jobs) parts each) (omega (arith, cut)))
 
 -- those of a script that was read

@@ -15,3 +15,7 @@ mod CauseLemmas
 mod EndLemmas
 mod LoadLemmas
 mod ChainLemmas
+mod ServiceLemmas
+mod ServiceEnds
+mod ServiceTop
+mod ServiceTold

@@ -12,20 +12,12 @@ use Rattle.auc_script.specs.declared.script.Script.{Script}
 use Rattle.auc_subs.specs.Subscriber.{AreSubscribers}
 use Rattle.auc_subs.specs.declared.row.Row.{Row}
 use Rattle.auc_transcript.proofs.Facts.{above_reserved, keeps_numbers_apart, accepts_none_twice, each_failure_is_by_place}
-use Rattle.auc_transcript.specs.Completeness.{EachPlainSessionAgrees, EachResumedSessionAgrees}
-use Rattle.auc_transcript.specs.Counters.{EachTranscriptKeepsContexts}
-use Rattle.auc_transcript.specs.Keys.{EachAuthenticationAgrees, EachBreachIsTold, EachTranscriptHasItsNets}
-use Rattle.auc_transcript.specs.Leases.{EachLeasedNumberIsHandedOutOnce}
-use Rattle.auc_transcript.specs.OneTold.{EachToldTranscriptIsOne}
-use Rattle.auc_transcript.specs.Presented.{EachFailureInSessionsIsByPlace, EachPresentedVectorHasARightMac}
-use Rattle.auc_transcript.specs.SimSessions.{EachSimSessionAgrees}
-use Rattle.auc_transcript.specs.Systems.{EachHonestAuthenticationIsConfirmed}
 use Rattle.auc_world.proofs.Facts.{length-opened, sixteen_block}
 use Rattle.auc_world.specs.Agreement.{IsRealm}
 use Rattle.auc_world.specs.Transcript.{Course, Leads, beginning}
 use Rattle.auc_world.specs.declared.record.PartRecord.{PartRecord}
 use Rattle.auc_run.specs.Crash.{IsKept, MayLeave, limits_in}
-use Rattle.auc_run.specs.Inner.{Begins, IsKnownPart, IsRead, RunsParts}
+use Rattle.auc_run.specs.Inner.{Begins, IsKnownPart, IsRead, Laws, RunsParts}
 use Rattle.auc_run.specs.Outcome.{IsStopOf, IsWritten, RunsFiles, RunsFull}
 use Rattle.auc_run.specs.Output.{IsOutput, IsTranscript, setting_of, text_of}
 use Rattle.auc_run.specs.Words.{Files}
@@ -35,26 +27,11 @@ use Rattle.auc_run.proofs.HeldLemmas.{held_apart}
 use Rattle.auc_run.proofs.KnownLemmas.{Known}
 use Rattle.auc_run.proofs.PrintableLemmas.{parts_named}
 
--- the laws of transcripts on which it stands
-pub record Laws : Type 0 where
-  pub told : EachToldTranscriptIsOne
-  pub nets : EachTranscriptHasItsNets
-  pub keys : EachAuthenticationAgrees
-  pub breaches : EachBreachIsTold
-  pub in_sessions : EachFailureInSessionsIsByPlace
-  pub macs : EachPresentedVectorHasARightMac
-  pub contexts : EachTranscriptKeepsContexts
-  pub plain : EachPlainSessionAgrees
-  pub resumed : EachResumedSessionAgrees
-  pub authentications : EachHonestAuthenticationIsConfirmed
-  pub leases : EachLeasedNumberIsHandedOutOnce
-  pub sim_sessions : EachSimSessionAgrees
-
 -- subscribers, a realm, and parts that can be served
-record Fits (rows : List Row) (script : Script) (parts : List Part) : Type 0 where
-  subscribers : AreSubscribers rows
-  realm : IsRealm script.realm
-  known : All (IsKnownPart rows) parts
+pub record Fits (rows : List Row) (script : Script) (parts : List Part) : Type 0 where
+  pub subscribers : AreSubscribers rows
+  pub realm : IsRealm script.realm
+  pub known : All (IsKnownPart rows) parts
 
 -- a lawful transcript is printable, if the SQNs in its answers of USIMs consist of bytes
 printable : (rows : List Row) (script : Script) (reserved : List ℕ) (stop : Option Stop) (parts : List Part) (records : List PartRecord) → Fits rows script parts
@@ -80,7 +57,7 @@ one_of_text laws rows script reserved stop parts records others fits fit lawful 
     (at_ends rows script reserved stop parts records lawful) (at_ends rows script reserved stop parts others is) same)
 
 -- the text of a lawful transcript of a scenario that was read is what the product promises
-is_output : Laws → (rows : List Row) (script : Script) (reserved : List ℕ) (stop : Option Stop) (parts : List Part) (records : List PartRecord) (end : Course) → Fits rows script parts
+pub is_output : Laws → (rows : List Row) (script : Script) (reserved : List ℕ) (stop : Option Stop) (parts : List Part) (records : List PartRecord) (end : Course) → Fits rows script parts
     → All PartFits records → Leads (setting_of rows script) stop (beginning rows reserved) parts records end
     → IsOutput rows script reserved stop parts end (text_of rows script records)
 is_output laws rows script reserved stop parts records end fits fit leads =
@@ -110,6 +87,13 @@ is_output laws rows script reserved stop parts records end fits fit leads =
       leases = laws.leases set reserved stop parts records own.0 (end, leads) own.1;
       sim_sessions = laws.sim_sessions set parts records own.0 fits.subscribers fits.realm own.1;
     }
+
+-- and its transcript is this one
+pub output_told : (laws : Laws) (rows : List Row) (script : Script) (reserved : List ℕ) (stop : Option Stop) (parts : List Part) (records : List PartRecord) (end : Course) (fits : Fits rows script parts)
+    (fit : All PartFits records) (leads : Leads (setting_of rows script) stop (beginning rows reserved) parts records end)
+    → (is_output laws rows script reserved stop parts records end fits fit leads).transcript ≡ records
+unfolding is_output
+output_told laws rows script reserved stop parts records end fits fit leads = refl
 
 -- what holds of some parts holds of the first of them
 front : (P : Part → Type 0) (xs ys : List Part) → All P (xs ++ ys) → All P xs

@@ -1,16 +1,15 @@
 -- For a part of a scenario: where it begins, and where a round or a restart leads.
-use Rattle.std.proofs.Common.{◌≡◌, ◌≢◌, ℕ, ◌+◌, ◌<◌, ◌≤◌, max, List, [], ◌∷◌, ◌++◌, length, map, All, Option, Some, refl, sym, ◌∙◌, ap, subst, arith}
+use Rattle.std.proofs.Common.{◌≡◌, ◌≢◌, ℕ, ◌+◌, ◌<◌, ◌≤◌, max, List, [], ◌∷◌, ◌++◌, length, map, All, Option, refl, sym, ◌∙◌, ap, subst, arith}
 use Rattle.std.specs.Prelude.{slice_index}
 use Rattle.std.proofs.Math.ListN.{length-map}
 use Rattle.std.proofs.lemmas.List.Concat.{flat_map-append}
 use Rattle.std.proofs.lemmas.List.Elements.{All-nil, All-cons, All-head, All-tail, All-weaker}
 use Rattle.auc_edge.specs.declared.stop.Stop.{Stop}
-use Rattle.auc_edge.specs.declared.stop.Stop.TheVariants.{Full}
 use Rattle.auc_journal.specs.Durable.{IsDurable}
 use Rattle.auc_journal.specs.Image.{Frame, reserved_in}
 use Rattle.auc_journal.specs.Journal.{JournalState, imsi_at, limits_of, reserved_at}
 use Rattle.auc_journal.proofs.Facts.{durable_more, limits_at}
-use Rattle.auc_jobs.specs.Round.{DrewFull, LeavesMore, Serves}
+use Rattle.auc_jobs.specs.Round.{LeavesMore, Serves}
 use Rattle.auc_jobs.specs.State.{Standing, StandsAt}
 use Rattle.auc_lines.specs.declared.part.Line.{Line}
 use Rattle.auc_sqn.specs.Number.{max_seq}
@@ -22,11 +21,11 @@ use Rattle.auc_world.specs.Lines.{all_lines, numbers_of, released_by}
 use Rattle.auc_world.specs.Round.{IsLawfulRound}
 use Rattle.auc_world.specs.Setting.{Setting}
 use Rattle.auc_world.specs.Start.{Kept, fresh_kept, kept_by_jobs}
-use Rattle.auc_world.specs.Transcript.{Course, Restarts, ServesRound, after_restart, after_round, beginning}
+use Rattle.auc_world.specs.Transcript.{Course, Restarts, after_restart, after_round, beginning}
 use Rattle.auc_world.specs.declared.record.LineRecord.{LineRecord}
 use Rattle.auc_world.specs.declared.record.RoundRecord.{RoundRecord}
 use Rattle.auc_run.specs.Crash.{IsKept, MayLeave, limits_in}
-use Rattle.auc_run.specs.Inner.{Begins, Covers, Reserves, StandsOn, most_at}
+use Rattle.auc_run.specs.Inner.{Begins, Covers, Reserves, RoundLeads, StandsOn, most_at}
 use Rattle.auc_run.specs.declared.status.Status.{Status}
 use Rattle.auc_run.specs.declared.status.Status.TheVariants.{NoMemory}
 
@@ -179,17 +178,6 @@ IsKeptBy set stop early kept openings jobs round words next =
     (lawful : IsLawfulRound set stop early kept openings jobs round words) × (next ≡ kept_by_jobs kept lawful.nets)
 
 -- a round that was served leads on
-pub record RoundLeads {D : Type 0} (seen : D → Option (List ℕ)) (may_leave : D → List ℕ → Type 0) (set : Setting) (from : D) (reserved : List ℕ) (at : Course) (jobs : List (List Line)) (round : RoundRecord)
-    (stop : Option Stop) (state : Standing) (journal : JournalState D) : Type 0 where
-  pub next : Course
-  pub served : ServesRound set stop at jobs round next
-  pub early : next.early ≡ at.early ++ all_lines round.jobs
-  pub number : next.number ≡ at.number + 1
-  pub kept : state.kept ≡ next.kept
-  pub opens : state.words ≡ next.openings
-  pub reserves : Reserves seen may_leave set.rows from reserved next journal
-  pub needs : stop ≡ Some Full → (drew : DrewFull set.rows round) × (reserved_in journal.limits drew.row.imsi < drew.number)
-
 pub round_leads : {D : Type 0} (seen : D → Option (List ℕ)) (may_leave : D → List ℕ → Type 0) (set : Setting) (from : D) (reserved : List ℕ) (at : Course) (number : ℕ) (state next : Standing) (journal after : JournalState D)
     (jobs : List (List Line)) (round : RoundRecord) (stop : Option Stop)
     → StandsOn seen may_leave set from reserved at number state journal → round.number ≡ number → after.imsis ≡ journal.imsis

@@ -1,6 +1,8 @@
 -- For a part of a scenario: what came of it, by what its calls answer.
-use Rattle.std.proofs.Common.{◌≡◌, ◌≢◌, ℕ, ◌+◌, ◌<◌, ◌^◌, Bool, true, false, List, [], ◌∷◌, ◌++◌, Option, Some, None, Result, Ok, Err, OnOk, IfErr, refl, sym, ◌∙◌, ap, subst, arith}
+use Rattle.std.proofs.Common.{◌≡◌, ◌≢◌, ℕ, ◌+◌, ◌<◌, ◌^◌, Bool, true, false, List, [], ◌∷◌, ◌++◌, Option, Some, None, Result, Ok, Err, OnOk, OnErr, IfOk, IfErr, refl, sym, ◌∙◌, ap, subst, arith}
 use Rattle.std.specs.Prelude.{◌↔◌}
+use Rattle.auc_edge.specs.declared.no_memory.NoMemory.{NoMemory}
+use Rattle.auc_edge.specs.Sink.{Appends, AppendsFront}
 use Rattle.auc_edge.specs.declared.stop.Stop.{Stop}
 use Rattle.auc_edge.specs.declared.stop.Stop.TheVariants.{Fault, Full}
 use Rattle.auc_journal.specs.Durable.{IsTold}
@@ -20,17 +22,17 @@ use Rattle.auc_world.specs.declared.record.LineRecord.{LineRecord}
 use Rattle.auc_world.specs.declared.record.PartRecord.TheVariants as record_of
 use Rattle.auc_world.specs.declared.record.RoundRecord.{RoundRecord}
 use Rattle.auc_run.specs.Crash.{IsFull}
-use Rattle.auc_run.specs.Inner.{Covers, EndsIn, GoesOn, HasWritten, Reserves, ServesLast, StandsOn, status_in}
+use Rattle.auc_run.specs.Inner.{Covers, EachLeads, EndsIn, GoesOn, MakesRound, Reserves, RoundLeads, ServesLast, StandsOn, status_in}
 use Rattle.auc_run.specs.Outcome.{EndsFull, IsQuiet, IsStopOf, IsWritten}
 use Rattle.auc_run.specs.Refusal.{status_of}
 use Rattle.auc_run.specs.declared.refusal.Refusal.{Refusal}
 use Rattle.auc_run.specs.declared.refusal.Refusal.TheVariants as refused
 use Rattle.auc_run.specs.declared.status.Status.{Status}
 use Rattle.auc_run.specs.declared.status.Status.TheVariants as status
-use Rattle.auc_run.proofs.StandLemmas.{RoundLeads, covers_before, covers_of, restart_stands}
+use Rattle.auc_run.proofs.StandLemmas.{covers_before, covers_of, restart_stands}
 
 -- a journal that didn't fail in a round whose reservations ended otherwise, or not
-ready_if : (failed : Bool) (stop : Option Stop) → (failed ≡ true) ↔ (stop ≡ Some Fault) → stop ≢ Some Fault → failed ≡ false
+pub ready_if : (failed : Bool) (stop : Option Stop) → (failed ≡ true) ↔ (stop ≡ Some Fault) → stop ≢ Some Fault → failed ≡ false
 ready_if true stop iff not_fault = absurd (not_fault (iff.0 refl))
 ready_if false stop iff not_fault = refl
 
@@ -48,39 +50,71 @@ not_full stop is fault = apart (sym is ∙ fault)
 
 -- ---- a round
 
--- wherever it began, it leads on
-abbrev pub EachLeads : {D : Type 0} → (D → Option (List ℕ)) → (D → List ℕ → Type 0) → Setting → ℕ → Standing → JournalState D → List (List Line) → RoundRecord → Option Stop → Standing → JournalState D → Type 0
-EachLeads {D} seen may_leave set number state journal jobs round stop next after =
-    (from : D) (reserved : List ℕ) (at : Course) → StandsOn seen may_leave set from reserved at number state journal → RoundLeads seen may_leave set from reserved at jobs round stop next after
+-- it was served, and its text was made
+pub made_round : {D : Type 0} (seen : D → Option (List ℕ)) (may_leave : D → List ℕ → Type 0) (set : Setting) (full : Bool) (number : ℕ) (state next : Standing) (journal after : JournalState D)
+    (jobs : List (List Line)) (stop : Option Stop) (round : RoundRecord) (result : Result (Option Stop) NoMemory) (waits text : List ℕ)
+    → EachLeads seen may_leave set number state journal jobs round stop next after → ((early : List LineRecord) → StandsAt set early state → StandsAt set (early ++ all_lines round.jobs) next)
+    → (after.failed ≡ true) ↔ (stop ≡ Some Fault) → (stop ≡ Some Full → 2 ^ 30 < after.place + 20)
+    → IfOk result (λ other. other ≡ stop) → OnOk result (text ≡ waits ++ round_text set full round) → OnOk result (RoundFits round)
+    → IfOk result (λ other. MakesRound seen may_leave set full number state journal jobs other next after waits text)
+made_round seen may_leave set full number state next journal after jobs stop round (Err none) waits text leads stands failed no_room same is fits = tt
+made_round seen may_leave set full number state next journal after jobs stop round (Ok other) waits text leads stands failed no_room same is fits =
+    subst (λ (s : Option Stop). MakesRound seen may_leave set full number state journal jobs s next after waits text) (sym same)
+    (record { round = round; leads = leads; stands = stands; failed = failed; no_room = no_room; fits = fits; is_text = is })
+
+-- it was served, and memory ran out for its text
+pub covers_round : {D : Type 0} (seen : D → Option (List ℕ)) (may_leave : D → List ℕ → Type 0) (set : Setting) (number : ℕ) (state next : Standing) (journal after : JournalState D)
+    (jobs : List (List Line)) (round : RoundRecord) (stop : Option Stop) (result : Result (Option Stop) NoMemory)
+    → EachLeads seen may_leave set number state journal jobs round stop next after
+    → OnErr result ((from : D) (reserved : List ℕ) (at : Course) → StandsOn seen may_leave set from reserved at number state journal → Covers seen may_leave set.rows from at.early after)
+covers_round seen may_leave set number state next journal after jobs round stop (Ok other) leads = tt
+covers_round seen may_leave set number state next journal after jobs round stop (Err none) leads = λ from reserved at on.
+    let on_from = leads from reserved at on in
+    covers_before seen may_leave set.rows from reserved at.early (all_lines round.jobs) on_from.next after on_from.early on_from.reserves
+
+-- what holds of why reservations ended holds of the answer
+pub each_stop : (result : Result (Option Stop) NoMemory) (stop : Option Stop) (P : Option Stop → Type 0) → IfOk result (λ other. other ≡ stop) → P stop → IfOk result P
+each_stop (Ok other) stop P same holds = subst P (sym same) holds
+each_stop (Err none) stop P same holds = tt
+
+-- the next part goes on from a round in which no fault ended reservations
+pub goes_on : {D : Type 0} (seen : D → Option (List ℕ)) (may_leave : D → List ℕ → Type 0) (set : Setting) (full : Bool) (number : ℕ) (state next : Standing) (journal after : JournalState D)
+    (jobs : List (List Line)) (stop : Option Stop) (waits text : List ℕ)
+    → (makes : MakesRound seen may_leave set full number state journal jobs stop next after waits text) → stop ≢ Some Fault
+    → (from : D) (reserved : List ℕ) (at : Course) (on : StandsOn seen may_leave set from reserved at number state journal)
+    → StandsOn seen may_leave set from reserved (makes.leads from reserved at on).next (number + 1) next after
+goes_on seen may_leave set full number state next journal after jobs stop waits text makes not_fault from reserved at on =
+    let leads = makes.leads from reserved at on in
+    record {
+      numbered = leads.number ∙ ap (λ (n : ℕ). n + 1) on.numbered;
+      stands = subst (λ (early : List LineRecord). StandsAt set early next) (sym leads.early) (makes.stands at.early on.stands);
+      kept = leads.kept;
+      opens = leads.opens;
+      ready = ready_if after.failed stop makes.failed not_fault;
+      reserves = leads.reserves;
+    }
 
 -- it was served and written, and the next part goes on
 pub round_goes : {D : Type 0} (seen : D → Option (List ℕ)) (may_leave : D → List ℕ → Type 0) (set : Setting) (full : Bool) (number : ℕ) (state next : Standing) (journal after : JournalState D)
-    (jobs : List (List Line)) (round : RoundRecord) (stop : Option Stop) (result : Result (Unit {0}) Refusal) (waits left : List ℕ) (old new : Option (List ℕ))
-    → ((early : List LineRecord) → StandsAt set early state → StandsAt set (early ++ all_lines round.jobs) next) → (after.failed ≡ true) ↔ (stop ≡ Some Fault)
-    → EachLeads seen may_leave set number state journal jobs round stop next after → HasWritten round stop (status_in result) old new (waits ++ round_text set full round)
+    (jobs : List (List Line)) (stop : Option Stop) (result : Result (Unit {0}) Refusal) (waits text left : List ℕ) (old new : Option (List ℕ))
+    → MakesRound seen may_leave set full number state journal jobs stop next after waits text
+    → IsStopOf (status_in result) stop → IsWritten (status_in result) old new text
     → OnOk result (left ≡ []) → OnOk result ((from : D) (reserved : List ℕ) (at : Course) → StandsOn seen may_leave set from reserved at number state journal
     → GoesOn seen may_leave set full from reserved at (Round jobs) (number + 1) next after waits left old new)
-round_goes seen may_leave set full number state next journal after jobs round stop (Err refusal) waits left old new stands failed each writes none = tt
-round_goes seen may_leave set full number state next journal after jobs round stop (Ok done) waits left old new stands failed each writes none = λ from reserved at on.
-    let leads = each from reserved at on in
+round_goes seen may_leave set full number state next journal after jobs stop (Err refusal) waits text left old new makes stopped written none = tt
+round_goes seen may_leave set full number state next journal after jobs stop (Ok done) waits text left old new makes stopped written none = λ from reserved at on.
+    let leads = makes.leads from reserved at on in
     record {
-      made = record_of.Round round;
+      made = record_of.Round makes.round;
       next = leads.next;
-      served = subst (λ (s : Option Stop). ServesRound set s at jobs round leads.next) writes.0 leads.served;
-      on = record {
-        numbered = leads.number ∙ ap (λ (n : ℕ). n + 1) on.numbered;
-        stands = subst (λ (early : List LineRecord). StandsAt set early next) (sym leads.early) (stands at.early on.stands);
-        kept = leads.kept;
-        opens = leads.opens;
-        ready = ready_if after.failed stop failed (not_none stop writes.0);
-        reserves = leads.reserves;
-      };
-      fits = writes.2;
-      put = (writes.1, none);
+      served = subst (λ (s : Option Stop). ServesRound set s at jobs makes.round leads.next) stopped leads.served;
+      on = goes_on seen may_leave set full number state next journal after jobs stop waits text makes (not_none stop stopped) from reserved at on;
+      fits = makes.fits;
+      put = (subst (Appends old new) makes.is_text written, none);
     }
 
 -- a journal that is full
-full_journal : {D : Type 0} (seen : D → Option (List ℕ)) (may_leave : D → List ℕ → Type 0) (set : Setting) (from : D) (reserved : List ℕ) (end : Course) (after : JournalState D)
+pub full_journal : {D : Type 0} (seen : D → Option (List ℕ)) (may_leave : D → List ℕ → Type 0) (set : Setting) (from : D) (reserved : List ℕ) (end : Course) (after : JournalState D)
     → Reserves seen may_leave set.rows from reserved end after → after.failed ≡ false → 2 ^ 30 < after.place + 20 → IsTold seen may_leave from → IsFull (seen after.disk)
 full_journal seen may_leave set from reserved end after reserves ready full told file is =
     let at = reserves.durable.ready told ready in
@@ -129,45 +163,58 @@ fault_at same = cc
 
 -- a run ends in it
 pub round_ends : {D : Type 0} (seen : D → Option (List ℕ)) (may_leave : D → List ℕ → Type 0) (set : Setting) (full : Bool) (number : ℕ) (state next : Standing) (journal after : JournalState D)
-    (jobs : List (List Line)) (round : RoundRecord) (stop : Option Stop) (result : Result (Unit {0}) Refusal) (waits : List ℕ) (old new : Option (List ℕ))
-    → (after.failed ≡ true) ↔ (stop ≡ Some Fault) → (stop ≡ Some Full → 2 ^ 30 < after.place + 20)
-    → EachLeads seen may_leave set number state journal jobs round stop next after → HasWritten round stop (status_in result) old new (waits ++ round_text set full round)
+    (jobs : List (List Line)) (stop : Option Stop) (result : Result (Unit {0}) Refusal) (waits text : List ℕ) (old new : Option (List ℕ))
+    → MakesRound seen may_leave set full number state journal jobs stop next after waits text
+    → IsStopOf (status_in result) stop → IsWritten (status_in result) old new text → result ≢ Err refused.NoMemory
     → IfErr result (λ refusal. (from : D) (reserved : List ℕ) (at : Course) → StandsOn seen may_leave set from reserved at number state journal
     → EndsIn seen may_leave set full from reserved at (Round jobs) (status_of refusal) after waits old new)
-round_ends seen may_leave set full number state next journal after jobs round stop (Ok done) waits old new failed is_full each writes = tt
-round_ends seen may_leave set full number state next journal after jobs round stop (Err refused.WriteFault) waits old new failed is_full each writes = λ from reserved at on.
-    last_round seen may_leave set full from reserved at next after jobs round stop waits old new status.WriteFault (each from reserved at on) tt writes.1 writes.2 (λ is told. absurd (not_at is)) (λ is. absurd (not_at is))
-round_ends seen may_leave set full number state next journal after jobs round stop (Err refused.StoreFault) waits old new failed is_full each writes = λ from reserved at on.
-    last_round seen may_leave set full from reserved at next after jobs round stop waits old new status.StoreFault (each from reserved at on) writes.0 writes.1 writes.2 (λ is told. absurd (fault_at is)) (λ is. absurd (fault_at is))
-round_ends seen may_leave set full number state next journal after jobs round stop (Err refused.StoreFull) waits old new failed is_full each writes = λ from reserved at on.
-    let leads = each from reserved at on in
-    last_round seen may_leave set full from reserved at next after jobs round stop waits old new status.StoreFull leads writes.0 writes.1 writes.2
-    (λ is. full_journal seen may_leave set from reserved leads.next after leads.reserves (ready_if after.failed stop failed (not_full stop writes.0)) (is_full writes.0))
-    (λ is. ends_full seen may_leave set from reserved leads.next round after leads.reserves (ready_if after.failed stop failed (not_full stop writes.0)) (leads.needs writes.0))
-round_ends seen may_leave set full number state next journal after jobs round stop (Err refused.NoMemory) waits old new failed is_full each writes = λ from reserved at on.
-    let leads = each from reserved at on in
-    (covers_before seen may_leave set.rows from reserved at.early (all_lines round.jobs) leads.next after leads.early leads.reserves, writes)
-round_ends seen may_leave set full number state next journal after jobs round stop (Err refused.Usage) waits old new failed is_full each writes = absurd writes.0
-round_ends seen may_leave set full number state next journal after jobs round stop (Err (refused.Subscribers row fault)) waits old new failed is_full each writes = absurd writes.0
-round_ends seen may_leave set full number state next journal after jobs round stop (Err (refused.Scenario line fault)) waits old new failed is_full each writes = absurd writes.0
-round_ends seen may_leave set full number state next journal after jobs round stop (Err refused.ReadFault) waits old new failed is_full each writes = absurd writes.0
-round_ends seen may_leave set full number state next journal after jobs round stop (Err (refused.NotJournal place)) waits old new failed is_full each writes = absurd writes.0
-round_ends seen may_leave set full number state next journal after jobs round stop (Err refused.TooLong) waits old new failed is_full each writes = absurd writes.0
+round_ends seen may_leave set full number state next journal after jobs stop (Ok done) waits text old new makes stopped written spared = tt
+round_ends seen may_leave set full number state next journal after jobs stop (Err refused.WriteFault) waits text old new makes stopped written spared = λ from reserved at on.
+    let leads = makes.leads from reserved at on in
+    last_round seen may_leave set full from reserved at next after jobs makes.round stop waits old new status.WriteFault leads tt (subst (AppendsFront old new) makes.is_text written) makes.fits (λ is told. absurd (not_at is)) (λ is. absurd (not_at is))
+round_ends seen may_leave set full number state next journal after jobs stop (Err refused.StoreFault) waits text old new makes stopped written spared = λ from reserved at on.
+    let leads = makes.leads from reserved at on in
+    last_round seen may_leave set full from reserved at next after jobs makes.round stop waits old new status.StoreFault leads stopped (subst (Appends old new) makes.is_text written) makes.fits (λ is told. absurd (fault_at is)) (λ is. absurd (fault_at is))
+round_ends seen may_leave set full number state next journal after jobs stop (Err refused.StoreFull) waits text old new makes stopped written spared = λ from reserved at on.
+    let leads = makes.leads from reserved at on in
+    last_round seen may_leave set full from reserved at next after jobs makes.round stop waits old new status.StoreFull leads stopped (subst (Appends old new) makes.is_text written) makes.fits
+    (λ is. full_journal seen may_leave set from reserved leads.next after leads.reserves (ready_if after.failed stop makes.failed (not_full stop stopped)) (makes.no_room stopped))
+    (λ is. ends_full seen may_leave set from reserved leads.next makes.round after leads.reserves (ready_if after.failed stop makes.failed (not_full stop stopped)) (leads.needs stopped))
+round_ends seen may_leave set full number state next journal after jobs stop (Err refused.NoMemory) waits text old new makes stopped written spared = absurd (spared refl)
+round_ends seen may_leave set full number state next journal after jobs stop (Err refused.Usage) waits text old new makes stopped written spared = absurd stopped
+round_ends seen may_leave set full number state next journal after jobs stop (Err (refused.Subscribers row fault)) waits text old new makes stopped written spared = absurd stopped
+round_ends seen may_leave set full number state next journal after jobs stop (Err (refused.Scenario line fault)) waits text old new makes stopped written spared = absurd stopped
+round_ends seen may_leave set full number state next journal after jobs stop (Err refused.ReadFault) waits text old new makes stopped written spared = absurd stopped
+round_ends seen may_leave set full number state next journal after jobs stop (Err (refused.NotJournal place)) waits text old new makes stopped written spared = absurd stopped
+round_ends seen may_leave set full number state next journal after jobs stop (Err refused.TooLong) waits text old new makes stopped written spared = absurd stopped
 
 -- if it ends without a fault, reservations didn't end by one
-pub quiet_round : (round : RoundRecord) (stop : Option Stop) (result : Result (Unit {0}) Refusal) (text : List ℕ) (old new : Option (List ℕ))
-    → HasWritten round stop (status_in result) old new text → IsQuiet (status_in result) → stop ≢ Some Fault
-quiet_round round stop (Ok done) text old new writes quiet = not_none stop writes.0
-quiet_round round stop (Err refused.StoreFull) text old new writes quiet = not_full stop writes.0
-quiet_round round stop (Err refused.WriteFault) text old new writes quiet = absurd quiet
-quiet_round round stop (Err refused.StoreFault) text old new writes quiet = absurd quiet
-quiet_round round stop (Err refused.NoMemory) text old new writes quiet = absurd quiet
-quiet_round round stop (Err refused.Usage) text old new writes quiet = absurd writes.0
-quiet_round round stop (Err (refused.Subscribers row fault)) text old new writes quiet = absurd writes.0
-quiet_round round stop (Err (refused.Scenario line fault)) text old new writes quiet = absurd writes.0
-quiet_round round stop (Err refused.ReadFault) text old new writes quiet = absurd writes.0
-quiet_round round stop (Err (refused.NotJournal place)) text old new writes quiet = absurd writes.0
-quiet_round round stop (Err refused.TooLong) text old new writes quiet = absurd writes.0
+pub quiet_round : (stop : Option Stop) (result : Result (Unit {0}) Refusal) → IsStopOf (status_in result) stop → IsQuiet (status_in result) → stop ≢ Some Fault
+quiet_round stop (Ok done) stopped quiet = not_none stop stopped
+quiet_round stop (Err refused.StoreFull) stopped quiet = not_full stop stopped
+quiet_round stop (Err refused.WriteFault) stopped quiet = absurd quiet
+quiet_round stop (Err refused.StoreFault) stopped quiet = absurd quiet
+quiet_round stop (Err refused.NoMemory) stopped quiet = absurd quiet
+quiet_round stop (Err refused.Usage) stopped quiet = absurd stopped
+quiet_round stop (Err (refused.Subscribers row fault)) stopped quiet = absurd stopped
+quiet_round stop (Err (refused.Scenario line fault)) stopped quiet = absurd stopped
+quiet_round stop (Err refused.ReadFault) stopped quiet = absurd stopped
+quiet_round stop (Err (refused.NotJournal place)) stopped quiet = absurd stopped
+quiet_round stop (Err refused.TooLong) stopped quiet = absurd stopped
+
+-- a fault that it ends with ended reservations
+pub fault_round : (stop : Option Stop) (result : Result (Unit {0}) Refusal) → IsStopOf (status_in result) stop → result ≡ Err refused.StoreFault → stop ≡ Some Fault
+fault_round stop (Err refused.StoreFault) stopped is = stopped
+fault_round stop (Ok done) stopped is = cc
+fault_round stop (Err refused.StoreFull) stopped is = cc
+fault_round stop (Err refused.WriteFault) stopped is = cc
+fault_round stop (Err refused.NoMemory) stopped is = cc
+fault_round stop (Err refused.Usage) stopped is = cc
+fault_round stop (Err (refused.Subscribers row fault)) stopped is = cc
+fault_round stop (Err (refused.Scenario line fault)) stopped is = cc
+fault_round stop (Err refused.ReadFault) stopped is = cc
+fault_round stop (Err (refused.NotJournal place)) stopped is = cc
+fault_round stop (Err refused.TooLong) stopped is = cc
 
 -- ---- a restart
 

@@ -1,5 +1,6 @@
 -- Runs one after the other on one disk, each begun on an image that a crash after the one before may leave.
-use Rattle.std.specs.Prelude.{◌≡◌, ℕ, ◌<◌, ◌⊎◌, AllPairs, Contains, List, [], ◌∷◌, length, map, Option, Some}
+use Rattle.std.specs.Prelude.{◌≡◌, ℕ, ◌<◌, ◌⊎◌, AllPairs, Contains, List, [], ◌∷◌, length, map, Option, Some, None}
+use Rattle.auc_block.specs.declared.turn.Turn.{Turn}
 use Rattle.auc_edge.specs.Identity.{Identity}
 use Rattle.auc_edge.specs.Shelf.{File}
 use Rattle.auc_edge.specs.declared.stop.Stop.{Stop}
@@ -16,11 +17,12 @@ use Rattle.auc_world.specs.declared.record.LineRecord.{LineRecord}
 use Rattle.auc_run.specs.Crash.{IsFound, IsKept, MayLeave, Remembers, limits_in}
 use Rattle.auc_run.specs.Outcome.{IsWritten, RunsFiles}
 use Rattle.auc_run.specs.Output.{IsOutput}
+use Rattle.auc_run.specs.Service.{Serves}
 use Rattle.auc_run.specs.Words.{Files}
 use Rattle.auc_run.specs.declared.status.Status.{Status}
 
--- a run: the status with which it ended, what was written before and after it, the subscribers that it named, the lines of the
--- rounds that it served, and the image on which the next run begins
+-- a run or a service: the status with which it ended, what was written before and after it, the subscribers that it named, the lines
+-- of the rounds that it served, and the image on which the next one begins. Of what a service said a chain says nothing
 pub record ChainRun : Type 0 where
   pub status : Status
   pub old : Option (List ℕ)
@@ -83,3 +85,10 @@ abbrev pub EachOtherRunIsOfAChain : {D : Type 0} → (D → Option (List ℕ)) �
 EachOtherRunIsOfAChain {D} seen may_leave = (from disk : D) (status : Status) (old new : Option (List ℕ)) (told : IsTold seen may_leave from) (image : List ℕ)
     → Remembers seen may_leave status from disk → may_leave disk image
     → BeganOn told.0 (record { status = status; old = old; new = new; rows = []; lines = []; image = image })
+
+-- and what those of `serve` say of a service that served blocks makes it one, too
+abbrev pub EachServiceIsOfAChain : {D : Type 0} → (D → Option (List ℕ)) → (D → List ℕ → Type 0) → Type 0
+EachServiceIsOfAChain {D} seen may_leave =
+    (from disk : D) (shelf : Option (List File)) (subscribers : Option (List ℕ)) (status : Status) (old new : Option (List Turn)) (told : IsTold seen may_leave from) (image : List ℕ)
+    (serves : Serves shelf subscribers (seen from) (MayLeave seen may_leave from disk) status old new) → Remembers seen may_leave status from disk → may_leave disk image
+    → BeganOn told.0 (record { status = status; old = None; new = None; rows = serves.rows; lines = serves.service.end.early; image = image })

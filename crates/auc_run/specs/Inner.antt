@@ -1,26 +1,28 @@
 -- Inner facts: what only private contracts of this crate cite.
-use Rattle.std.specs.Prelude.{◌≡◌, ℕ, ◌+◌, ◌<◌, ◌≤◌, ◌⊎◌, ◌∷◌, ◌++◌, max, true, false, AllPairs, All, Bool, List, [], length, map, slice_index, Option, Some, None, Result, Ok, Err}
+use Rattle.std.specs.Prelude.{◌≡◌, ℕ, ◌+◌, ◌<◌, ◌≤◌, ◌^◌, ◌↔◌, ◌⊎◌, ◌∷◌, ◌++◌, max, true, false, AllPairs, All, Bool, List, [], length, map, slice_index, Option, Some, None, Result, Ok, Err}
 use Rattle.std.specs.Option.{option_copied}
 use Rattle.auc_edge.specs.Shelf.{File, IsLongerFile}
 use Rattle.auc_edge.specs.Sink.{Appends, AppendsFront}
 use Rattle.auc_edge.specs.declared.stop.Stop.{Stop}
+use Rattle.auc_edge.specs.declared.stop.Stop.TheVariants.{Fault, Full}
 use Rattle.auc_edge.specs.declared.read_refusal.ReadRefusal.{ReadRefusal}
 use Rattle.auc_edge.specs.declared.read_refusal.ReadRefusal.TheVariants as unread
 use Rattle.auc_forms.specs.Algorithm.{algorithm_named}
 use Rattle.auc_forms.specs.Reserved.{IsReservedText, asks_reserved}
 use Rattle.auc_forms.specs.declared.algorithm.AlgorithmForm.{AlgorithmForm}
 use Rattle.auc_journal.specs.Durable.{IsDurable, IsTold}
-use Rattle.auc_journal.specs.Image.{Frame, Keeps}
+use Rattle.auc_journal.specs.Image.{Frame, Keeps, reserved_in}
 use Rattle.auc_journal.specs.Journal.{JournalState, limits_of, reserved_at}
 use Rattle.auc_journal.specs.Settled.{IsClosable}
 use Rattle.auc_journal.specs.declared.open_why.OpenWhy.{OpenWhy}
 use Rattle.auc_journal.specs.declared.open_why.OpenWhy.TheVariants as unopened
 use Rattle.auc_load.specs.Words.{load_named}
 use Rattle.auc_load.specs.declared.words.LoadWords.{LoadWords}
+use Rattle.auc_jobs.specs.Round.{DrewFull}
 use Rattle.auc_jobs.specs.Serving.{AreAllKnown}
 use Rattle.auc_jobs.specs.State.{Standing, StandsAt}
 use Rattle.auc_print.specs.OneText.{PartFits, RoundFits}
-use Rattle.auc_print.specs.Text.{part_text, transcript_text}
+use Rattle.auc_print.specs.Text.{part_text, round_text, transcript_text}
 use Rattle.auc_script.specs.Numbers.{most_jobs}
 use Rattle.auc_script.specs.Reading.{script_of}
 use Rattle.auc_lines.specs.Part.{AreApart}
@@ -34,10 +36,18 @@ use Rattle.auc_subs.specs.File.{subscribers_in}
 use Rattle.auc_subs.specs.declared.refusal.SubsRefusal.{SubsRefusal}
 use Rattle.auc_subs.specs.declared.refusal.SubsRefusal.TheVariants as wrong_subs
 use Rattle.auc_subs.specs.declared.row.Row.{Row}
+use Rattle.auc_transcript.specs.Completeness.{EachPlainSessionAgrees, EachResumedSessionAgrees}
+use Rattle.auc_transcript.specs.Counters.{EachTranscriptKeepsContexts}
+use Rattle.auc_transcript.specs.Keys.{EachAuthenticationAgrees, EachBreachIsTold, EachTranscriptHasItsNets}
+use Rattle.auc_transcript.specs.Leases.{EachLeasedNumberIsHandedOutOnce}
+use Rattle.auc_transcript.specs.OneTold.{EachToldTranscriptIsOne}
+use Rattle.auc_transcript.specs.Presented.{EachFailureInSessionsIsByPlace, EachPresentedVectorHasARightMac}
+use Rattle.auc_transcript.specs.SimSessions.{EachSimSessionAgrees}
+use Rattle.auc_transcript.specs.Systems.{EachHonestAuthenticationIsConfirmed}
 use Rattle.auc_world.specs.Setting.{Setting}
 use Rattle.auc_world.specs.Limits.{Raises, least_step}
-use Rattle.auc_world.specs.Lines.{numbers_of}
-use Rattle.auc_world.specs.Transcript.{Course, Leads, ServesPart}
+use Rattle.auc_world.specs.Lines.{all_lines, numbers_of}
+use Rattle.auc_world.specs.Transcript.{Course, Leads, ServesPart, ServesRound}
 use Rattle.auc_world.specs.declared.record.LineRecord.{LineRecord}
 use Rattle.auc_world.specs.declared.record.PartRecord.{PartRecord}
 use Rattle.auc_world.specs.declared.record.RoundRecord.{RoundRecord}
@@ -304,10 +314,39 @@ EndsIn seen may_leave set full from reserved at part NoMemory journal before old
 EndsIn seen may_leave set full from reserved at part status journal before old new =
     ServesLast seen may_leave set full from reserved at part status journal before old new
 
--- a text was written after a round that can be printed and in which reservations may have stopped, unless memory ran out
-abbrev pub HasWritten : RoundRecord → Option Stop → Status → Option (List ℕ) → Option (List ℕ) → List ℕ → Type 0
-HasWritten round stop NoMemory old new text = new ≡ old
-HasWritten round stop status old new text = IsStopOf status stop × IsWritten status old new text × RoundFits round
+-- a round that was served leads on
+pub record RoundLeads {D : Type 0} (seen : D → Option (List ℕ)) (may_leave : D → List ℕ → Type 0) (set : Setting) (from : D) (reserved : List ℕ) (at : Course) (jobs : List (List Line)) (round : RoundRecord)
+    (stop : Option Stop) (state : Standing) (journal : JournalState D) : Type 0 where
+  pub next : Course
+  pub served : ServesRound set stop at jobs round next
+  pub early : next.early ≡ at.early ++ all_lines round.jobs
+  pub number : next.number ≡ at.number + 1
+  pub kept : state.kept ≡ next.kept
+  pub opens : state.words ≡ next.openings
+  pub reserves : Reserves seen may_leave set.rows from reserved next journal
+  pub needs : stop ≡ Some Full → (drew : DrewFull set.rows round) × (reserved_in journal.limits drew.row.imsi < drew.number)
+
+-- wherever it began
+abbrev pub EachLeads : {D : Type 0} → (D → Option (List ℕ)) → (D → List ℕ → Type 0) → Setting → ℕ → Standing → JournalState D → List (List Line) → RoundRecord → Option Stop → Standing → JournalState D → Type 0
+EachLeads {D} seen may_leave set number state journal jobs round stop next after =
+    (from : D) (reserved : List ℕ) (at : Course) → StandsOn seen may_leave set from reserved at number state journal → RoundLeads seen may_leave set from reserved at jobs round stop next after
+
+-- a round was served, and its text stands behind what isn't written yet
+pub record MakesRound {D : Type 0} (seen : D → Option (List ℕ)) (may_leave : D → List ℕ → Type 0) (set : Setting) (full : Bool) (number : ℕ) (state : Standing) (journal : JournalState D) (jobs : List (List Line))
+    (stop : Option Stop) (next : Standing) (after : JournalState D) (before text : List ℕ) : Type 0 where
+  pub round : RoundRecord
+  pub leads : EachLeads seen may_leave set number state journal jobs round stop next after
+  pub stands : (early : List LineRecord) → StandsAt set early state → StandsAt set (early ++ all_lines round.jobs) next
+  pub failed : (after.failed ≡ true) ↔ (stop ≡ Some Fault)
+  pub no_room : stop ≡ Some Full → 2 ^ 30 < after.place + 20
+  pub fits : RoundFits round
+  pub is_text : text ≡ before ++ round_text set full round
+
+-- the refusal of a round in which reservations ended
+abbrev pub stopped_by : Option Stop → Result (Unit {0}) Refusal
+stopped_by None = Ok tt
+stopped_by (Some Fault) = Err refused.StoreFault
+stopped_by (Some Full) = Err refused.StoreFull
 
 -- the first of some parts were served and written, all of them if the run is done, and the disk is left so
 pub record RunsParts {D : Type 0} (seen : D → Option (List ℕ)) (may_leave : D → List ℕ → Type 0) (set : Setting) (full : Bool) (from : D) (reserved : List ℕ) (at : Course) (parts : List Part)
@@ -327,3 +366,20 @@ pub record RunsParts {D : Type 0} (seen : D → Option (List ℕ)) (may_leave : 
   pub keeps : (told : IsTold seen may_leave from) → (image : List ℕ) → may_leave disk image → Keeps told.0 image × IsClosable image
   pub full_at : status ≡ StoreFull → IsTold seen may_leave from → IsFull (seen disk)
   pub ends_full : status ≡ StoreFull → EndsFull seen may_leave set.rows from records disk
+
+-- ---- what an output stands on
+
+-- the laws of transcripts
+pub record Laws : Type 0 where
+  pub told : EachToldTranscriptIsOne
+  pub nets : EachTranscriptHasItsNets
+  pub keys : EachAuthenticationAgrees
+  pub breaches : EachBreachIsTold
+  pub in_sessions : EachFailureInSessionsIsByPlace
+  pub macs : EachPresentedVectorHasARightMac
+  pub contexts : EachTranscriptKeepsContexts
+  pub plain : EachPlainSessionAgrees
+  pub resumed : EachResumedSessionAgrees
+  pub authentications : EachHonestAuthenticationIsConfirmed
+  pub leases : EachLeasedNumberIsHandedOutOnce
+  pub sim_sessions : EachSimSessionAgrees

@@ -4,4 +4,7 @@ pub mod Output
 pub mod Refusal
 pub mod Outcome
 pub mod Chain
+pub mod Turns
+pub mod Service
+pub mod InnerService
 pub mod Inner

@@ -51,6 +51,8 @@ why_word why.UnknownSession = codes "unknownsession"
 why_word why.Twice = codes "twice"
 why_word why.UsimBusy = codes "usimbusy"
 why_word why.Limit = codes "limit"
+why_word why.NotInBlock = codes "notlive"
+why_word why.Unfinished = codes "unfinished"
 
 -- the line that a refusal writes, and nothing if it writes none
 abbrev pub line_of : Refusal → List ℕ

@@ -20,6 +20,14 @@ files_named (word ∷ scenario ∷ subscribers ∷ []) =
     then Some (record { scenario = scenario; subscribers = Some subscribers }) else None
 files_named _ = None
 
+-- the file of subscribers, if one is named, that the words `serve` and `serve SUBSCRIBERS` name, and none if the words have no
+-- such form
+abbrev pub service_named : List (List ℕ) → Option (Option (List ℕ))
+service_named (word ∷ []) = if bytes_eq word (codes "serve") then Some None else None
+service_named (word ∷ subscribers ∷ []) =
+    if bytes_eq word (codes "serve") && nat_lt 0 (length subscribers) then Some (Some subscribers) else None
+service_named _ = None
+
 -- the exit status of the program
 abbrev pub number_of_status : Status → ℕ
 number_of_status Done = 0

@@ -1,9 +1,9 @@
 //! The forms of the program's words.
 
 ghost use Rattle.std.specs.Prelude.{◌≡◌};
-ghost use Rattle.std.specs.Option.{option_map};
+ghost use Rattle.std.specs.Option.{option_copied, option_map};
 ghost use Rattle.auc_run.specs.Inner.{files_seen};
-ghost use Rattle.auc_run.specs.Words.{files_named};
+ghost use Rattle.auc_run.specs.Words.{files_named, service_named};
 
 use auc_edge::Octets;
 
@@ -35,6 +35,30 @@ pub fn input_files(words: &[Octets]) -> Option<InputFiles<'_>>
             Some(InputFiles {
                 scenario: scenario.as_slice(),
                 subscribers: Some(subscribers.as_slice()),
+            })
+        }
+        _ => None,
+    }
+}
+
+/// What a service's words name.
+#[derive(Clone, Copy)]
+pub struct ServiceWords<'a> {
+    /// The file of the subscribers with which the service begins, of at least 1 byte, if one is named.
+    pub subscribers: Option<&'a [u8]>,
+}
+
+/// What the words `serve` or `serve SUBSCRIBERS` name, or `None` if the words have no such form.
+pub fn service_words(words: &[Octets]) -> Option<ServiceWords<'_>>
+    ensures { option_map (λ form. option_copied form.subscribers) result ≡ service_named words.now }
+{
+    match words {
+        [word] if word.as_slice() == b"serve".as_slice() => {
+            Some(ServiceWords { subscribers: None })
+        }
+        [word, file] if word.as_slice() == b"serve".as_slice() && !file.is_empty() => {
+            Some(ServiceWords {
+                subscribers: Some(file.as_slice()),
             })
         }
         _ => None,

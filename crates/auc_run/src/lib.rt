@@ -1,6 +1,6 @@
-//! One run of the authentication centre's program: [`run`]. What its clauses say of contents holds for a shelf
-//! and an output that reveal what they hold, as those in memory do; of the program's own files and terminal they
-//! say nothing, and tests show that the same generic code runs there.
+//! One run of the authentication centre's program, [`run`], or one service of it, [`serve`]. What their clauses say of
+//! contents holds for a shelf, an output and a wire that reveal what they hold, as those in memory do; of the program's own
+//! files and streams they say nothing, and tests show that the same generic code runs there.
 //!
 //! If the status is [`Status::Done`], the bytes written are the text of exactly one lawful transcript of the
 //! scenario. Within this run no two vectors of a subscriber have the same SQN, no USIM accepts an SQN twice, and
@@ -17,11 +17,15 @@
 //! however their steps interleave. No clause says in which order the jobs of a round are served, or that a worker gets on;
 //! tests of the crate `auc_runs` show that two jobs are served at the same time.
 //!
+//! A service hears blocks of lines and replies to each before it hears more. All that is said above of one run's output holds of
+//! the rounds of all blocks that it answered (`specs/Service`).
+//!
 //! `specs/Outcome` says how a run ends, `specs/Refusal` which status and line a refusal has, `specs/Output` what
 //! a run writes; `auc_transcript` says which transcripts are lawful. Memory is taken, the workers' threads are
 //! started, and the call waits for them.
 #![tactic(auto)]
 
+mod blocks;
 mod forms;
 mod input;
 mod law;
@@ -29,11 +33,14 @@ mod load;
 mod opening;
 mod refusal;
 mod refusing;
+mod replies;
 mod rounds;
+mod service;
 mod status;
 mod top_call;
 
 pub use input::MAX_FILE;
 pub use law::{each_run_is_one_of_a_chain, no_later_run_draws_a_number_again};
+pub use service::serve;
 pub use status::{Ended, Status};
 pub use top_call::run;

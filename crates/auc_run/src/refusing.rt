@@ -71,6 +71,28 @@ fn write_text<K: Sink>(text: Octets, out: &mut K) -> Result<(), Refusal>
     Ok(write_whole(out, text.as_slice())?)
 }
 
+/// The line of a refusal, which is empty if it has none.
+pub(crate) fn refusal_line(alloc: Global, refusal: Refusal) -> Result<Octets, NoMemory>
+    ensures { IfOk result (λ text. text ≡ line_of refusal) }
+{
+    match refusal {
+        Refusal::Usage => Octets::copied_from(alloc, b"usage\n"),
+        Refusal::Subscribers(row, why) => {
+            refused_line(alloc, b"refused subscribers ", row, subs_why_text(why))
+        }
+        Refusal::Scenario(line, why) => {
+            refused_line(alloc, b"refused scenario ", line, why_text(why))
+        }
+        Refusal::NotJournal(place) => journal_line(alloc, place),
+        Refusal::ReadFault
+        | Refusal::WriteFault
+        | Refusal::StoreFault
+        | Refusal::StoreFull
+        | Refusal::TooLong
+        | Refusal::NoMemory => Ok(Octets::new(alloc)),
+    }
+}
+
 /// The line of a refusal: what is refused, the number of its wrong part, and the word for its fault.
 fn refused_line(
     alloc: Global,
@@ -117,6 +139,8 @@ fn why_text(why: ScriptWhy) -> &'static [u8]
         ScriptWhy::Twice => b"twice",
         ScriptWhy::UsimBusy => b"usimbusy",
         ScriptWhy::Limit => b"limit",
+        ScriptWhy::NotInBlock => b"notlive",
+        ScriptWhy::Unfinished => b"unfinished",
     }
 }
 

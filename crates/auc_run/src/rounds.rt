@@ -1,11 +1,13 @@
 //! The rounds and restarts of a scenario. A round is written when it has ended, and a restart with the round after it, or
 //! at the end.
 
-ghost use Rattle.std.specs.Prelude.{◌≡◌, ◌≢◌, ◌≤◌, ◌<◌, ◌+◌, ◌^◌, ◌++◌, ℕ, List, [], All, map, length, slice_index, OnOk, IfOk, IfErr, IsErrOf, Err, if◌then◌else◌};
+ghost use Rattle.std.specs.Prelude.{◌≡◌, ◌≢◌, ◌≤◌, ◌<◌, ◌+◌, ◌^◌, ◌++◌, ℕ, List, [], All, map, length, slice_index, OnOk, OnErr, IfOk, IfErr, IsErrOf, Some, Err, if◌then◌else◌};
 ghost use Rattle.auc_edge.specs.Faults.{Rose};
+ghost use Rattle.auc_edge.specs.declared.stop.Stop.TheVariants as stops;
 ghost use Rattle.auc_jobs.specs.State.{StandsAt};
 ghost use Rattle.auc_journal.specs.Journal.{limits_of};
 ghost use Rattle.auc_lines.specs.declared.part.Part.TheVariants as part;
+ghost use Rattle.auc_print.specs.OneText.{RoundFits};
 ghost use Rattle.auc_print.specs.Text.{restart_text, round_text};
 ghost use Rattle.auc_script.specs.Numbers.{longest_realm, most_workers};
 ghost use Rattle.auc_sqn.specs.Number.{max_seq};
@@ -16,8 +18,8 @@ ghost use Rattle.auc_world.specs.Start.{fresh_kept};
 ghost use Rattle.auc_world.specs.Transcript.{Course, beginning};
 ghost use Rattle.auc_world.specs.Vectors.{vectors_in};
 ghost use Rattle.auc_world.specs.declared.record.LineRecord.{LineRecord};
-ghost use Rattle.auc_run.specs.Inner.{Begins, EndsIn, GoesOn, HasWritten, IsKnownPart, RoundsStop, RunsParts, StandsOn, status_in};
-ghost use Rattle.auc_run.specs.Outcome.{IsQuiet};
+ghost use Rattle.auc_run.specs.Inner.{Begins, Covers, EndsIn, GoesOn, IsKnownPart, MakesRound, RoundsStop, RunsParts, StandsOn, status_in, stopped_by};
+ghost use Rattle.auc_run.specs.Outcome.{IsQuiet, IsStopOf, IsWritten};
 ghost use Rattle.auc_run.specs.Output.{setting_of};
 ghost use Rattle.auc_run.specs.Refusal.{status_of};
 
@@ -61,7 +63,7 @@ pub(crate) struct Stand<D: Disk + Drop> {
 
 impl<D: Disk + Drop> Stand<D> {
     /// The disk of the journal. All memory is given back.
-    fn into_disk(self) -> D
+    pub(crate) fn into_disk(self) -> D
         ensures { result ≡ self.journal.disk }
     {
         let Stand { journal, .. } = self;
@@ -76,31 +78,125 @@ pub(crate) struct Step<D: Disk + Drop> {
     pub(crate) result: Result<(), Refusal>,
 }
 
-/// Writes the text of a round after a text that isn't written yet. If reservations ended in the round, it is refused with
-/// why after it was written.
-fn write_round<K: Sink>(
+/// What came of a round whose text isn't written yet, and what it leaves.
+#[derive(Drop)]
+pub(crate) struct Made<D: Disk + Drop> {
+    pub(crate) stand: Stand<D>,
+    pub(crate) result: Result<Option<Stop>, NoMemory>,
+}
+
+/// Serves the jobs of a round, and appends its text to what isn't written yet. It answers whether reservations ended in it.
+pub(crate) fn make_round<R: Threads + Wait + Sync, D: Disk + Drop + Send, G: Gate + Sync>(
+    rt: &R,
     alloc: Global,
     settings: &Settings,
-    ran: &Ran,
-    text: &mut Octets,
-    out: &mut K,
-) -> Result<(), Refusal>
+    jobs: &RoundPart,
+    stand: Stand<D>,
+    gate: &G,
+) -> Made<D>
+    requires subscribers { AreSubscribers settings.now.set.rows }
+    requires known { IsKnownPart settings.now.set.rows (part.Round jobs.now) }
+    requires workers { (1 ≤ settings.now.workers) × (settings.now.workers ≤ most_workers) }
+    requires realm { length settings.now.set.realm ≤ longest_realm }
+    requires number { stand.number + 1 < 2 ^ 32 }
+    requires stands { (from : D) × (reserved : List ℕ) × (at : Course) × StandsOn D.seen D.may_leave settings.now.set
+        from reserved at stand.number stand.state stand.journal }
+
+    ensures made { IfOk result.result (λ stop. MakesRound D.seen D.may_leave settings.now.set settings.now.full
+        stand.number stand.state stand.journal jobs.now stop result.stand.state result.stand.journal
+        stand.text result.stand.text) }
+    ensures ends { OnErr result.result ((from : D) (reserved : List ℕ) (at : Course)
+        → StandsOn D.seen D.may_leave settings.now.set from reserved at stand.number stand.state stand.journal
+        → Covers D.seen D.may_leave settings.now.set.rows from at.early result.stand.journal) }
+    ensures number { result.stand.number ≡ stand.number + 1 }
+
+    // A fault comes only with a risen count.
+    ensures store_fault { IfOk result.result (λ stop. stop ≡ Some stops.Fault
+        → Rose (D.faults stand.journal.disk) (D.faults result.stand.journal.disk)) }
+    ensures quiet_store { IfOk result.result (λ stop. stop ≢ Some stops.Fault
+        → D.faults result.stand.journal.disk ≡ D.faults stand.journal.disk) }
+{
+    let Stand {
+        number,
+        state,
+        journal,
+        text,
+    } = stand;
+    let Served {
+        journal,
+        state,
+        result,
+    } = serve(
+        rt,
+        alloc,
+        number,
+        jobs.as_slice(),
+        &settings.set,
+        settings.full,
+        state,
+        journal,
+        settings.workers,
+        gate,
+    );
+    let mut stand = Stand {
+        number: number + 1,
+        state,
+        journal,
+        text,
+    };
+    match result {
+        Ok(ran) => {
+            let result = append_round(settings, &ran, &mut stand.text);
+            Made { stand, result }
+        }
+        Err(NoMemory) => Made {
+            stand,
+            result: Err(NoMemory),
+        },
+    }
+}
+
+/// Appends the text of a round, and answers whether reservations ended in it.
+fn append_round(settings: &Settings, ran: &Ran, text: &mut Octets) -> Result<Option<Stop>, NoMemory>
     requires named { NamesBelow (length settings.now.set.rows) ran.now.round }
     requires vectors { ran.now.vectors
         ≡ (if settings.now.full then map (vectors_in settings.now.set) ran.now.round.jobs else []) }
 
-    ensures written { HasWritten ran.now.round ran.now.stop (status_in result) (K.written out.old) (K.written out.new)
-        (text.old ++ round_text settings.now.set settings.now.full ran.now.round) }
+    ensures stop { IfOk result (λ stop. stop ≡ ran.now.stop) }
+    ensures appended { OnOk result (text.new
+        ≡ text.old ++ round_text settings.now.set settings.now.full ran.now.round) }
+    ensures fits { OnOk result (RoundFits ran.now.round) }
+{
+    let vectors = ran.vectors.as_slice();
+    print_round(&ran.round, vectors, &settings.set, settings.full, text)?;
+    Ok(ran.stop)
+}
+
+/// Writes a text with which reservations ended or not. If they ended, it is refused with why after it was written.
+fn write_made<K: Sink>(
+    alloc: Global,
+    stop: Option<Stop>,
+    text: &mut Octets,
+    out: &mut K,
+) -> Result<(), Refusal>
+    ensures stopped { IsStopOf (status_in result) stop }
+    ensures written { IsWritten (status_in result) (K.written out.old) (K.written out.new) text.old }
     ensures refused { IfErr result RoundsStop }
+    ensures spared { result ≢ Err Refusal.NoMemory }
     ensures done { OnOk result (text.new ≡ []) }
     ensures quiet { result ≢ Err Refusal.WriteFault → K.faults out.new ≡ K.faults out.old }
     ensures fault { IsErrOf result Refusal.WriteFault → Rose (K.faults out.old) (K.faults out.new) }
 {
-    let vectors = ran.vectors.as_slice();
-    print_round(&ran.round, vectors, &settings.set, settings.full, text)?;
     write_whole(out, text.as_slice())?;
     *text = Octets::new(alloc);
-    match ran.stop {
+    stopped(stop)
+}
+
+/// The refusal of a round in which reservations ended.
+pub(crate) fn stopped(stop: Option<Stop>) -> Result<(), Refusal>
+    ensures { result ≡ stopped_by stop }
+{
+    match stop {
         None => Ok(()),
         Some(Stop::Fault) => Err(Refusal::StoreFault),
         Some(Stop::Full) => Err(Refusal::StoreFull),
@@ -146,37 +242,10 @@ fn serve_round<R: Threads + Wait + Sync, K: Sink, D: Disk + Drop + Send, G: Gate
     ensures quiet_store { IsQuiet (status_in result.result)
         → D.faults result.stand.journal.disk ≡ D.faults stand.journal.disk }
 {
-    let Stand {
-        number,
-        state,
-        journal,
-        text,
-    } = stand;
-    let Served {
-        journal,
-        state,
-        result,
-    } = serve(
-        rt,
-        alloc,
-        number,
-        jobs.as_slice(),
-        &settings.set,
-        settings.full,
-        state,
-        journal,
-        settings.workers,
-        gate,
-    );
-    let mut stand = Stand {
-        number: number + 1,
-        state,
-        journal,
-        text,
-    };
+    let Made { mut stand, result } = make_round(rt, alloc, settings, jobs, stand, gate);
     match result {
-        Ok(ran) => {
-            let result = write_round(alloc, settings, &ran, &mut stand.text, out);
+        Ok(stop) => {
+            let result = write_made(alloc, stop, &mut stand.text, out);
             Step { stand, result }
         }
         Err(NoMemory) => Step {
@@ -321,7 +390,7 @@ fn serve_all<R: Threads + Wait + Sync, K: Sink, D: Disk + Drop + Send, G: Gate +
 }
 
 /// Where the first round stands: each subscriber is opened at its limit.
-fn first_state<D: Disk + Drop>(
+pub(crate) fn first_state<D: Disk + Drop>(
     alloc: Global,
     subs: &Subscribers,
     journal: &Journal<D>,

@@ -24,6 +24,7 @@ ghost use Rattle.auc_run.specs.Words.{Files, files_named};
 
 use crate::forms::{InputFiles, input_files};
 use crate::input::{read_script, read_subscribers};
+use crate::law::laws_of_transcripts;
 use crate::load::run_load;
 use crate::opening::open_journal;
 use crate::refusal::{Performed, Refusal};
@@ -36,12 +37,6 @@ use auc_forms::{AlgorithmForm, algorithm_lines, algorithm_words, is_reserved, re
 use auc_journal::{Journal, LimitList, OpenRefused};
 use auc_script::Script;
 use auc_subs::Subscribers;
-use auc_transcript::{
-    each_authentication_agrees, each_breach_is_told, each_failure_in_sessions_is_by_place,
-    each_honest_authentication_is_confirmed, each_leased_number_is_handed_out_once,
-    each_plain_session_agrees, each_resumed_session_agrees, each_sim_session_agrees,
-    each_told_transcript_is_one, each_transcript_keeps_contexts,
-};
 use std::alloc::Global;
 use std::sync::Wait;
 use std::thread::Threads;
@@ -282,16 +277,7 @@ fn run_input<R: Threads + Wait + Sync, K: Sink, D: Disk + Drop + Send, G: Gate +
 {
     match open_journal(alloc, disk, &input.subs) {
         Ok(journal) => {
-            each_told_transcript_is_one();
-            each_authentication_agrees();
-            each_breach_is_told();
-            each_failure_in_sessions_is_by_place();
-            each_transcript_keeps_contexts();
-            each_plain_session_agrees();
-            each_resumed_session_agrees();
-            each_honest_authentication_is_confirmed();
-            each_leased_number_is_handed_out_once();
-            each_sim_session_agrees();
+            laws_of_transcripts();
             is_realm(input.script.realm.as_slice());
             serve_parts(rt, alloc, &input.script, &input.subs, journal, out, gate)
         }
@@ -303,16 +289,16 @@ fn run_input<R: Threads + Wait + Sync, K: Sink, D: Disk + Drop + Send, G: Gate +
 }
 
 /// At most 255 bytes are a realm.
-fn is_realm(realm: &[u8])
+pub(crate) fn is_realm(realm: &[u8])
     requires { length realm.now ≤ longest_realm }
     ensures { IsRealm realm.now }
 {}
 
 /// The subscribers and the script of the files of a run.
 #[derive(Drop)]
-struct Input {
-    subs: Subscribers,
-    script: Script,
+pub(crate) struct Input {
+    pub(crate) subs: Subscribers,
+    pub(crate) script: Script,
 }
 
 /// Reads the subscribers, if a file of them is named, and then the scenario.

@@ -10,7 +10,7 @@ use Rattle.auc_script.specs.declared.refusal.LineRefusal.TheVariants as of
 use Rattle.auc_script.specs.InnerRefusal.{Becomes, refusal_at}
 use Rattle.auc_script.specs.Scenario.{Scenario, after_line}
 use Rattle.auc_text.specs.Text.{lines_of}
-use Rattle.auc_script.specs.Reading.{AreAfter, AreRight, Keeps, after, beginning, read_lines, script_from, script_of}
+use Rattle.auc_script.specs.Reading.{AreAfter, AreRight, Keeps, after, read_lines}
 
 -- the lines that are left to read
 abbrev pub lines_left : Option (List ℕ) → List (List ℕ)
@@ -23,15 +23,15 @@ steps_left None = 0
 steps_left (Some text) = length text + 1
 
 -- the lines in front of those that are left are right, and lead to a scenario
-pub record ReadSoFar (rows : List Row) (text : List ℕ) (rest : Option (List ℕ)) (number : ℕ) (now : Scenario) : Type 0 where
+pub record ReadSoFar (from : Scenario) (text : List ℕ) (rest : Option (List ℕ)) (number : ℕ) (now : Scenario) : Type 0 where
   pub front : List (List ℕ)
   pub split : lines_of text ≡ front ++ lines_left rest
-  pub right : AreRight (beginning rows) front now
+  pub right : AreRight from front now
   pub place : length front + 1 ≡ number
 
 -- no line is read yet
-pub nothing_read : (rows : List Row) (text : List ℕ) (now : Scenario) → now ≡ beginning rows → ReadSoFar rows text (Some text) 1 now
-nothing_read rows text now same = record { front = []; split = refl; right = sym same; place = omega arith }
+pub nothing_read : (from : Scenario) (text : List ℕ) → ReadSoFar from text (Some text) 1 from
+nothing_read from text = record { front = []; split = refl; right = refl; place = omega arith }
 
 -- one more right line
 right_more : (s : Scenario) (front : List (List ℕ)) (t : Scenario) (line : List ℕ) (u : Scenario) → AreRight s front t → after_line t line ≡ Ok u → AreRight s (front ++ line ∷ []) u
@@ -49,33 +49,28 @@ stop : (number : ℕ) (s : Scenario) (line : List ℕ) (rest : List (List ℕ)) 
 stop number s line rest why wrong = rw wrong refl
 
 -- a wrong line behind right ones is refused by its number
-pub refuses : (rows : List Row) (text : List ℕ) (rest : Option (List ℕ)) (line : List ℕ) (behind : List (List ℕ)) (number : ℕ) (now : Scenario) (why : ScriptWhy) → ReadSoFar rows text rest number now
-    → lines_left rest ≡ line ∷ behind → after_line now line ≡ Err why → script_of rows text ≡ Err (refusal.Line number why)
-refuses rows text rest line behind number now why so_far cut wrong =
-    let reads : read_lines 1 (beginning rows) (lines_of text) ≡ Err (refusal.Line number why) =
-    rw (so_far.split, read_on 1 (beginning rows) so_far.front now (lines_left rest) so_far.right, cut, stop (1 + length so_far.front) now line behind why wrong)
+pub refuses : (from : Scenario) (text : List ℕ) (rest : Option (List ℕ)) (line : List ℕ) (behind : List (List ℕ)) (number : ℕ) (now : Scenario) (why : ScriptWhy) → ReadSoFar from text rest number now
+    → lines_left rest ≡ line ∷ behind → after_line now line ≡ Err why → read_lines 1 from (lines_of text) ≡ Err (refusal.Line number why)
+refuses from text rest line behind number now why so_far cut wrong =
+    rw (so_far.split, read_on 1 from so_far.front now (lines_left rest) so_far.right, cut, stop (1 + length so_far.front) now line behind why wrong)
     (ap (λ n. Err (refusal.Line n why)) (omega (arith, so_far.place)))
-    in rw reads refl
 
 -- right lines with nothing behind them are read whole
-pub reads_whole : (rows : List Row) (text : List ℕ) (number : ℕ) (now : Scenario) → ReadSoFar rows text None number now → script_of rows text ≡ Ok (script_from now, now.rows)
-reads_whole rows text number now so_far =
-    let reads : read_lines 1 (beginning rows) (lines_of text) ≡ Ok now =
-    rw (so_far.split, read_on 1 (beginning rows) so_far.front now [] so_far.right) refl
-    in rw reads refl
+pub reads_whole : (from : Scenario) (text : List ℕ) (number : ℕ) (now : Scenario) → ReadSoFar from text None number now → read_lines 1 from (lines_of text) ≡ Ok now
+reads_whole from text number now so_far = rw (so_far.split, read_on 1 from so_far.front now [] so_far.right) refl
 
 -- the rows so far are those after the lines in front
-pub after_front : (rows : List Row) (text : List ℕ) (rest : Option (List ℕ)) (number : ℕ) (now : Scenario) → ReadSoFar rows text rest number now → AreAfter rows text (number - 1) now.rows
-after_front rows text rest number now so_far =
+pub after_front : (from : Scenario) (text : List ℕ) (rest : Option (List ℕ)) (number : ℕ) (now : Scenario) → ReadSoFar from text rest number now → AreAfter from text (number - 1) now.rows
+after_front from text rest number now so_far =
     (now, rw (so_far.split, take_at so_far.front (lines_left rest) (number - 1) (omega (arith, so_far.place))) so_far.right, refl)
 
 -- one more right line
-pub so_far_more : (rows : List Row) (text : List ℕ) (rest : Option (List ℕ)) (line : List ℕ) (behind : Option (List ℕ)) (number : ℕ) (now next : Scenario) → ReadSoFar rows text rest number now
-    → lines_left rest ≡ line ∷ lines_left behind → after_line now line ≡ Ok next → ReadSoFar rows text behind (number + 1) next
-so_far_more rows text rest line behind number now next so_far cut right = record {
+pub so_far_more : (from : Scenario) (text : List ℕ) (rest : Option (List ℕ)) (line : List ℕ) (behind : Option (List ℕ)) (number : ℕ) (now next : Scenario) → ReadSoFar from text rest number now
+    → lines_left rest ≡ line ∷ lines_left behind → after_line now line ≡ Ok next → ReadSoFar from text behind (number + 1) next
+so_far_more from text rest line behind number now next so_far cut right = record {
   front = so_far.front ++ line ∷ [];
   split = so_far.split ∙ rw cut (sym (append_assoc so_far.front (line ∷ []) (lines_left behind)));
-  right = right_more (beginning rows) so_far.front now line next so_far.right right;
+  right = right_more from so_far.front now line next so_far.right right;
   place = omega (arith, so_far.place, length-append so_far.front (line ∷ []));
 }
 
@@ -91,9 +86,9 @@ refused_by of.NoMemory expected new number line why becomes same = absurd (apart
     apart line why same = cc
 
 -- rows after so many lines are what a refusal of the next line keeps
-pub keeps : (rows : List Row) (text : List ℕ) (number : ℕ) (refused : LineRefusal) (kept : List Row) → AreAfter rows text (number - 1) kept → Keeps rows text (refusal_at number refused) kept
-keeps rows text number (of.Why w) kept after = after
-keeps rows text number of.NoMemory kept after = (number - 1, after)
+pub keeps : (from : Scenario) (text : List ℕ) (number : ℕ) (refused : LineRefusal) (kept : List Row) → AreAfter from text (number - 1) kept → Keeps from text (refusal_at number refused) kept
+keeps from text number (of.Why w) kept after = after
+keeps from text number of.NoMemory kept after = (number - 1, after)
 
 -- the lines that are left begin with the next one
 pub next_left : (text line : List ℕ) (behind : Option (Bor (List ℕ))) → MatchOption behind (lines_of text ≡ line ∷ []) (λ rest. lines_of text ≡ line ∷ lines_of rest.now)

@@ -2,7 +2,7 @@
 use Rattle.std.proofs.Common.{ℕ, ◌≡◌, ◌≢◌, ◌<◌, ◌≤◌, ◌+◌, ◌*◌, ◌∙◌, ◌&&◌, ◌||◌, nat_eq, nat_le, nat_lt, Bool, true, false, List, ◌∷◌, ◌++◌, [], length, get_or, slice_index, slice_set, Option, Some, None, IfSome, is_some, slice_get, Result, Ok, Err, arith, ap, sym, refl, append-nil, append_assoc, length-append, length-set, replicate}
 use Rattle.std.specs.Prelude.{◌==◌, not}
 use Rattle.std.specs.List.{All, AllPairs, join_with_byte, list_any, sum_by}
-use Rattle.std.specs.Option.{option_to_list}
+use Rattle.std.specs.Option.{option_map, option_to_list}
 use Rattle.std.proofs.lemmas.Bool.Decides.{nat_tests}
 use Rattle.std.proofs.lemmas.List.{get_or_append_left, length-replicate, get_or-set_same, get_or-set_other}
 use Rattle.std.proofs.Math.Seq.{get_or-append_seam}
@@ -26,14 +26,16 @@ use Rattle.auc_lines.specs.declared.part.Part.TheVariants.{Round, Restart}
 use Rattle.auc_lines.specs.Sites.{IsSitesValue, SitesValue, deliveries_in, is_delivery}
 use Rattle.auc_script.specs.Numbers.{most_events, most_jobs, most_leased, most_packets, most_rounds, most_sessions, most_vectors}
 use Rattle.auc_script.specs.declared.round_so_far.RoundSoFar.{RoundSoFar}
+use Rattle.auc_script.specs.declared.form.Form.{Form}
+use Rattle.auc_script.specs.declared.form.Form.TheVariants as forms
 use Rattle.auc_script.specs.declared.word.JobWord.{JobWord}
-use Rattle.auc_script.specs.Limits.{AreJobs, AreWithin, IsLine, IsOpened, IsPart, SessionsAreOpened}
+use Rattle.auc_script.specs.Limits.{AreJobs, AreWithin, IsBlock, IsLine, IsOpened, IsPart, SessionsAreOpened}
 use Rattle.auc_lines.specs.Part.{AreApart}
-use Rattle.auc_script.specs.Scenario.{Scenario, by_subs, in_order, is_busy, jobs_in, job_line, line_of, no_jobs, of_job_line, parts_of, restart_line, round_line, rounds_of, subscriber_line, with_round}
+use Rattle.auc_script.specs.Scenario.{Scenario, by_subs, in_order, is_block, is_busy, is_header, jobs_in, job_line, line_of, may_stand_in_block, no_jobs, of_job_line, parts_of, restart_line, round_line, rounds_of, subscriber_line, with_round}
 use Rattle.auc_lines.specs.Part.{asked, asked_by, held_by, holds, is_held_by, jobs_of}
 use Rattle.auc_script.specs.Session.{has_fit_texts, is_among, named_by, opened, opened_by, packets, packets_by, sessions_of}
 use Rattle.auc_script.specs.declared.refusal.ScriptWhy.{ScriptWhy}
-use Rattle.auc_script.specs.declared.refusal.ScriptWhy.TheVariants.{Limit, UsimBusy}
+use Rattle.auc_script.specs.declared.refusal.ScriptWhy.TheVariants.{Limit, NotInBlock, UsimBusy}
 use Rattle.auc_subs.specs.Steps.{◌>>=◌}
 use Rattle.auc_script.specs.Field.{no_field, require}
 use Rattle.auc_script.specs.InnerSoFar.{AreMarks, AreOfJob, IsBetween, IsMark, IsReady, IsSoFar, asked_with, marked, noted, of_new_job, room_for, scenario, with_line}
@@ -111,6 +113,15 @@ no_jobs_more rows ended within room = record {
   vectors = omega (arith, within.vectors, asked-jobs ended []);
   sessions = rw (sessions-none ended) within.sessions;
   numbers = rw (sessions-none ended) within.numbers;
+}
+
+-- the present round of a block
+pub block_within : (rows : List Row) (ended : List Part) (round : Option RoundSoFar) → AreWithin rows (with_round ended round) → IfSome (option_map jobs_in round) (IsBlock rows)
+block_within rows ended None within = tt
+block_within rows ended (Some round) within = record {
+  are_jobs = present_jobs rows ended (jobs_in round) within;
+  few = omega (arith, within.jobs, length-jobs ended (jobs_in round));
+  vectors = omega (arith, within.vectors, asked-jobs ended (jobs_in round));
 }
 
 -- a job without lines
@@ -301,6 +312,10 @@ kept_job rows s round kept room =
       restarts = kept.restarts;
     }
 
+-- whether a line may stand in lines of a form
+abbrev pub may_stand : Form → Line → Bool
+may_stand form line = not (is_block form) || may_stand_in_block line
+
 -- a line that passes all tests, over the jobs before the present one
 pub record Passes (rows : List Row) (s : SoFar) (jobs : List (List Line)) (line : Line) : Type 0 where
   pub is_line : IsLine rows line
@@ -310,6 +325,7 @@ pub record Passes (rows : List Row) (s : SoFar) (jobs : List (List Line)) (line 
   pub sessions : length (s.sessions.all ++ option_to_list (opened_by line)) ≤ most_sessions
   pub packets : s.sessions.packets + packets_by line ≤ most_packets
   pub names : has_fit_texts line ≡ true
+  pub may : may_stand s.form line ≡ true
 
 -- what is kept when a line of a job comes
 pub kept_line : (rows : List Row) (s : SoFar) (jobs : List (List Line)) (job : List Line) (line : Line) (holders : Holders) → IsSoFar rows (record s { round = Some (record { jobs = jobs; job = Some job }) })
@@ -423,21 +439,45 @@ pub must_hold : (b : Bool) (cause : ScriptWhy) (done : Unit {0}) → Ok done ≡
 must_hold true cause done is = refl
 must_hold false cause done is = cc
 
+-- a test that had to fail fails
+pub must_fail : (b : Bool) (cause : ScriptWhy) (done : Unit {0}) → Ok done ≡ require (not b) cause → b ≡ false
+must_fail true cause done is = cc
+must_fail false cause done is = refl
+
+-- one of two tests holds if the first one does, or the second one
+pub first_of : (a b : Bool) → a ≡ true → (a || b) ≡ true
+first_of true b is = refl
+first_of false b is = cc
+
+pub second_of : (a b : Bool) → b ≡ true → (a || b) ≡ true
+second_of true b is = refl
+second_of false b is = is
+
 -- where no round has begun
-pub not_begun : (round : Option RoundSoFar) (ended : List Part) → (not (is_some round) && (length ended == 0)) ≡ true → (round ≡ None) × (ended ≡ [])
-not_begun None [] before = (refl, refl)
-not_begun None (part ∷ more) before = let some : nat_eq (length (part ∷ more)) 0 ≡ false = grind (arith, nat_tests) in absurd (apart (nat_eq (length (part ∷ more)) 0) before some)
+none_begun : (round : Option RoundSoFar) (ended : List Part) → (not (is_some round) && (length ended == 0)) ≡ true → (round ≡ None) × (ended ≡ [])
+none_begun None [] before = (refl, refl)
+none_begun None (part ∷ more) before = let some : nat_eq (length (part ∷ more)) 0 ≡ false = grind (arith, nat_tests) in absurd (apart (nat_eq (length (part ∷ more)) 0) before some)
   where
     apart : (b : Bool) → b ≡ true → b ≡ false → ⊥
     apart true is same = cc
     apart false is same = cc
-not_begun (Some round) ended before = absurd (apart before)
+none_begun (Some round) ended before = absurd (apart before)
   where
     apart : false ≡ true → ⊥
     apart same = cc
 
+pub not_begun : (block : Bool) (round : Option RoundSoFar) (ended : List Part) → (not block && not (is_some round) && (length ended == 0)) ≡ true → (block ≡ false) × (round ≡ None) × (ended ≡ [])
+not_begun true round ended before = cc
+not_begun false round ended before = let begun = none_begun round ended before in (refl, begun.0, begun.1)
+
+-- a form that is no block isn't `Block`
+pub not_both : (form : Form) → is_block form ≡ false → form ≡ forms.Block → ⊥
+not_both forms.Scenario none is = cc
+not_both forms.Header none is = cc
+not_both forms.Block none is = cc
+
 -- what a subscriber's line makes of the scenario, by what it makes of the rows
-pub subscriber_is : (s : Scenario) (fields : List (List ℕ)) (line : List ℕ) (rows : Result (List Row) SubsWhy) → (not (is_some s.round) && (length s.ended == 0)) ≡ true
+pub subscriber_is : (s : Scenario) (fields : List (List ℕ)) (line : List ℕ) (rows : Result (List Row) SubsWhy) → (not (is_block s.form) && not (is_some s.round) && (length s.ended == 0)) ≡ true
     → list_any (λ n. length fields == n) line_counts ≡ true → line ≡ join_with_byte 32 fields → rows_after s.rows line ≡ rows → subscriber_line s fields ≡ (by_subs rows >>= λ rows. Ok (record s { rows = rows }))
 subscriber_is s fields line rows place counted joined is = rw (place, counted, ← joined, is) refl
 
@@ -538,9 +578,10 @@ none_opened rows s round job kept is has n none =
     let behind = not_last (sessions_of (jobs_of s.ended)) (sessions_of (round.jobs ++ job ∷ [])) n (rw (at.sessions, sessions-jobs s.ended (round.jobs ++ job ∷ [])) at none) in
     rw at.round.job.opened (not_last (sessions_of round.jobs) (opened job) n (rw (sessions_last round.jobs job) at behind))
 
--- what the tests behind its form make of a line: the order of its session, whether the USIM is held, and whether there is room
-abbrev pub tested : Result (Unit {0}) ScriptWhy → Bool → Bool → Scenario → Result Scenario ScriptWhy
-tested order busy room next = order >>= λ known. require (not busy) UsimBusy >>= λ free. require room Limit >>= λ within. Ok next
+-- what the tests behind its form make of a line: the order of its session, whether the USIM is held, whether there is room, and
+-- whether it may stand here
+abbrev pub tested : Result (Unit {0}) ScriptWhy → Bool → Bool → Bool → Scenario → Result Scenario ScriptWhy
+tested order busy room may next = order >>= λ known. require (not busy) UsimBusy >>= λ free. require room Limit >>= λ within. require may NotInBlock >>= λ stands. Ok next
 
 -- the sessions of the present job
 of_present : (rows : List Row) (s : SoFar) (round : RoundSoFar) (job : List Line) → IsSoFar rows s → s.round ≡ Some round → round.job ≡ Some job → AreOfJob s.sessions job
@@ -550,41 +591,43 @@ of_present rows s round job kept is has = let at = at_round rows s (Some round) 
 pub line_is : (rows : List Row) (s : SoFar) (which : JobWord) (fields : List (List ℕ)) (round : RoundSoFar) (job : List Line) (line : Line) → IsSoFar rows s
     → s.round ≡ Some round → round.job ≡ Some job → line_of rows which fields ≡ Ok line
     → of_job_line (scenario rows s) which fields
-    ≡ tested (in_order s.sessions.all s.sessions.opened s.sessions.started line) (is_busy round.jobs (held_by line)) (room_for s.sessions s.asked line) (record (scenario rows s) { round = with_line s.round line })
+    ≡ tested (in_order s.sessions.all s.sessions.opened s.sessions.started line) (is_busy round.jobs (held_by line)) (room_for s.sessions s.asked line) (may_stand s.form line) (record (scenario rows s) { round = with_line s.round line })
 line_is rows s which fields round job line kept is has says =
     let present = of_present rows s round job kept is has in
     rw (kept.sessions, present.opened, present.started, present.packets, kept.asked) (rw (says, is, has) refl)
 
 -- the tests that a line passes
 pub all_pass : (rows : List Row) (s : SoFar) (jobs : List (List Line)) (line : Line) (next : Scenario) → Passes rows s jobs line
-    → tested (in_order s.sessions.all s.sessions.opened s.sessions.started line) (is_busy jobs (held_by line)) (room_for s.sessions s.asked line) next ≡ Ok next
+    → tested (in_order s.sessions.all s.sessions.opened s.sessions.started line) (is_busy jobs (held_by line)) (room_for s.sessions s.asked line) (may_stand s.form line) next ≡ Ok next
 all_pass rows s jobs line next passes =
     let vectors = fits_in (s.asked + asked_by line) most_vectors passes.vectors in
     let sessions = fits_in (length (s.sessions.all ++ option_to_list (opened_by line))) most_sessions passes.sessions in
     let packets = fits_in (s.sessions.packets + packets_by line) most_packets passes.packets in
-    rw (passes.order, passes.free, vectors, sessions, packets, passes.names) refl
+    rw (passes.order, passes.free, vectors, sessions, packets, passes.names, passes.may) refl
   where
     fits_in : (n limit : ℕ) → n ≤ limit → nat_le n limit ≡ true
     fits_in n limit within = grind (arith, nat_tests)
 
 -- the same tests, where they answer a number
-abbrev tests : Result (Unit {0}) ScriptWhy → Bool → Bool → ℕ → Result ℕ ScriptWhy
-tests order busy room n = order >>= λ known. require (not busy) UsimBusy >>= λ free. require room Limit >>= λ within. Ok n
+abbrev tests : Result (Unit {0}) ScriptWhy → Bool → Bool → Bool → ℕ → Result ℕ ScriptWhy
+tests order busy room may n = order >>= λ known. require (not busy) UsimBusy >>= λ free. require room Limit >>= λ within. require may NotInBlock >>= λ stands. Ok n
 
 -- what holds where the tests pass, and what a test that fails makes of a scenario
-tests_pass : (order : Result (Unit {0}) ScriptWhy) (busy room : Bool) (n asked : ℕ) → tests order busy room n ≡ Ok asked
-    → (order ≡ Ok tt) × (busy ≡ false) × (room ≡ true) × (asked ≡ n)
-tests_pass (Ok done) false true n asked is = (refl, refl, refl, cc)
-tests_pass (Ok done) false false n asked is = cc
-tests_pass (Ok done) true room n asked is = cc
-tests_pass (Err why) busy room n asked is = cc
+tests_pass : (order : Result (Unit {0}) ScriptWhy) (busy room may : Bool) (n asked : ℕ) → tests order busy room may n ≡ Ok asked
+    → (order ≡ Ok tt) × (busy ≡ false) × (room ≡ true) × (may ≡ true) × (asked ≡ n)
+tests_pass (Ok done) false true true n asked is = (refl, refl, refl, refl, cc)
+tests_pass (Ok done) false true false n asked is = cc
+tests_pass (Ok done) false false may n asked is = cc
+tests_pass (Ok done) true room may n asked is = cc
+tests_pass (Err why) busy room may n asked is = cc
 
-test_fails : (order : Result (Unit {0}) ScriptWhy) (busy room : Bool) (n : ℕ) (next : Scenario) (why : ScriptWhy) → tests order busy room n ≡ Err why
-    → tested order busy room next ≡ Err why
-test_fails (Ok done) false true n next why is = cc
-test_fails (Ok done) false false n next why is = cc
-test_fails (Ok done) true room n next why is = cc
-test_fails (Err other) busy room n next why is = cc
+test_fails : (order : Result (Unit {0}) ScriptWhy) (busy room may : Bool) (n : ℕ) (next : Scenario) (why : ScriptWhy) → tests order busy room may n ≡ Err why
+    → tested order busy room may next ≡ Err why
+test_fails (Ok done) false true true n next why is = cc
+test_fails (Ok done) false true false n next why is = cc
+test_fails (Ok done) false false may n next why is = cc
+test_fails (Ok done) true room may n next why is = cc
+test_fails (Err other) busy room may n next why is = cc
 
 -- each of four tests
 four : (a b c d : Bool) → (a && b && c && d) ≡ true → (a ≡ true) × (b ≡ true) × (c ≡ true) × (d ≡ true)
@@ -643,9 +686,9 @@ ready rows s round job line kept is has inside is_line =
 
 -- a line that passes the tests, and how many vectors are then asked for
 pub passes_with : (rows : List Row) (s : SoFar) (round : RoundSoFar) (line : Line) (asked : ℕ) → (has_fit_texts line ≡ true → IsLine rows line)
-    → Ok asked ≡ asked_with s.sessions s.asked round line → Passes rows s round.jobs line × (asked ≡ s.asked + asked_by line)
+    → Ok asked ≡ asked_with s.sessions s.asked round line s.form → Passes rows s round.jobs line × (asked ≡ s.asked + asked_by line)
 passes_with rows s round line asked is_line is =
-    let all = tests_pass (in_order s.sessions.all s.sessions.opened s.sessions.started line) (is_busy round.jobs (held_by line)) (room_for s.sessions s.asked line) (s.asked + asked_by line) asked (sym is) in
+    let all = tests_pass (in_order s.sessions.all s.sessions.opened s.sessions.started line) (is_busy round.jobs (held_by line)) (room_for s.sessions s.asked line) (may_stand s.form line) (s.asked + asked_by line) asked (sym is) in
     let room = four (nat_le (s.asked + asked_by line) most_vectors) (nat_le (length (s.sessions.all ++ option_to_list (opened_by line))) most_sessions) (nat_le (s.sessions.packets + packets_by line) most_packets) (has_fit_texts line) all.2 in (
       record {
         is_line = is_line room.3;
@@ -655,22 +698,23 @@ passes_with rows s round line asked is_line is =
         sessions = least (length (s.sessions.all ++ option_to_list (opened_by line))) most_sessions room.1;
         packets = least (s.sessions.packets + packets_by line) most_packets room.2;
         names = room.3;
+        may = all.3;
       },
-      all.3,
+      all.4,
     )
   where
     least : (n limit : ℕ) → nat_le n limit ≡ true → n ≤ limit
     least n limit is = grind (arith, nat_tests)
 
 -- how many vectors are asked for with a line that passes each test
-pub has_asked : (s : Sessions) (asked : ℕ) (round : RoundSoFar) (line : Line) → Ok tt ≡ in_order s.all s.opened s.started line
+pub has_asked : (s : Sessions) (asked : ℕ) (round : RoundSoFar) (line : Line) (form : Form) → Ok tt ≡ in_order s.all s.opened s.started line
     → is_busy round.jobs (held_by line) ≡ false
     → (nat_le (length (s.all ++ option_to_list (opened_by line))) most_sessions && nat_le (s.packets + packets_by line) most_packets) ≡ true
-    → has_fit_texts line ≡ true → asked + asked_by line ≤ most_vectors → Ok (asked + asked_by line) ≡ asked_with s asked round line
-has_asked s asked round line order free room names vectors =
+    → has_fit_texts line ≡ true → asked + asked_by line ≤ most_vectors → may_stand form line ≡ true → Ok (asked + asked_by line) ≡ asked_with s asked round line form
+has_asked s asked round line form order free room names vectors stands =
     let two = two_tests (nat_le (length (s.all ++ option_to_list (opened_by line))) most_sessions) (nat_le (s.packets + packets_by line) most_packets) room in
     let few : nat_le (asked + asked_by line) most_vectors ≡ true = least (asked + asked_by line) most_vectors vectors in
-    rw (sym order, free, few, two.0, two.1, names) refl
+    rw (sym order, free, few, two.0, two.1, names, stands) refl
   where
     least : (n limit : ℕ) → n ≤ limit → nat_le n limit ≡ true
     least n limit within = grind (arith, nat_tests)
@@ -682,10 +726,10 @@ has_asked s asked round line order free room names vectors =
 
 -- a line that a test refuses
 pub refused_line : (rows : List Row) (s : SoFar) (which : JobWord) (fields : List (List ℕ)) (round : RoundSoFar) (job : List Line) (line : Line) (why : ScriptWhy) → IsSoFar rows s
-    → s.round ≡ Some round → round.job ≡ Some job → line_of rows which fields ≡ Ok line → Err why ≡ asked_with s.sessions s.asked round line → of_job_line (scenario rows s) which fields ≡ Err why
+    → s.round ≡ Some round → round.job ≡ Some job → line_of rows which fields ≡ Ok line → Err why ≡ asked_with s.sessions s.asked round line s.form → of_job_line (scenario rows s) which fields ≡ Err why
 refused_line rows s which fields round job line why kept is has says fails =
     line_is rows s which fields round job line kept is has says
-    ∙ test_fails (in_order s.sessions.all s.sessions.opened s.sessions.started line) (is_busy round.jobs (held_by line)) (room_for s.sessions s.asked line) (s.asked + asked_by line) (record (scenario rows s) { round = with_line s.round line }) why (sym fails)
+    ∙ test_fails (in_order s.sessions.all s.sessions.opened s.sessions.started line) (is_busy round.jobs (held_by line)) (room_for s.sessions s.asked line) (may_stand s.form line) (s.asked + asked_by line) (record (scenario rows s) { round = with_line s.round line }) why (sym fails)
 
 -- tests of a count
 fits : (n limit : ℕ) → n < limit → nat_lt n limit ≡ true
@@ -708,13 +752,13 @@ job_refused s fields round none n is no_more counted reached =
     rw (no_more, test, is) refl
 
 -- what a restart makes of the scenario
-pub restart_becomes : (s : Scenario) (fields : List (List ℕ)) (round : RoundSoFar) (parts : List Part) (none : Unit {0}) → s.round ≡ Some round → no_field fields ≡ Ok none
+pub restart_becomes : (s : Scenario) (fields : List (List ℕ)) (round : RoundSoFar) (parts : List Part) (none : Unit {0}) → s.round ≡ Some round → no_field fields ≡ Ok none → is_block s.form ≡ false
     → parts ≡ parts_of s ++ Restart ∷ [] → restart_line s fields ≡ Ok (record s { ended = parts; round = None })
-restart_becomes s fields round parts none is no_more made = rw (made, no_more, is) refl
+restart_becomes s fields round parts none is no_more whole made = rw (made, no_more, is, whole) refl
 
 -- what a round makes of the scenario
-pub round_becomes : (s : Scenario) (fields : List (List ℕ)) (parts : List Part) (none : Unit {0}) (n : ℕ) → no_field fields ≡ Ok none → n ≡ rounds_of (parts_of s) → n < most_rounds
-    → parts ≡ parts_of s → round_line s fields ≡ Ok (record s { ended = parts; round = Some no_jobs })
-round_becomes s fields parts none n no_more counted room made =
+pub round_becomes : (s : Scenario) (fields : List (List ℕ)) (parts : List Part) (none : Unit {0}) (n : ℕ) → is_header s.form ≡ false → no_field fields ≡ Ok none → n ≡ rounds_of (parts_of s) → n < most_rounds
+    → (not (is_block s.form) || not (is_some s.round)) ≡ true → parts ≡ parts_of s → round_line s fields ≡ Ok (record s { ended = parts; round = Some no_jobs })
+round_becomes s fields parts none n may no_more counted room only made =
     let test = fits (rounds_of (parts_of s)) most_rounds (omega (arith, counted, room)) in
-    rw (made, no_more, test) refl
+    rw (made, may, no_more, test, only) refl

@@ -1,5 +1,5 @@
 -- Inner facts: what only private contracts of this crate cite. What is kept while lines are read.
-use Rattle.std.specs.Prelude.{ℕ, ◌≡◌, ◌<◌, ◌≤◌, ◌+◌, ◌*◌, ◌^◌, ◌++◌, ◌&&◌, nat_eq, nat_le, nat_lt, not, All, Bool, List, [], ◌∷◌, length, Option, Some, None, IfSome, Result, Ok, slice_index, slice_set}
+use Rattle.std.specs.Prelude.{ℕ, ◌≡◌, ◌<◌, ◌≤◌, ◌+◌, ◌*◌, ◌^◌, ◌++◌, ◌&&◌, ◌||◌, not, nat_eq, nat_le, nat_lt, All, Bool, List, [], ◌∷◌, length, Option, Some, None, IfSome, Result, Ok, slice_index, slice_set}
 use Rattle.std.specs.List.{list_any}
 use Rattle.std.specs.Option.{option_to_list}
 use Rattle.auc_subs.specs.declared.row.Row.{Row}
@@ -9,10 +9,11 @@ use Rattle.auc_lines.specs.declared.part.Line.{Line}
 use Rattle.auc_script.specs.declared.round_so_far.RoundSoFar.{RoundSoFar}
 use Rattle.auc_script.specs.declared.sessions.Sessions.{Sessions}
 use Rattle.auc_script.specs.declared.so_far.SoFar.{SoFar}
+use Rattle.auc_script.specs.declared.form.Form.{Form}
 use Rattle.auc_script.specs.declared.refusal.ScriptWhy.{ScriptWhy}
 use Rattle.auc_script.specs.declared.refusal.ScriptWhy.TheVariants as why
 use Rattle.auc_script.specs.Field.{require}
-use Rattle.auc_script.specs.Scenario.{Scenario, in_order, is_busy, jobs_in, rounds_of, with_round}
+use Rattle.auc_script.specs.Scenario.{Scenario, in_order, is_block, is_busy, jobs_in, may_stand_in_block, rounds_of, with_round}
 use Rattle.auc_lines.specs.Part.{asked, asked_by, held_by, holds, jobs_of}
 use Rattle.auc_subs.specs.Steps.{◌>>=◌}
 use Rattle.auc_script.specs.Limits.{AreWithin}
@@ -26,7 +27,7 @@ pub record IsHeader (header : Header) : Type 0 where
 
 -- the scenario of these subscribers and what was read beside them
 abbrev pub scenario : List Row → SoFar → Scenario
-scenario rows so_far = record { rows = rows; header = so_far.header; ended = so_far.ended; round = so_far.round }
+scenario rows so_far = record { form = so_far.form; rows = rows; header = so_far.header; ended = so_far.ended; round = so_far.round }
 
 -- the marks, by subscribers' places, with that of a job that holds the USIM of a subscriber, if there is one
 abbrev pub marked : List ℕ → ℕ → Option ℕ → List ℕ
@@ -128,10 +129,11 @@ room_for s asked line =
     && has_fit_texts line
 
 -- how many vectors are asked for with a line more of the present job, if it passes the tests behind its form: the order
--- of its session, whether its USIM is held, and whether there is room
-abbrev pub asked_with : Sessions → ℕ → RoundSoFar → Line → Result ℕ ScriptWhy
-asked_with s asked round line = do
+-- of its session, whether its USIM is held, whether there is room, and whether it may stand in a block
+abbrev pub asked_with : Sessions → ℕ → RoundSoFar → Line → Form → Result ℕ ScriptWhy
+asked_with s asked round line form = do
   known ← in_order s.all s.opened s.started line
   free ← require (not (is_busy round.jobs (held_by line))) why.UsimBusy
   within ← require (room_for s asked line) why.Limit
+  stands ← require (not (is_block form) || may_stand_in_block line) why.NotInBlock
   Ok (asked + asked_by line)

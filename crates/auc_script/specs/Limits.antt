@@ -92,6 +92,12 @@ pub record AreWithin (rows : List Row) (parts : List Part) : Type 0 where
   pub sessions : length (sessions_of (jobs_of parts)) ≤ most_sessions
   pub numbers : AllPairs ◌≢◌ (sessions_of (jobs_of parts))
 
+-- the jobs of a block's round
+pub record IsBlock (rows : List Row) (jobs : List (List Line)) : Type 0 where
+  pub are_jobs : AreJobs rows jobs
+  pub few : length jobs ≤ most_jobs
+  pub vectors : asked jobs ≤ most_vectors
+
 -- what subscribers and a script that were read are
 pub record IsWithin (rows : List Row) (script : Script) : Type 0 where
   pub subscribers : AreSubscribers rows

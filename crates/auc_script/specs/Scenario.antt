@@ -46,7 +46,7 @@
 -- All lines together ask for 1000000 vectors at most: a session for two, an eps and a fiveg for one, a line of sites for
 -- SIZE in each event dP, and a sim for COUNT. The lines of sessions, tamper and cut in a job count for 1000000 packets at most, a plain for 40 and
 -- each other for one. A line without a word and a comment say nothing.
-use Rattle.std.specs.Prelude.{ℕ, ◌+◌, ◌==◌, ◌++◌, ◌&&◌, not, nat_le, nat_lt, Bool, false, List, [], ◌∷◌, length, Option, Some, None, is_some, Result, Ok, Err, if◌then◌else◌}
+use Rattle.std.specs.Prelude.{ℕ, ◌+◌, ◌==◌, ◌++◌, ◌&&◌, ◌||◌, not, nat_le, nat_lt, Bool, true, false, List, [], ◌∷◌, length, Option, Some, None, is_some, Result, Ok, Err, if◌then◌else◌}
 use Rattle.std.specs.List.{join_with_byte, list_any}
 use Rattle.std.specs.Option.{ok_or, option_to_list}
 use Rattle.auc_edge.specs.Identity.{identity_of}
@@ -63,6 +63,8 @@ use Rattle.auc_lines.specs.declared.part.Part.TheVariants.{Round, Restart}
 use Rattle.auc_lines.specs.declared.part.Report.TheVariants.{Seq, Auts}
 use Rattle.auc_lines.specs.Part.{asked, asked_by, held_by, holds, jobs_of, last_bit, last_star_bit}
 use Rattle.auc_script.specs.Numbers.{last_packet, last_place, last_session, least_triplets, longest_realm, most_count, most_jobs, most_leased, most_packets, most_rounds, most_sessions, most_sites, most_triplets, most_vectors, most_workers}
+use Rattle.auc_script.specs.declared.form.Form.{Form}
+use Rattle.auc_script.specs.declared.form.Form.TheVariants as forms
 use Rattle.auc_script.specs.declared.refusal.ScriptWhy.{ScriptWhy}
 use Rattle.auc_script.specs.declared.refusal.ScriptWhy.TheVariants as why
 use Rattle.auc_script.specs.declared.header.Header.{Header}
@@ -83,8 +85,9 @@ use Rattle.auc_script.specs.SessionLine.{are_names, are_options, is_identity, me
 use Rattle.auc_script.specs.Word.{is_comment, word_of}
 
 -- what some lines say: the subscribers, the words of the header, the parts before the present round, and
--- the present round, if there is one
+-- the present round, if there is one; and what they are read as
 pub record Scenario : Type 0 where
+  pub form : Form
   pub rows : List Row
   pub header : Header
   pub ended : List Part
@@ -153,9 +156,18 @@ header_with h header.Workers fields = workers_line h fields
 header_with h header.Print fields = print_line h fields
 header_with h header.Realm fields = realm_line h fields
 
--- before the first round
+-- whether they are the lines of a header alone, and whether they are those of a block
+abbrev pub is_header : Form → Bool
+is_header forms.Header = true
+is_header _ = false
+
+abbrev pub is_block : Form → Bool
+is_block forms.Block = true
+is_block _ = false
+
+-- before the first round; a block has no header
 abbrev pub in_header : Scenario → Result (Unit {0}) ScriptWhy
-in_header s = require (not (is_some s.round) && (length s.ended == 0)) why.OutOfOrder
+in_header s = require (not (is_block s.form) && not (is_some s.round) && (length s.ended == 0)) why.OutOfOrder
 
 abbrev pub header_line : Scenario → HeaderWord → List (List ℕ) → Result Scenario ScriptWhy
 header_line s which fields = do
@@ -176,6 +188,10 @@ subscriber_line s fields = do
   rows ← by_subs (rows_after s.rows (join_with_byte 32 fields))
   Ok (record s { rows = rows })
 
+-- what has to hold in a block alone
+abbrev pub in_block : Scenario → Bool → Result (Unit {0}) ScriptWhy
+in_block s holds = require (not (is_block s.form) || holds) why.NotInBlock
+
 -- a round without jobs so far
 abbrev pub no_jobs : RoundSoFar
 no_jobs = record { jobs = []; job = None }
@@ -183,8 +199,10 @@ no_jobs = record { jobs = []; job = None }
 -- `round`
 abbrev pub round_line : Scenario → List (List ℕ) → Result Scenario ScriptWhy
 round_line s fields = do
+  may ← require (not (is_header s.form)) why.OutOfOrder
   none ← no_field fields
   within ← require (nat_lt (rounds_of (parts_of s)) most_rounds) why.Limit
+  only ← in_block s (not (is_some s.round))
   Ok (record s { ended = parts_of s; round = Some no_jobs })
 
 -- `restart`
@@ -192,6 +210,7 @@ abbrev pub restart_line : Scenario → List (List ℕ) → Result Scenario Scrip
 restart_line s fields = do
   round ← ok_or s.round why.OutOfOrder
   none ← no_field fields
+  whole ← in_block s false
   Ok (record s { ended = parts_of s ++ Restart ∷ []; round = None })
 
 -- `job`
@@ -376,6 +395,15 @@ has_room parts job line =
     && nat_le (packets job + packets_by line) most_packets
     && has_fit_texts line
 
+-- a line that rests on no USIM and on no line of an earlier round, so that it may stand in a block
+abbrev pub may_stand_in_block : Line → Bool
+may_stand_in_block (Draw sub count) = true
+may_stand_in_block (Sync sub report count) = true
+may_stand_in_block (Eps sub snid) = true
+may_stand_in_block (Sites line) = true
+may_stand_in_block (Sim line) = true
+may_stand_in_block _ = false
+
 -- a line of a job
 abbrev pub of_job_line : Scenario → JobWord → List (List ℕ) → Result Scenario ScriptWhy
 of_job_line s which fields = do
@@ -385,6 +413,7 @@ of_job_line s which fields = do
   known ← in_order (sessions_of (jobs_of (parts_of s))) (opened job) (started job) line
   free ← require (not (is_busy round.jobs (held_by line))) why.UsimBusy
   within ← require (has_room (parts_of s) job line) why.Limit
+  stands ← in_block s (may_stand_in_block line)
   Ok (record s { round = Some (record { jobs = round.jobs; job = Some (job ++ line ∷ []) }) })
 
 -- a line of a known word

@@ -13,6 +13,7 @@
 
 mod field;
 mod fiveg_line;
+mod form;
 mod header;
 mod holders;
 mod job_line;
@@ -43,4 +44,4 @@ pub use limits::{
     MAX_VECTORS, MAX_WORKERS, MIN_TRIPLETS, PACKETS_OF_PLAIN,
 };
 pub use refusal::{ScriptRefusal, ScriptWhy};
-pub use script::Script;
+pub use script::{Script, read_block};

@@ -34,6 +34,10 @@ pub enum ScriptWhy {
     UsimBusy,
     /// A limit of the scenario is passed.
     Limit,
+    /// It may not stand in a block: it is a second round or a restart, or rests on a USIM or on an earlier round.
+    NotInBlock,
+    /// The input ended in it, before the line `end` of its block. No reading of lines gives this cause.
+    Unfinished,
 }
 
 /// A test that has to hold, else the cause.

@@ -1,18 +1,20 @@
 //! What the lines so far say.
 
-ghost use Rattle.std.specs.Prelude.{◌≡◌, ◌==◌, ◌&&◌, not, is_some, [], List, length, IfOk, OnErr, OnOk};
+ghost use Rattle.std.specs.Prelude.{◌≡◌, ◌==◌, ◌&&◌, not, is_some, [], List, length, IfOk, IfSome, OnErr, OnOk};
 ghost use Rattle.std.specs.List.{list_any};
-ghost use Rattle.std.specs.Option.{unwrap_or};
+ghost use Rattle.std.specs.Option.{option_map, unwrap_or};
 ghost use Rattle.auc_subs.specs.declared.row.Row.{Row};
 ghost use Rattle.auc_subs.specs.Subscriber.{AreSubscribers, line_counts};
 ghost use Rattle.auc_text.specs.Text.{words_of};
-ghost use Rattle.auc_script.specs.Limits.{IsWithin};
-ghost use Rattle.auc_script.specs.Reading.{beginning, script_from};
+ghost use Rattle.auc_script.specs.Limits.{IsBlock, IsWithin};
+ghost use Rattle.auc_script.specs.Reading.{beginning_of, script_from};
 ghost use Rattle.auc_script.specs.InnerRefusal.{Becomes};
-ghost use Rattle.auc_script.specs.Scenario.{after_line, header_line, job_line, of_job_line, restart_line, round_line, subscriber_line, with_round, word_line};
+ghost use Rattle.auc_script.specs.Scenario.{after_line, header_line, is_block, job_line, jobs_in, may_stand_in_block, of_job_line, restart_line, round_line, subscriber_line, with_round, word_line};
+ghost use Rattle.auc_script.specs.declared.form.Form.TheVariants as forms;
 ghost use Rattle.auc_script.specs.InnerSoFar.{IsBetween, IsHeader, IsReady, IsSoFar, asked_with, scenario, with_line};
 
 use crate::field::no_field;
+use crate::form::Form;
 use crate::header::Header;
 use crate::holders::Holders;
 use crate::job_line::read_line;
@@ -24,7 +26,7 @@ use crate::session_line::has_fit_texts;
 use crate::sessions::Sessions;
 use crate::word::{HeaderWord, JobWord, Word, is_comment, read_word};
 use auc_edge::{Items, NoMemory, Octets};
-use auc_lines::{Line, Part};
+use auc_lines::{Line, Part, RoundPart};
 use auc_subs::{AddRefusal, Subscribers};
 use auc_text::{joined, next_word, word_count};
 use std::alloc::Global;
@@ -32,6 +34,8 @@ use std::alloc::Global;
 /// What the lines so far say, except the subscribers.
 #[derive(Drop)]
 pub struct SoFar {
+    /// What the lines are read as.
+    pub form: Form,
     /// The words of the header.
     pub header: Header,
     /// The parts before the present round.
@@ -52,8 +56,8 @@ pub struct SoFar {
 
 impl SoFar {
     /// The state before the first line.
-    pub fn new(alloc: Global) -> SoFar
-        ensures beginning { (rows : List Row) → scenario rows result ≡ beginning rows }
+    pub fn new(alloc: Global, form: Form) -> SoFar
+        ensures beginning { (rows : List Row) → scenario rows result ≡ beginning_of form rows }
         ensures kept { (rows : List Row) → IsSoFar rows result }
     {
         let header = Header {
@@ -63,6 +67,7 @@ impl SoFar {
             realm: None,
         };
         SoFar {
+            form,
             header,
             ended: Items::new(alloc),
             round: None,
@@ -89,6 +94,8 @@ impl SoFar {
             (scenario subs.new self.new) }
         ensures kept { OnOk result (IsSoFar subs.new self.new) }
         ensures rows { OnErr result (subs.new ≡ subs.old) }
+        ensures block { self.old.form ≡ forms.Block → subs.new ≡ subs.old }
+        ensures same { self.new.form ≡ self.old.form }
     {
         if is_comment(line) {
             return Ok(());
@@ -113,6 +120,8 @@ impl SoFar {
             (scenario subs.new self.new) }
         ensures kept { OnOk result (IsSoFar subs.new self.new) }
         ensures rows { OnErr result (subs.new ≡ subs.old) }
+        ensures block { self.old.form ≡ forms.Block → subs.new ≡ subs.old }
+        ensures same { self.new.form ≡ self.old.form }
     {
         match word {
             Word::Header(which) => self.put_header(alloc, which, fields),
@@ -135,6 +144,7 @@ impl SoFar {
         ensures becomes { (rows : List Row) → Becomes (header_line (scenario rows self.old) word (words_of fields.now)) result
             (scenario rows self.new) }
         ensures kept { (rows : List Row) → IsSoFar rows self.old → OnOk result (IsSoFar rows self.new) }
+        ensures same { self.new.form ≡ self.old.form }
     {
         require(self.is_before_rounds(), ScriptWhy::OutOfOrder)?;
         self.header.put(alloc, word, fields)
@@ -152,6 +162,8 @@ impl SoFar {
             (scenario subs.new self.new) }
         ensures kept { OnOk result (IsSoFar subs.new self.new) }
         ensures rows { OnErr result (subs.new ≡ subs.old) }
+        ensures block { self.old.form ≡ forms.Block → subs.new ≡ subs.old }
+        ensures same { self.new.form ≡ self.old.form }
     {
         require(self.is_before_rounds(), ScriptWhy::OutOfOrder)?;
         require(is_line_count(word_count(fields)), ScriptWhy::Fields)?;
@@ -174,11 +186,17 @@ impl SoFar {
         ensures becomes { Becomes (round_line (scenario subs.now self.old) (words_of fields.now)) result
             (scenario subs.now self.new) }
         ensures kept { OnOk result (IsSoFar subs.now self.new) }
+        ensures same { self.new.form ≡ self.old.form }
     {
+        require(!self.form.is_header(), ScriptWhy::OutOfOrder)?;
         no_field(fields)?;
         if self.rounds >= MAX_ROUNDS {
             return Err(LineRefusal::Why(ScriptWhy::Limit));
         }
+        require(
+            !self.form.is_block() || self.round.is_none(),
+            ScriptWhy::NotInBlock,
+        )?;
         self.end_round(alloc, subs)?;
         self.round = Some(RoundSoFar {
             jobs: Items::new(alloc),
@@ -199,11 +217,13 @@ impl SoFar {
         ensures becomes { Becomes (restart_line (scenario subs.now self.old) (words_of fields.now)) result
             (scenario subs.now self.new) }
         ensures kept { OnOk result (IsSoFar subs.now self.new) }
+        ensures same { self.new.form ≡ self.old.form }
     {
         let Some(_) = &self.round else {
             return Err(LineRefusal::Why(ScriptWhy::OutOfOrder));
         };
         no_field(fields)?;
+        require(!self.form.is_block(), ScriptWhy::NotInBlock)?;
         self.end_round(alloc, subs)?;
         self.ended.push(Part::Restart)?;
         Ok(())
@@ -214,6 +234,7 @@ impl SoFar {
         ensures becomes { (rows : List Row) → IsSoFar rows self.old
             → Becomes (job_line (scenario rows self.old) (words_of fields.now)) result (scenario rows self.new) }
         ensures kept { (rows : List Row) → IsSoFar rows self.old → OnOk result (IsSoFar rows self.new) }
+        ensures same { self.new.form ≡ self.old.form }
     {
         let Some(round) = &mut self.round else {
             return Err(LineRefusal::Why(ScriptWhy::OutOfOrder));
@@ -240,6 +261,7 @@ impl SoFar {
         ensures becomes { Becomes (of_job_line (scenario subs.now self.old) word (words_of fields.now)) result
             (scenario subs.now self.new) }
         ensures kept { OnOk result (IsSoFar subs.now self.new) }
+        ensures same { self.new.form ≡ self.old.form }
     {
         let Some(round) = &self.round else {
             return Err(LineRefusal::Why(ScriptWhy::OutOfOrder));
@@ -248,7 +270,14 @@ impl SoFar {
             return Err(LineRefusal::Why(ScriptWhy::OutOfOrder));
         };
         let line = read_line(alloc, subs, word, fields)?;
-        match asked_with(&self.sessions, &self.holders, self.asked, round, &line) {
+        match asked_with(
+            &self.sessions,
+            &self.holders,
+            self.asked,
+            round,
+            &line,
+            self.form,
+        ) {
             Ok(asked) => {
                 self.holders.note(round, &line);
                 let noted = self.sessions.note(&line);
@@ -264,17 +293,18 @@ impl SoFar {
         }
     }
 
-    /// Whether no round has begun.
+    /// Whether a line of a header may come: no round has begun, and it is no block.
     fn is_before_rounds(&self) -> bool
-        ensures { result ≡ (not (is_some self.now.round) && (length self.now.ended == 0)) }
+        ensures { result ≡ (not (is_block self.now.form) && not (is_some self.now.round) && (length self.now.ended == 0)) }
     {
-        self.round.is_none() && self.ended.is_empty()
+        !self.form.is_block() && self.round.is_none() && self.ended.is_empty()
     }
 
     /// Puts the present round after the parts before it. If there is none, it makes a mark for each subscriber.
     fn end_round(&mut self, alloc: Global, subs: &Subscribers) -> Result<(), NoMemory>
         requires { IsSoFar subs.now self.old }
-        ensures { OnOk result (IsBetween subs.now self.old self.new) }
+        ensures between { OnOk result (IsBetween subs.now self.old self.new) }
+        ensures same { self.new.form ≡ self.old.form }
     {
         match self.round.take() {
             Some(round) => {
@@ -302,6 +332,20 @@ impl SoFar {
         })
     }
 
+    /// The jobs of the present round.
+    pub fn present_round(self) -> Result<Option<RoundPart>, NoMemory>
+        ensures round { IfOk result (λ round. round ≡ option_map jobs_in self.round) }
+        ensures within { (rows : List Row) → IsSoFar rows self → IfOk result (λ round. IfSome round (IsBlock rows)) }
+    {
+        let (header, ended, round) = self.into_read();
+        drop(header);
+        drop(ended);
+        match round {
+            Some(round) => Ok(Some(round.end()?)),
+            None => Ok(None),
+        }
+    }
+
     /// What was read. All else is given back.
     fn into_read(self) -> (Header, Items<Part>, Option<RoundSoFar>)
         ensures { result ≡ (self.header, self.ended, self.round) }
@@ -327,9 +371,10 @@ fn asked_with(
     asked: u32,
     round: &RoundSoFar,
     line: &Line,
+    form: Form,
 ) -> Result<u32, ScriptWhy>
     requires { IsReady sessions.now holders.now asked round.now line.now }
-    ensures { result ≡ asked_with sessions.now asked round.now line.now }
+    ensures { result ≡ asked_with sessions.now asked round.now line.now form }
 {
     sessions.order(line)?;
     if holders.is_busy(round, line) {
@@ -339,7 +384,21 @@ fn asked_with(
     if sum > MAX_VECTORS || !sessions.has_room(line) || !has_fit_texts(line) {
         return Err(ScriptWhy::Limit);
     }
+    require(
+        !form.is_block() || may_stand_in_block(line),
+        ScriptWhy::NotInBlock,
+    )?;
     Ok(sum)
+}
+
+/// Whether a line rests on no USIM and on no line of an earlier round, so that it may stand in a block.
+fn may_stand_in_block(line: &Line) -> bool
+    ensures { result ≡ may_stand_in_block line.now }
+{
+    matches!(
+        line,
+        Line::Draw { .. } | Line::Sync { .. } | Line::Eps { .. } | Line::Sites(_) | Line::Sim(_)
+    )
 }
 
 /// Parts with the present round after the last, if there is one.

@@ -1,72 +1,29 @@
-use Rattle.std.proofs.Common.{List, AllPairs, refl, subst, sym}
-use Rattle.auc_jobs.specs.Round.{Serves}
-use Rattle.auc_lines.specs.Part.{AreApart}
-use Rattle.auc_lines.specs.declared.part.Line.{Line}
-use Rattle.auc_world.specs.Round.{IsLawfulRound}
+use Rattle.std.proofs.Common.{refl}
+use Rattle.auc_run.proofs.StepLemmas.{fault_round, quiet_round, round_ends, round_goes}
 use Rattle.auc_run.proofs.OutputLemmas.{IfOk-ok, OnErr-at}
-use Rattle.auc_run.proofs.PrintableLemmas.{round_named}
-use Rattle.auc_run.proofs.StandLemmas.{covers_more, round_leads}
-use Rattle.auc_run.proofs.StepLemmas.{EachLeads, quiet_round, round_ends, round_goes}
 use Rattle.auc_run.proofs.rounds.serve_round.Goals as goal
 
-pub serve-journal-requires-clause-apart : goal.serve-journal-requires-clause-apart
-serve-journal-requires-clause-apart g c = λ κs within. subst (λ (jobs : List (List Line)). AllPairs AreApart jobs) (sym c.as_slice.ensures) c.requires.known.apart
-
 pub returns-in-Err-clause-ends : goal.returns-in-Err-clause-ends
-returns-in-Err-clause-ends g c = λ from reserved at on.
-    let still = OnErr-at c.serve-journal.result.result c.in-Err.field-0 _ (cc c.in-Err.is) c.serve-journal.ensures.still in
-    (covers_more g.D.Disk.seen g.D.Disk.may_leave c.args.settings.now.set.rows from reserved at c.args.stand.journal c.serve-journal.result.journal on.reserves c.serve-journal.ensures.subscribers still, refl)
-
-pub write_round-result-requires-clause-named : goal.write_round-result-requires-clause-named
-write_round-result-requires-clause-named g c =
-    let set = c.args.settings.now.set in
-    let round = c.in-Ok.ran.round in
-    let at = c.requires.stands.2 in
-    let on = c.requires.stands.3 in
-    let serves = IfOk-ok c.serve-journal.result.result c.in-Ok.ran _ (cc c.in-Ok.is) c.serve-journal.ensures.served at.early on.stands in
-    let lawful : IsLawfulRound set c.in-Ok.ran.stop at.early c.args.stand.state.kept c.args.stand.state.words c.args.jobs.now round serves.words =
-    subst (λ (jobs : List (List Line)). IsLawfulRound set c.in-Ok.ran.stop at.early c.args.stand.state.kept c.args.stand.state.words jobs round serves.words) c.as_slice.ensures serves.lawful in
-    round_named set c.in-Ok.ran.stop at.early c.args.stand.state.kept c.args.stand.state.words c.args.jobs.now round serves.words on.stands.subscribers.size c.requires.known.known lawful
+returns-in-Err-clause-ends g c = λ from reserved at on. (OnErr-at c.make_round-stand.result.result c.in-Err.field-0 _ (cc c.in-Err.is) c.make_round-stand.ensures.ends from reserved at on, refl)
 
 pub returns-in-Ok-clause-goes : goal.returns-in-Ok-clause-goes
 returns-in-Ok-clause-goes g c =
-    let set = c.args.settings.now.set in
-    let round = c.in-Ok.ran.round in
-    let stop = c.in-Ok.ran.stop in
-    let state = c.args.stand.state in
-    let next = c.serve-journal.result.state in
-    let journal = c.args.stand.journal in
-    let after = c.serve-journal.result.journal in
-    let each : EachLeads g.D.Disk.seen g.D.Disk.may_leave set c.args.stand.number state journal c.args.jobs.now round stop next after = λ from reserved at on.
-    round_leads g.D.Disk.seen g.D.Disk.may_leave set from reserved at c.args.stand.number state next journal after c.args.jobs.now round stop on
-    (IfOk-ok c.serve-journal.result.result c.in-Ok.ran _ (cc c.in-Ok.is) c.serve-journal.ensures.number) c.serve-journal.ensures.subscribers
-    (subst (λ (jobs : List (List Line)). Serves g.D.Disk.seen g.D.Disk.may_leave set at.early state jobs round stop journal next after) c.as_slice.ensures
-    (IfOk-ok c.serve-journal.result.result c.in-Ok.ran _ (cc c.in-Ok.is) c.serve-journal.ensures.served at.early on.stands)) in
-    round_goes g.D.Disk.seen g.D.Disk.may_leave set c.args.settings.now.full c.args.stand.number state next journal after c.args.jobs.now round stop c.write_round-result.result c.args.stand.text c.write_round-result.new.text
-    (g.K.Sink.written c.args.out.now) (g.K.Sink.written c.write_round-result.new.out)
-    (IfOk-ok c.serve-journal.result.result c.in-Ok.ran _ (cc c.in-Ok.is) c.serve-journal.ensures.next) (IfOk-ok c.serve-journal.result.result c.in-Ok.ran _ (cc c.in-Ok.is) c.serve-journal.ensures.ready)
-    each c.write_round-result.ensures.written c.write_round-result.ensures.done
+    rw c.make_round-stand.ensures.number (round_goes g.D.Disk.seen g.D.Disk.may_leave c.args.settings.now.set c.args.settings.now.full c.args.stand.number c.args.stand.state c.make_round-stand.result.stand.state c.args.stand.journal c.make_round-stand.result.stand.journal
+    c.args.jobs.now c.in-Ok.stop c.write_made-result.result c.args.stand.text c.make_round-stand.result.stand.text c.write_made-result.new.text
+    (g.K.Sink.written c.args.out.now) (g.K.Sink.written c.write_made-result.new.out)
+    (IfOk-ok c.make_round-stand.result.result c.in-Ok.stop _ (cc c.in-Ok.is) c.make_round-stand.ensures.made) c.write_made-result.ensures.stopped c.write_made-result.ensures.written c.write_made-result.ensures.done)
 
 pub returns-in-Ok-clause-ends : goal.returns-in-Ok-clause-ends
 returns-in-Ok-clause-ends g c =
-    let set = c.args.settings.now.set in
-    let round = c.in-Ok.ran.round in
-    let stop = c.in-Ok.ran.stop in
-    let state = c.args.stand.state in
-    let next = c.serve-journal.result.state in
-    let journal = c.args.stand.journal in
-    let after = c.serve-journal.result.journal in
-    let each : EachLeads g.D.Disk.seen g.D.Disk.may_leave set c.args.stand.number state journal c.args.jobs.now round stop next after = λ from reserved at on.
-    round_leads g.D.Disk.seen g.D.Disk.may_leave set from reserved at c.args.stand.number state next journal after c.args.jobs.now round stop on
-    (IfOk-ok c.serve-journal.result.result c.in-Ok.ran _ (cc c.in-Ok.is) c.serve-journal.ensures.number) c.serve-journal.ensures.subscribers
-    (subst (λ (jobs : List (List Line)). Serves g.D.Disk.seen g.D.Disk.may_leave set at.early state jobs round stop journal next after) c.as_slice.ensures
-    (IfOk-ok c.serve-journal.result.result c.in-Ok.ran _ (cc c.in-Ok.is) c.serve-journal.ensures.served at.early on.stands)) in
-    round_ends g.D.Disk.seen g.D.Disk.may_leave set c.args.settings.now.full c.args.stand.number state next journal after c.args.jobs.now round stop c.write_round-result.result c.args.stand.text
-    (g.K.Sink.written c.args.out.now) (g.K.Sink.written c.write_round-result.new.out)
-    (IfOk-ok c.serve-journal.result.result c.in-Ok.ran _ (cc c.in-Ok.is) c.serve-journal.ensures.ready) (IfOk-ok c.serve-journal.result.result c.in-Ok.ran _ (cc c.in-Ok.is) c.serve-journal.ensures.full)
-    each c.write_round-result.ensures.written
+    round_ends g.D.Disk.seen g.D.Disk.may_leave c.args.settings.now.set c.args.settings.now.full c.args.stand.number c.args.stand.state c.make_round-stand.result.stand.state c.args.stand.journal c.make_round-stand.result.stand.journal
+    c.args.jobs.now c.in-Ok.stop c.write_made-result.result c.args.stand.text c.make_round-stand.result.stand.text
+    (g.K.Sink.written c.args.out.now) (g.K.Sink.written c.write_made-result.new.out)
+    (IfOk-ok c.make_round-stand.result.result c.in-Ok.stop _ (cc c.in-Ok.is) c.make_round-stand.ensures.made) c.write_made-result.ensures.stopped c.write_made-result.ensures.written c.write_made-result.ensures.spared
+
+pub returns-in-Ok-clause-store_fault : goal.returns-in-Ok-clause-store_fault
+returns-in-Ok-clause-store_fault g c = λ is.
+    IfOk-ok c.make_round-stand.result.result c.in-Ok.stop _ (cc c.in-Ok.is) c.make_round-stand.ensures.store_fault (fault_round c.in-Ok.stop c.write_made-result.result c.write_made-result.ensures.stopped is)
 
 pub returns-in-Ok-clause-quiet_store : goal.returns-in-Ok-clause-quiet_store
 returns-in-Ok-clause-quiet_store g c = λ quiet.
-    IfOk-ok c.serve-journal.result.result c.in-Ok.ran _ (cc c.in-Ok.is) c.serve-journal.ensures.quiet
-    (quiet_round c.in-Ok.ran.round c.in-Ok.ran.stop c.write_round-result.result _ (g.K.Sink.written c.args.out.now) (g.K.Sink.written c.write_round-result.new.out) c.write_round-result.ensures.written quiet)
+    IfOk-ok c.make_round-stand.result.result c.in-Ok.stop _ (cc c.in-Ok.is) c.make_round-stand.ensures.quiet_store (quiet_round c.in-Ok.stop c.write_made-result.result c.write_made-result.ensures.stopped quiet)

@@ -6,7 +6,7 @@ use Rattle.auc_world.specs.Transcript.{beginning}
 use Rattle.auc_run.specs.Inner.{status_in}
 use Rattle.auc_run.specs.Output.{setting_of}
 use Rattle.auc_run.proofs.KnownLemmas.{known}
-use Rattle.auc_run.proofs.OutcomeLemmas.{Laws, files_full, files_run}
+use Rattle.auc_run.proofs.OutcomeLemmas.{files_full, files_run}
 use Rattle.auc_run.proofs.RefusalLemmas.{leave_runs}
 use Rattle.auc_run.proofs.RememberLemmas.{remembers_parts, remembers_unopened}
 use Rattle.auc_run.proofs.TopLemmas.{journal_stops}
@@ -21,22 +21,8 @@ returns-in-Ok-clause-ran g c = λ told files read.
     let new = g.K.Sink.written c.serve_parts.new.out in
     let begins = c.in-Ok.ensures.opened in
     let realm = subst IsRealm c.as_slice.ensures c.is_realm.ensures in
-    let laws : Laws = record {
-      told = c.each_told_transcript_is_one.ensures;
-      nets = c.each_breach_is_told.ensures.nets;
-      keys = c.each_authentication_agrees.ensures;
-      breaches = c.each_breach_is_told.ensures.told;
-      in_sessions = c.each_failure_in_sessions_is_by_place.ensures.stretches;
-      macs = c.each_failure_in_sessions_is_by_place.ensures.mac;
-      contexts = c.each_transcript_keeps_contexts.ensures;
-      plain = c.each_plain_session_agrees.ensures;
-      resumed = c.each_resumed_session_agrees.ensures;
-      authentications = c.each_honest_authentication_is_confirmed.ensures;
-      leases = c.each_leased_number_is_handed_out_once.ensures;
-      sim_sessions = c.each_sim_session_agrees.ensures;
-    } in
     leave_runs told files (g.D.Disk.seen c.args.disk) (MayLeave g.D.Disk.seen g.D.Disk.may_leave c.args.disk c.serve_parts.result.disk) ended old new
-    (files_run laws g.D.Disk.seen g.D.Disk.may_leave g.D.Disk.faults told files script rows c.args.disk c.serve_parts.result.disk c.in-Ok.journal ended old new
+    (files_run c.laws_of_transcripts.ensures g.D.Disk.seen g.D.Disk.may_leave g.D.Disk.faults told files script rows c.args.disk c.serve_parts.result.disk c.in-Ok.journal ended old new
     read (known rows script c.requires realm) begins (c.serve_parts.ensures.ran c.args.disk begins))
 
 pub returns-in-Ok-clause-drew_full : goal.returns-in-Ok-clause-drew_full

@@ -1,0 +1,433 @@
+-- For the top call of a service: its header, what it served, and how its refusal was told.
+use Rattle.std.proofs.Common.{◌≡◌, ◌⊎◌, ℕ, ◌<◌, ◌≤◌, ◌-◌, ◌^◌, nat_lt, true, false, List, [], ◌∷◌, ◌++◌, length, map, take, Option, Some, None, Result, Ok, Err, inl, inr, refl, sym, ◌∙◌, ap, subst, arith, append-nil}
+use Rattle.std.specs.Prelude.{Bool}
+use Rattle.std.specs.List.{concat}
+use Rattle.std.proofs.lemmas.Bool.Decides.{nat_tests}
+use Rattle.std.proofs.lemmas.List.Elements.{All-nil}
+use Rattle.auc_block.specs.Block.{Blocks, EachBlockIsSplitOff, blocks_in, first_block}
+use Rattle.auc_block.specs.Hearing.{HasNoBlock, IsHeard, IsNext, IsTrouble, Waits}
+use Rattle.auc_block.specs.Turns.{Says, SaysFront, Turns}
+use Rattle.auc_block.specs.declared.next_block.NextBlock.{NextBlock}
+use Rattle.auc_block.specs.declared.next_block.NextBlock.TheVariants.{Whole, TooLong, Ended, EndedTooLong}
+use Rattle.auc_block.specs.declared.trouble.Trouble.{Trouble}
+use Rattle.auc_block.specs.declared.trouble.Trouble.TheVariants as trouble
+use Rattle.auc_block.specs.declared.turn.Turn.{Turn}
+use Rattle.auc_block.specs.declared.turn.Turn.TheVariants.{Heard, Said}
+use Rattle.auc_edge.specs.Shelf.{File}
+use Rattle.auc_jobs.specs.State.{Standing, StandsAt}
+use Rattle.auc_journal.specs.Journal.{JournalState, limits_of}
+use Rattle.auc_print.specs.OneText.{PartFits}
+use Rattle.auc_script.specs.Reading.{header_of}
+use Rattle.auc_script.specs.declared.refusal.ScriptRefusal.{ScriptRefusal}
+use Rattle.auc_script.specs.declared.refusal.ScriptRefusal.TheVariants as wrong
+use Rattle.auc_script.specs.declared.refusal.ScriptWhy.{ScriptWhy}
+use Rattle.auc_script.specs.declared.refusal.ScriptWhy.TheVariants as why
+use Rattle.auc_script.specs.declared.script.Script.{Script}
+use Rattle.auc_sqn.specs.Number.{max_seq}
+use Rattle.auc_subs.specs.declared.row.Row.{Row}
+use Rattle.auc_world.specs.Limits.{opened}
+use Rattle.auc_world.specs.Start.{fresh_kept}
+use Rattle.auc_world.specs.Transcript.{beginning}
+use Rattle.std.specs.Prelude.{slice_index}
+use Rattle.auc_run.specs.Crash.{MayLeave, Remembers, limits_in}
+use Rattle.auc_run.specs.Inner.{Begins, IsKnownPart, JournalStops, Laws, SubscribersStop, Tells, script_refusal, status_in}
+use Rattle.auc_run.specs.InnerService.{EndsReady, EndsServing, HearsHeader, IsEarly, IsHeaderStop, IsServing, RunsBlocks, SaysTold, ServesOr, TookHeader, trouble_refusal}
+use Rattle.auc_run.specs.Outcome.{BeginsWith}
+use Rattle.auc_run.specs.Output.{setting_of, text_of}
+use Rattle.auc_run.specs.Refusal.{line_of, status_of}
+use Rattle.auc_run.specs.Service.{EndsUnserved, HasReplied, IsAnswer, IsEarlyCause, IsSaid, IsServiceStop, IsTold, Serves, cut_off, last_line, most_block, parts_in, ready_reply, records_in, replies_in}
+use Rattle.auc_run.specs.Turns.{heard_in, said_in}
+use Rattle.auc_run.specs.declared.refusal.Refusal.{Refusal}
+use Rattle.auc_run.specs.declared.refusal.Refusal.TheVariants as refused
+use Rattle.auc_run.specs.declared.status.Status.{Status}
+use Rattle.auc_run.specs.declared.status.Status.TheVariants as status
+use Rattle.auc_run.proofs.KnownLemmas.{Known}
+use Rattle.auc_run.proofs.OutcomeLemmas.{is_output, output_told}
+use Rattle.auc_run.proofs.ServiceEnds.{left_at, none_waits, said_front}
+use Rattle.auc_run.proofs.ServiceLemmas.{heard_behind, heard_heard, prompt_of, replied_append, replied_heard, replied_said, said_behind, said_heard, taken_block, turns_more}
+use Rattle.auc_run.proofs.StandLemmas.{begins_stand}
+
+-- ---- the header
+
+-- what was heard before the header was read
+heard_first : (old new : Option (List Turn)) (text : List ℕ) (is : IsHeard old new [] text) → (heard_in (map Heard is.pieces) ≡ text) × (said_in (map Heard is.pieces) ≡ [])
+heard_first old new text is = (heard_heard is.pieces ∙ sym is.whole, said_heard is.pieces)
+
+-- a whole block was heard
+pub took_first : (old new : Option (List Turn)) (text first waits : List ℕ) → EachBlockIsSplitOff → IsHeard old new [] text → first_block text ≡ Some (first, waits) → TookHeader first waits old new
+took_first old new text first waits split is found = record {
+  turns = map Heard is.pieces;
+  took = is.turns;
+  heard = rw (heard_first old new text is).0 (taken_block split text [] text first waits refl found);
+  silent = (heard_first old new text is).1;
+  prompt = replied_heard (ready_reply ∷ []) [] [] is.pieces (λ k less. none (concat (take k is.pieces)) (is.prompt k less));
+}
+  where
+    none : (heard : List ℕ) → first_block heard ≡ None → HasReplied (ready_reply ∷ []) heard []
+    none heard open_ =
+        let count : length (blocks_in heard).whole ≡ 0 = ap (λ (b : Blocks). length b.whole) (none_waits split heard open_) in
+        record { count = omega (arith, count); only = ap (λ (n : ℕ). concat (take n (ready_reply ∷ []))) (sym count) }
+
+-- a header that is wrong, or that memory lacks for
+pub wrong_header : (rows : List Row) (old new : Option (List Turn)) (text first waits : List ℕ) (refusal : ScriptRefusal) → IsHeard old new [] text → first_block text ≡ Some (first, waits)
+    → length first ≤ most_block → ((line : ℕ) (fault : ScriptWhy) → refusal ≡ wrong.Line line fault → header_of rows first ≡ Err (wrong.Line line fault))
+    → IsHeaderStop rows old new (script_refusal refusal)
+wrong_header rows old new text first waits (wrong.Line line fault) is found short refused =
+    let both = heard_first old new text is in
+    (map Heard is.pieces, is.turns, both.1, inl (first, waits, ap first_block both.0 ∙ found, short, refused line fault refl))
+wrong_header rows old new text first waits wrong.NoMemory is found short refused = (map Heard is.pieces, is.turns, (heard_first old new text is).1)
+
+-- one that is too long
+pub long_header : (rows : List Row) (old new : Option (List Turn)) (text first waits : List ℕ) → IsHeard old new [] text → first_block text ≡ Some (first, waits) → most_block < length first
+    → IsHeaderStop rows old new (refused.Scenario 0 why.Limit)
+long_header rows old new text first waits is found long =
+    let both = heard_first old new text is in
+    (map Heard is.pieces, is.turns, both.1, inr (inl (first, waits, ap first_block both.0 ∙ found, long, refl, refl)))
+
+-- one that the end of the input cuts off
+cut_header : (rows : List Row) (old new : Option (List Turn)) (text : List ℕ) (line : ℕ) (fault : ScriptWhy) → IsHeard old new [] text → first_block text ≡ None → (line, fault) ≡ cut_off text
+    → IsHeaderStop rows old new (refused.Scenario line fault)
+cut_header rows old new text line fault is none cut =
+    let both = heard_first old new text is in
+    (map Heard is.pieces, is.turns, both.1, inr (inr (ap first_block both.0 ∙ none, cut ∙ ap cut_off (sym both.0))))
+
+pub long_rest_header : (rows : List Row) (old new : Option (List Turn)) (text : List ℕ) → IsHeard old new [] text → first_block text ≡ None → most_block < length text
+    → IsHeaderStop rows old new (refused.Scenario 0 why.Limit)
+long_rest_header rows old new text is none long = cut_header rows old new text 0 why.Limit is none (rw above refl)
+  where
+    above : nat_lt most_block (length text) ≡ true
+    above = grind (arith, nat_tests, long)
+
+pub short_rest_header : (rows : List Row) (old new : Option (List Turn)) (text : List ℕ) → IsHeard old new [] text → first_block text ≡ None → length text ≤ most_block
+    → IsHeaderStop rows old new (refused.Scenario (last_line text) why.Unfinished)
+short_rest_header rows old new text is none short = cut_header rows old new text (last_line text) why.Unfinished is none (rw below refl)
+  where
+    below : nat_lt most_block (length text) ≡ false
+    below = grind (arith, nat_tests, short)
+
+-- one that isn't heard
+pub trouble_header : (rows : List Row) (old new : Option (List Turn)) (text : List ℕ) (why : Trouble) → IsHeard old new [] text → (why ≡ trouble.Endless → 2 ^ 64 - 1 ≤ length text)
+    → IsHeaderStop rows old new (trouble_refusal why)
+trouble_header rows old new text trouble.Failed is endless = (map Heard is.pieces, is.turns, (heard_first old new text is).1)
+trouble_header rows old new text trouble.NoMemory is endless = (map Heard is.pieces, is.turns, (heard_first old new text is).1)
+trouble_header rows old new text trouble.Endless is endless =
+    let both = heard_first old new text is in
+    (map Heard is.pieces, is.turns, both.1, subst (λ (heard : List ℕ). 2 ^ 64 - 1 ≤ length heard) (sym both.0) (endless refl))
+
+-- what comes next of a wire on which nothing waited
+abbrev pub HeardNext : Option (List Turn) → Option (List Turn) → List ℕ → List ℕ → NextBlock → Bool → Type 0
+HeardNext old new waited waiting next ended = (text : List ℕ) × IsHeard old new waited text × IsNext next text waiting ended
+
+pub next_took : (old new : Option (List Turn)) (waited waiting first : List ℕ) (next : NextBlock) (ended : Bool) → EachBlockIsSplitOff → waited ≡ [] → next ≡ Whole first → HeardNext old new waited waiting next ended
+    → TookHeader first waiting old new × (length first ≤ most_block)
+next_took old new waited waiting first next ended split none is (text, heard, after) =
+    so (subst (λ (w : List ℕ). IsHeard old new w text) none heard) (subst (λ (n : NextBlock). IsNext n text waiting ended) is after)
+  where
+    so : IsHeard old new [] text → IsNext (Whole first) text waiting ended → TookHeader first waiting old new × (length first ≤ most_block)
+    so heard (found, short) = (took_first old new text first waiting split heard found, short)
+
+pub next_wrong : (rows : List Row) (old new : Option (List Turn)) (waited waiting first : List ℕ) (next : NextBlock) (ended : Bool) (refusal : ScriptRefusal) → waited ≡ [] → next ≡ Whole first
+    → HeardNext old new waited waiting next ended → ((line : ℕ) (fault : ScriptWhy) → refusal ≡ wrong.Line line fault → header_of rows first ≡ Err (wrong.Line line fault))
+    → IsHeaderStop rows old new (script_refusal refusal)
+next_wrong rows old new waited waiting first next ended refusal none is (text, heard, after) refused =
+    so (subst (λ (w : List ℕ). IsHeard old new w text) none heard) (subst (λ (n : NextBlock). IsNext n text waiting ended) is after)
+  where
+    so : IsHeard old new [] text → IsNext (Whole first) text waiting ended → IsHeaderStop rows old new (script_refusal refusal)
+    so heard (found, short) = wrong_header rows old new text first waiting refusal heard found short refused
+
+pub next_long : (rows : List Row) (old new : Option (List Turn)) (waited waiting : List ℕ) (next : NextBlock) (ended : Bool) → waited ≡ [] → next ≡ TooLong → HeardNext old new waited waiting next ended
+    → IsHeaderStop rows old new (refused.Scenario 0 why.Limit)
+next_long rows old new waited waiting next ended none is (text, heard, after) =
+    so (subst (λ (w : List ℕ). IsHeard old new w text) none heard) (subst (λ (n : NextBlock). IsNext n text waiting ended) is after)
+  where
+    so : IsHeard old new [] text → IsNext TooLong text waiting ended → IsHeaderStop rows old new (refused.Scenario 0 why.Limit)
+    so heard (block, found, long) = long_header rows old new text block waiting heard found long
+
+pub next_long_rest : (rows : List Row) (old new : Option (List Turn)) (waited waiting : List ℕ) (next : NextBlock) (ended : Bool) → waited ≡ [] → next ≡ EndedTooLong → HeardNext old new waited waiting next ended
+    → IsHeaderStop rows old new (refused.Scenario 0 why.Limit)
+next_long_rest rows old new waited waiting next ended none is (text, heard, after) =
+    so (subst (λ (w : List ℕ). IsHeard old new w text) none heard) (subst (λ (n : NextBlock). IsNext n text waiting ended) is after)
+  where
+    so : IsHeard old new [] text → IsNext EndedTooLong text waiting ended → IsHeaderStop rows old new (refused.Scenario 0 why.Limit)
+    so heard (open_, over, emptied, long) = long_rest_header rows old new text heard open_ long
+
+pub next_rest : (rows : List Row) (old new : Option (List Turn)) (waited waiting : List ℕ) (next : NextBlock) (ended : Bool) → waited ≡ [] → next ≡ Ended → HeardNext old new waited waiting next ended
+    → IsHeaderStop rows old new (refused.Scenario (last_line waiting) why.Unfinished)
+next_rest rows old new waited waiting next ended none is (text, heard, after) =
+    so (subst (λ (w : List ℕ). IsHeard old new w text) none heard) (subst (λ (n : NextBlock). IsNext n text waiting ended) is after)
+  where
+    so : IsHeard old new [] text → IsNext Ended text waiting ended → IsHeaderStop rows old new (refused.Scenario (last_line waiting) why.Unfinished)
+    so heard (open_, over, same, short) =
+        subst (λ (w : List ℕ). IsHeaderStop rows old new (refused.Scenario (last_line w) why.Unfinished)) (sym same) (short_rest_header rows old new text heard open_ short)
+
+-- why nothing comes next
+pub next_trouble : (rows : List Row) (old new : Option (List Turn)) (waited waiting : List ℕ) (before now : ℕ) (why : Trouble) → waited ≡ []
+    → ((text : List ℕ) × IsHeard old new waited text × (IsTrouble why text before now × Waits waiting text × HasNoBlock why text)) → IsHeaderStop rows old new (trouble_refusal why)
+next_trouble rows old new waited waiting before now why none (text, heard, (is, waits, open_)) =
+    trouble_header rows old new text why (subst (λ (w : List ℕ). IsHeard old new w text) none heard) endless
+  where
+    endless : why ≡ trouble.Endless → 2 ^ 64 - 1 ≤ length text
+    endless same = let both = subst (λ (w : Trouble). IsTrouble w text before now) same is in both.1
+
+-- ---- a refusal before the header was answered
+
+-- the subscribers weren't read
+pub early_subscribers : (told : Option (List File)) (subscribers : Option (List ℕ)) (seen : Option (List ℕ)) (refusal : Refusal) (now : Option (List Turn)) → Turns now now [] → SubscribersStop told subscribers refusal
+    → IsEarly told subscribers seen refusal now now
+early_subscribers told subscribers seen (refused.Subscribers row fault) now none (name, text, named, has, wrong) =
+    record { turns = []; took = none; silent = refl; cause = (name, text, named, has, wrong, refl) }
+early_subscribers told subscribers seen refused.TooLong now none long = record { turns = []; took = none; silent = refl; cause = inl long }
+early_subscribers told subscribers seen refused.ReadFault now none stop = record { turns = []; took = none; silent = refl; cause = tt }
+early_subscribers told subscribers seen refused.NoMemory now none stop = record { turns = []; took = none; silent = refl; cause = tt }
+early_subscribers told subscribers seen (refused.Scenario line fault) now none stop = absurd stop
+early_subscribers told subscribers seen refused.Usage now none stop = absurd stop
+early_subscribers told subscribers seen refused.WriteFault now none stop = absurd stop
+early_subscribers told subscribers seen refused.StoreFault now none stop = absurd stop
+early_subscribers told subscribers seen (refused.NotJournal place) now none stop = absurd stop
+early_subscribers told subscribers seen refused.StoreFull now none stop = absurd stop
+
+-- the header wasn't read
+pub early_header : (told : Option (List File)) (subscribers : Option (List ℕ)) (seen : Option (List ℕ)) (rows : List Row) (refusal : Refusal) (old new : Option (List Turn)) → BeginsWith told subscribers rows
+    → IsHeaderStop rows old new refusal → IsEarly told subscribers seen refusal old new
+early_header told subscribers seen rows (refused.Scenario line fault) old new begins (turns, took, silent, wrong) = record { turns = turns; took = took; silent = silent; cause = (rows, begins, wrong) }
+early_header told subscribers seen rows refused.ReadFault old new begins (turns, took, silent) = record { turns = turns; took = took; silent = silent; cause = tt }
+early_header told subscribers seen rows refused.NoMemory old new begins (turns, took, silent) = record { turns = turns; took = took; silent = silent; cause = tt }
+early_header told subscribers seen rows refused.TooLong old new begins (turns, took, silent, long) = record { turns = turns; took = took; silent = silent; cause = inr long }
+early_header told subscribers seen rows (refused.Subscribers row fault) old new begins stop = absurd stop
+early_header told subscribers seen rows refused.Usage old new begins stop = absurd stop
+early_header told subscribers seen rows refused.WriteFault old new begins stop = absurd stop
+early_header told subscribers seen rows refused.StoreFault old new begins stop = absurd stop
+early_header told subscribers seen rows (refused.NotJournal place) old new begins stop = absurd stop
+early_header told subscribers seen rows refused.StoreFull old new begins stop = absurd stop
+
+-- the journal wasn't opened
+pub early_journal : (told : Option (List File)) (subscribers : Option (List ℕ)) (seen : Option (List ℕ)) (rows : List Row) (header : Script) (waiting : List ℕ) (refusal : Refusal) (old new : Option (List Turn))
+    → HearsHeader told subscribers rows header waiting old new → JournalStops seen refusal → IsEarly told subscribers seen refusal old new
+early_journal told subscribers seen rows header waiting refused.StoreFault old new hears stop =
+    let took = hears.hears.took in record { turns = took.turns; took = took.took; silent = took.silent; cause = tt }
+early_journal told subscribers seen rows header waiting (refused.NotJournal place) old new hears stop =
+    let took = hears.hears.took in record { turns = took.turns; took = took.took; silent = took.silent; cause = stop }
+early_journal told subscribers seen rows header waiting refused.NoMemory old new hears stop =
+    let took = hears.hears.took in record { turns = took.turns; took = took.took; silent = took.silent; cause = tt }
+early_journal told subscribers seen rows header waiting (refused.Subscribers row fault) old new hears stop = absurd stop
+early_journal told subscribers seen rows header waiting (refused.Scenario line fault) old new hears stop = absurd stop
+early_journal told subscribers seen rows header waiting refused.Usage old new hears stop = absurd stop
+early_journal told subscribers seen rows header waiting refused.ReadFault old new hears stop = absurd stop
+early_journal told subscribers seen rows header waiting refused.WriteFault old new hears stop = absurd stop
+early_journal told subscribers seen rows header waiting refused.StoreFull old new hears stop = absurd stop
+early_journal told subscribers seen rows header waiting refused.TooLong old new hears stop = absurd stop
+
+-- ---- blocks are served
+
+-- the header was answered
+pub ready_serves : {D : Type 0} (seen : D → Option (List ℕ)) (may_leave : D → List ℕ → Type 0) (faults : D → ℕ) (rows : List Row) (header : Script) (from : D) (first waiting : List ℕ) (state : Standing) (journal : JournalState D)
+    (start old new : Option (List Turn)) → Begins seen may_leave faults rows from journal → state.words ≡ opened rows (limits_of journal) → state.kept ≡ map (λ row. fresh_kept) rows
+    → StandsAt (setting_of rows header) [] state → ((sub : ℕ) → sub < length rows → slice_index (limits_of journal) sub ≤ max_seq)
+    → TookHeader first waiting start old → Says old new ready_reply
+    → (turns : List Turn) × Turns start new turns × IsServing seen may_leave rows header from (limits_of journal) first [] waiting 1 state journal turns
+ready_serves seen may_leave faults rows header from first waiting state journal start old new begins opens kept stands within took says =
+    let pieces = says.pieces in (
+      took.turns ++ map Said pieces,
+      turns_more start old new took.turns (map Said pieces) took.took says.turns,
+      record {
+        answers = [];
+        each = All-nil (IsAnswer rows header);
+        heard = rw (heard_behind took.turns pieces) took.heard;
+        said = said_behind took.turns pieces ∙ ap (λ (r : List ℕ). r ++ concat pieces) took.silent ∙ says.whole ∙ sym (append-nil ready_reply);
+        prompt = replied_append (ready_reply ∷ []) [] [] took.turns (map Said pieces) took.prompt (replied_said (ready_reply ∷ []) (heard_in took.turns) (said_in took.turns) pieces);
+        at = beginning rows (limits_of journal);
+        leads = (refl, refl);
+        fits = All-nil PartFits;
+        known = All-nil (IsKnownPart rows);
+        on = begins_stand seen may_leave faults (setting_of rows header) from state journal begins opens kept stands within;
+      },
+    )
+
+-- and the service ended
+pub ready_runs : {D : Type 0} (seen : D → Option (List ℕ)) (may_leave : D → List ℕ → Type 0) (faults : D → ℕ) (rows : List Row) (header : Script) (from : D) (first waiting : List ℕ) (state : Standing) (journal : JournalState D)
+    (ended : Status) (disk : D) (start old mid new : Option (List Turn)) → Begins seen may_leave faults rows from journal → state.words ≡ opened rows (limits_of journal) → state.kept ≡ map (λ row. fresh_kept) rows
+    → StandsAt (setting_of rows header) [] state → ((sub : ℕ) → sub < length rows → slice_index (limits_of journal) sub ≤ max_seq)
+    → TookHeader first waiting start old → Says old mid ready_reply → EndsServing seen may_leave rows header [] waiting 1 state journal ended disk mid new
+    → (turns : List Turn) × Turns start new turns × RunsBlocks seen may_leave rows header from (limits_of journal) first ended disk turns
+ready_runs {D} seen may_leave faults rows header from first waiting state journal ended disk start old mid new begins opens kept stands within took says ends =
+    let serving = ready_serves seen may_leave faults rows header from first waiting state journal start old mid begins opens kept stands within took says in
+    ends from (limits_of journal) first start serving.0 serving.1 serving.2
+
+-- the answer to it failed
+pub ready_fails : {D : Type 0} (seen : D → Option (List ℕ)) (may_leave : D → List ℕ → Type 0) (faults : D → ℕ) (rows : List Row) (header : Script) (from : D) (first waiting : List ℕ) (state : Standing) (journal : JournalState D)
+    (disk : D) (start old new : Option (List Turn)) → Begins seen may_leave faults rows from journal → state.words ≡ opened rows (limits_of journal) → state.kept ≡ map (λ row. fresh_kept) rows
+    → StandsAt (setting_of rows header) [] state → ((sub : ℕ) → sub < length rows → slice_index (limits_of journal) sub ≤ max_seq)
+    → TookHeader first waiting start old → SaysFront old new ready_reply → disk ≡ journal.disk
+    → EndsReady seen may_leave rows header from (limits_of journal) first status.WriteFault disk start old new
+ready_fails {D} seen may_leave faults rows header from first waiting state journal disk start old new begins opens kept stands within took says same =
+    let pieces = says.said.pieces in
+    let on = begins_stand seen may_leave faults (setting_of rows header) from state journal begins opens kept stands within in
+    let left = left_at seen may_leave rows from (limits_of journal) (beginning rows (limits_of journal)) status.WriteFault journal on.reserves apart in
+    subst (λ (d : D). EndsReady seen may_leave rows header from (limits_of journal) first status.WriteFault d start old new) (sym same)
+    (inl (
+      took.turns ++ map Said pieces,
+      turns_more start old new took.turns (map Said pieces) took.took says.said.turns,
+      record {
+        answers = [];
+        unanswered = (blocks_in waiting).whole;
+        heard = ap (λ (t : List ℕ). (blocks_in t).whole) (heard_behind took.turns pieces) ∙ ap (λ (b : Blocks). b.whole) took.heard;
+        none_left = tt;
+        each = All-nil (IsAnswer rows header);
+        stop = None;
+        stopped = tt;
+        end = beginning rows (limits_of journal);
+        leads = (refl, refl);
+        fits = All-nil PartFits;
+        known = All-nil (IsKnownPart rows);
+        last = [];
+        is_last = inl refl;
+        said = subst (λ (s : List ℕ). IsSaid status.WriteFault s ((ready_reply ++ []) ++ [])) (sym (said_behind took.turns pieces ∙ ap (λ (r : List ℕ). r ++ concat pieces) took.silent))
+            (subst (λ (t : List ℕ). IsSaid status.WriteFault (concat pieces) t) (sym (append-nil (ready_reply ++ []) ∙ append-nil ready_reply)) (said_front old new ready_reply says));
+        prompt = replied_append (ready_reply ∷ []) [] [] took.turns (map Said pieces) took.prompt (replied_said (ready_reply ∷ []) (heard_in took.turns) (said_in took.turns) pieces);
+        kept = left.kept;
+        keeps = left.keeps;
+        full_at = left.full_at;
+        late = λ is. absurd (in_time is);
+      },
+    ))
+  where
+    apart : status.WriteFault ≡ status.StoreFull → ⊥
+    apart same = cc
+
+    in_time : status.WriteFault ≡ status.TooLong → ⊥
+    in_time same = cc
+
+-- blocks were served after a header: all that is promised of a run's output holds
+serves_blocks : Laws → {D : Type 0} (seen : D → Option (List ℕ)) (may_leave : D → List ℕ → Type 0) (faults : D → ℕ) (told : Option (List File)) (subscribers : Option (List ℕ)) (rows : List Row) (header : Script) (waiting : List ℕ)
+    (from disk : D) (journal : JournalState D) (ended : Status) (start old new : Option (List Turn)) (turns : List Turn) → Known rows header → Begins seen may_leave faults rows from journal
+    → (hears : HearsHeader told subscribers rows header waiting start old) → Turns start new turns → RunsBlocks seen may_leave rows header from (limits_of journal) hears.hears.first ended disk turns
+    → Serves told subscribers (seen from) (MayLeave seen may_leave from disk) ended start new
+serves_blocks laws {D} seen may_leave faults told subscribers rows header waiting from disk journal ended start old new turns known begins hears took runs =
+    with_limits (limits_in rows begins.found) (subst (λ (reserved : List ℕ). RunsBlocks seen may_leave rows header from reserved hears.hears.first ended disk turns) begins.limits runs)
+  where
+    with_limits : (reserved : List ℕ) → RunsBlocks seen may_leave rows header from (limits_in rows begins.found) hears.hears.first ended disk turns
+        → Serves told subscribers (seen from) (MayLeave seen may_leave from disk) ended start new
+    with_limits reserved runs = record {
+      before = hears.before;
+      begins = hears.begins;
+      turns = turns;
+      took = took;
+      first = hears.hears.first;
+      short = hears.hears.short;
+      header = header;
+      rows = rows;
+      is_header = hears.hears.is_header;
+      found = begins.found;
+      is_found = begins.is_found;
+      service = record {
+        answers = runs.answers;
+        unanswered = runs.unanswered;
+        heard = runs.heard;
+        none_left = runs.none_left;
+        each = runs.each;
+        stop = runs.stop;
+        stopped = runs.stopped;
+        end = runs.end;
+        text = text_of rows header (records_in runs.answers);
+        output = is_output laws rows header (limits_in rows begins.found) runs.stop (parts_in runs.answers) (records_in runs.answers) runs.end
+            (record { subscribers = known.subscribers; realm = known.realm; known = runs.known }) runs.fits runs.leads;
+        told = output_told laws rows header (limits_in rows begins.found) runs.stop (parts_in runs.answers) (records_in runs.answers) runs.end
+            (record { subscribers = known.subscribers; realm = known.realm; known = runs.known }) runs.fits runs.leads;
+        last = runs.last;
+        is_last = runs.is_last;
+        said = runs.said;
+        prompt = prompt_of (replies_in runs.answers) turns runs.prompt;
+        kept = runs.kept;
+        late = runs.late;
+      };
+    }
+
+-- a refusal for want of memory
+memory_refusal : (refusal : Refusal) → status_of refusal ≡ status.NoMemory → refusal ≡ refused.NoMemory
+memory_refusal refused.NoMemory is = refl
+memory_refusal refused.Usage is = cc
+memory_refusal (refused.Subscribers row fault) is = cc
+memory_refusal (refused.Scenario line fault) is = cc
+memory_refusal refused.ReadFault is = cc
+memory_refusal refused.WriteFault is = cc
+memory_refusal refused.StoreFault is = cc
+memory_refusal (refused.NotJournal place) is = cc
+memory_refusal refused.StoreFull is = cc
+memory_refusal refused.TooLong is = cc
+
+-- or nothing was
+pub serves_ready : Laws → {D : Type 0} (seen : D → Option (List ℕ)) (may_leave : D → List ℕ → Type 0) (faults : D → ℕ) (told : Option (List File)) (subscribers : Option (List ℕ)) (rows : List Row) (header : Script) (waiting : List ℕ)
+    (from disk : D) (journal : JournalState D) (result : Result (Unit {0}) Refusal) (start old new : Option (List Turn)) → Known rows header → Begins seen may_leave faults rows from journal
+    → (hears : HearsHeader told subscribers rows header waiting start old)
+    → EndsReady seen may_leave rows header from (limits_of journal) hears.hears.first (status_in result) disk start old new
+    → ServesOr (λ refusal. IsEarly told subscribers (seen from) refusal start new) told subscribers (seen from) (MayLeave seen may_leave from disk) result start new
+serves_ready laws seen may_leave faults told subscribers rows header waiting from disk journal (Ok done) start old new known begins hears (inl (turns, took, runs)) =
+    serves_blocks laws seen may_leave faults told subscribers rows header waiting from disk journal status.Done start old new turns known begins hears took runs
+serves_ready laws seen may_leave faults told subscribers rows header waiting from disk journal (Ok done) start old new known begins hears (inr (is, same)) = absurd (apart is)
+  where
+    apart : status.Done ≡ status.NoMemory → ⊥
+    apart same = cc
+serves_ready laws seen may_leave faults told subscribers rows header waiting from disk journal (Err refusal) start old new known begins hears (inl (turns, took, runs)) =
+    inl (serves_blocks laws seen may_leave faults told subscribers rows header waiting from disk journal (status_of refusal) start old new turns known begins hears took runs)
+serves_ready laws seen may_leave faults told subscribers rows header waiting from disk journal (Err refusal) start old new known begins hears (inr (is, same)) =
+    let heard = hears.hears.took in
+    inr (record {
+      turns = heard.turns;
+      took = subst (λ (now : Option (List Turn)). Turns start now heard.turns) (sym same) heard.took;
+      silent = heard.silent;
+      cause = subst (IsEarlyCause told subscribers (seen from) (heard_in heard.turns)) (sym (memory_refusal refusal is)) tt;
+    })
+
+-- no journal is lowered
+pub remembers_blocks : {D : Type 0} (seen : D → Option (List ℕ)) (may_leave : D → List ℕ → Type 0) (rows : List Row) (header : Script) (from : D) (reserved first : List ℕ) (ended : Status) (disk : D) (turns : List Turn)
+    → RunsBlocks seen may_leave rows header from reserved first ended disk turns → Remembers seen may_leave ended from disk
+remembers_blocks seen may_leave rows header from reserved first ended disk turns runs = record {
+  keeps = λ told premise image leaves. (runs.keeps told image leaves).0;
+  closable = λ told is image leaves. (runs.keeps told image leaves).1;
+  stays = λ is. absurd (subst (λ (s : Status). IsServiceStop s runs.stop) is runs.stopped);
+}
+
+-- ---- how the refusal was told
+
+-- one that has no line
+still_serves : (told : Option (List File)) (subscribers seen : Option (List ℕ)) (leaves : List ℕ → Type 0) (s ended : Status) (old mid new : Option (List Turn)) → ended ≡ s → new ≡ mid
+    → Serves told subscribers seen leaves s old mid → Serves told subscribers seen leaves ended old new
+still_serves told subscribers seen leaves s ended old mid new is same serves =
+    subst (λ (e : Status). Serves told subscribers seen leaves e old new) (sym is) (subst (λ (o : Option (List Turn)). Serves told subscribers seen leaves s old o) (sym same) serves)
+
+-- a service that served blocks has no line
+serves_told : (told : Option (List File)) (subscribers seen : Option (List ℕ)) (leaves : List ℕ → Type 0) (refusal : Refusal) (ended : Status) (old mid new : Option (List Turn))
+    → Serves told subscribers seen leaves (status_of refusal) old mid → Tells refusal ended None None → (line_of refusal ≡ [] → new ≡ mid) → Serves told subscribers seen leaves ended old new
+serves_told told subscribers seen leaves refused.ReadFault ended old mid new serves (inl (is, line)) same = still_serves told subscribers seen leaves status.ReadFault ended old mid new is (same refl) serves
+serves_told told subscribers seen leaves refused.WriteFault ended old mid new serves (inl (is, line)) same = still_serves told subscribers seen leaves status.WriteFault ended old mid new is (same refl) serves
+serves_told told subscribers seen leaves refused.StoreFault ended old mid new serves (inl (is, line)) same = still_serves told subscribers seen leaves status.StoreFault ended old mid new is (same refl) serves
+serves_told told subscribers seen leaves refused.StoreFull ended old mid new serves (inl (is, line)) same = still_serves told subscribers seen leaves status.StoreFull ended old mid new is (same refl) serves
+serves_told told subscribers seen leaves refused.TooLong ended old mid new serves (inl (is, line)) same = still_serves told subscribers seen leaves status.TooLong ended old mid new is (same refl) serves
+serves_told told subscribers seen leaves refused.NoMemory ended old mid new serves (inl (is, line)) same = still_serves told subscribers seen leaves status.NoMemory ended old mid new is (same refl) serves
+serves_told told subscribers seen leaves refused.ReadFault ended old mid new serves (inr untold) same = absurd untold
+serves_told told subscribers seen leaves refused.WriteFault ended old mid new serves (inr untold) same = absurd untold
+serves_told told subscribers seen leaves refused.StoreFault ended old mid new serves (inr untold) same = absurd untold
+serves_told told subscribers seen leaves refused.StoreFull ended old mid new serves (inr untold) same = absurd untold
+serves_told told subscribers seen leaves refused.TooLong ended old mid new serves (inr untold) same = absurd untold
+serves_told told subscribers seen leaves refused.NoMemory ended old mid new serves (inr untold) same = absurd untold
+serves_told told subscribers seen leaves refused.Usage ended old mid new serves tells same = absurd serves.service.stopped
+serves_told told subscribers seen leaves (refused.Subscribers row fault) ended old mid new serves tells same = absurd serves.service.stopped
+serves_told told subscribers seen leaves (refused.Scenario line fault) ended old mid new serves tells same = absurd serves.service.stopped
+serves_told told subscribers seen leaves (refused.NotJournal place) ended old mid new serves tells same = absurd serves.service.stopped
+
+-- one that comes before
+early_told : (told : Option (List File)) (subscribers seen : Option (List ℕ)) (refusal : Refusal) (ended : Status) (old mid new : Option (List Turn)) → IsEarly told subscribers seen refusal old mid → SaysTold refusal ended mid new
+    → EndsUnserved told subscribers seen ended old new
+early_told told subscribers seen refusal ended old mid new early (said, says, is_told) = record {
+  turns = early.turns ++ map Said says.pieces;
+  took = turns_more old mid new early.turns (map Said says.pieces) early.took says.turns;
+  refusal = refusal;
+  cause = subst (λ (heard : List ℕ). IsEarlyCause told subscribers seen heard refusal) (sym (heard_behind early.turns says.pieces)) early.cause;
+  is_told = subst (IsTold refusal ended) (sym (said_behind early.turns says.pieces ∙ ap (λ (r : List ℕ). r ++ concat says.pieces) early.silent ∙ says.whole)) is_told;
+}
+
+pub service_told : (told : Option (List File)) (subscribers seen : Option (List ℕ)) (leaves : List ℕ → Type 0) (refusal : Refusal) (ended : Status) (old mid new : Option (List Turn))
+    → Serves told subscribers seen leaves (status_of refusal) old mid ⊎ IsEarly told subscribers seen refusal old mid → Tells refusal ended None None → (line_of refusal ≡ [] → new ≡ mid) → SaysTold refusal ended mid new
+    → Serves told subscribers seen leaves ended old new ⊎ EndsUnserved told subscribers seen ended old new
+service_told told subscribers seen leaves refusal ended old mid new (inl serves) tells same says = inl (serves_told told subscribers seen leaves refusal ended old mid new serves tells same)
+service_told told subscribers seen leaves refusal ended old mid new (inr early) tells same says = inr (early_told told subscribers seen refusal ended old mid new early says)

@@ -1,0 +1,372 @@
+//! The blocks of a service, one after the other.
+
+ghost use Rattle.std.specs.Prelude.{◌≡◌, ◌≢◌, ◌≤◌, ◌<◌, ◌+◌, ◌^◌, ◌++◌, ◌∷◌, ℕ, List, [], false, length, Some, Ok, Err, OnOk, OnErr, IfOk, IfErr, IsOk, IsErrOf, IsTrue, true};
+ghost use Rattle.auc_block.specs.Turns.{Says};
+ghost use Rattle.auc_edge.specs.Faults.{Rose};
+ghost use Rattle.auc_edge.specs.declared.stop.Stop.TheVariants as stops;
+ghost use Rattle.auc_script.specs.Limits.{IsBlock, IsWithin};
+ghost use Rattle.auc_world.specs.Transcript.{Course};
+ghost use Rattle.auc_run.specs.Inner.{Covers, MakesRound, RoundsStop, StandsOn, status_in};
+ghost use Rattle.auc_run.specs.InnerService.{EndsServing, IsSaidUpTo, IsServingAny, IsTurned, ServiceStops, round_answer, trouble_refusal, turned_by};
+ghost use Rattle.auc_run.specs.Output.{setting_of};
+ghost use Rattle.auc_run.specs.Service.{asked_of, end_line, most_block, reply_to_rest};
+
+use crate::refusal::{Performed, Refusal};
+use crate::replies::{END, last_line, reply_refusal, say_end};
+use crate::rounds::{Made, Settings, Stand, make_round, stopped};
+use crate::top_call::Input;
+use auc_block::{
+    NextBlock, Trouble, Wire, each_block_is_split_off, earlier_blocks_stand, hear_block, say_whole,
+};
+use auc_disk::Disk;
+use auc_edge::{Gate, NoMemory, Octets, Stop};
+use auc_ident::Names;
+use auc_lines::RoundPart;
+use auc_random::Rands;
+use auc_script::{ScriptRefusal, ScriptWhy, read_block};
+use auc_world::Setting;
+use std::alloc::Global;
+use std::sync::Wait;
+use std::thread::Threads;
+
+/// How many blocks a service hears after its header.
+const MOST_BLOCKS: u32 = 4_294_967_294;
+
+/// The bytes that were heard and are no whole block yet, and room for what is heard at once.
+#[derive(Drop)]
+pub(crate) struct Ear {
+    pub(crate) waiting: Vec<u8>,
+    pub(crate) room: Vec<u8>,
+}
+
+/// What came of a block: whether the next one is heard.
+#[derive(Drop)]
+struct BlockStep<D: Disk + Drop> {
+    stand: Stand<D>,
+    result: Result<bool, Refusal>,
+}
+
+/// Serves blocks one after the other, up to the end of the input or to what ends the service.
+pub(crate) fn serve_blocks<
+    R: Threads + Wait + Sync,
+    W: Wire,
+    D: Disk + Drop + Send,
+    G: Gate + Sync,
+>(
+    rt: &R,
+    alloc: Global,
+    input: &mut Input,
+    mut stand: Stand<D>,
+    wire: &mut W,
+    ear: &mut Ear,
+    gate: &G,
+) -> Performed<D>
+    requires within { IsWithin input.old.subs input.old.script }
+    requires number { stand.number ≤ 1 }
+    requires text { stand.text ≡ [] }
+    requires room { 0 < length ear.old.room.items }
+    requires serving { IsServingAny D.seen D.may_leave input.old.subs input.old.script []
+        ear.old.waiting.items stand.number stand.state stand.journal (W.turns wire.old) }
+
+    ensures ends { EndsServing D.seen D.may_leave input.old.subs input.old.script [] ear.old.waiting.items
+        stand.number stand.state stand.journal (status_in result.result) result.disk (W.turns wire.old) (W.turns wire.new) }
+    ensures done { OnOk result.result (IsTrue (W.ended wire.new)) }
+    ensures refused { IfErr result.result ServiceStops }
+
+    // A fault comes only with a risen count.
+    ensures read_fault { IsErrOf result.result Refusal.ReadFault → Rose (W.faults wire.old) (W.faults wire.new) }
+    ensures write_fault { IsErrOf result.result Refusal.WriteFault → Rose (W.faults wire.old) (W.faults wire.new) }
+    ensures quiet { result.result ≢ Err Refusal.ReadFault → result.result ≢ Err Refusal.WriteFault
+        → W.faults wire.new ≡ W.faults wire.old }
+    ensures store_fault { IsErrOf result.result Refusal.StoreFault
+        → Rose (D.faults stand.journal.disk) (D.faults result.disk) }
+    ensures quiet_store { result.result ≢ Err Refusal.StoreFault → result.result ≢ Err Refusal.WriteFault
+        → result.result ≢ Err Refusal.NoMemory → D.faults result.disk ≡ D.faults stand.journal.disk }
+{
+    for _ in 0..MOST_BLOCKS {
+        let BlockStep {
+            stand: next,
+            result,
+        } = serve_next(rt, alloc, input, stand, wire, ear, gate);
+        match result {
+            Ok(true) => stand = next,
+            Ok(false) => {
+                return Performed {
+                    disk: next.into_disk(),
+                    result: Ok(()),
+                };
+            }
+            Err(refusal) => {
+                return Performed {
+                    disk: next.into_disk(),
+                    result: Err(refusal),
+                };
+            }
+        }
+    }
+    Performed {
+        disk: stand.into_disk(),
+        result: Err(Refusal::TooLong),
+    }
+}
+
+/// Hears the next block, and replies to it.
+fn serve_next<R: Threads + Wait + Sync, W: Wire, D: Disk + Drop + Send, G: Gate + Sync>(
+    rt: &R,
+    alloc: Global,
+    input: &mut Input,
+    stand: Stand<D>,
+    wire: &mut W,
+    ear: &mut Ear,
+    gate: &G,
+) -> BlockStep<D>
+    requires within { IsWithin input.old.subs input.old.script }
+    requires number { stand.number + 1 < 2 ^ 32 }
+    requires text { stand.text ≡ [] }
+    requires room { 0 < length ear.old.room.items }
+    requires serving { IsServingAny D.seen D.may_leave input.old.subs input.old.script []
+        ear.old.waiting.items stand.number stand.state stand.journal (W.turns wire.old) }
+
+    ensures turned { IsTurned D.seen D.may_leave input.old.subs input.old.script [] ear.old.waiting.items ear.new.waiting.items
+        stand.number result.stand.number stand.state result.stand.state stand.journal result.stand.journal
+        result.result (W.turns wire.old) (W.turns wire.new) }
+    ensures text { IsOk result.result → result.stand.text ≡ [] }
+    ensures number { result.stand.number ≤ stand.number + 1 }
+    ensures refused { IfErr result.result ServiceStops }
+    ensures input { input.new ≡ input.old }
+    ensures room { length ear.new.room.items ≡ length ear.old.room.items }
+    ensures done { IfOk result.result (λ more. more ≡ false → IsTrue (W.ended wire.new)) }
+
+    // A fault comes only with a risen count.
+    ensures read_fault { IsErrOf result.result Refusal.ReadFault → Rose (W.faults wire.old) (W.faults wire.new) }
+    ensures write_fault { IsErrOf result.result Refusal.WriteFault → Rose (W.faults wire.old) (W.faults wire.new) }
+    ensures quiet { result.result ≢ Err Refusal.ReadFault → result.result ≢ Err Refusal.WriteFault
+        → W.faults wire.new ≡ W.faults wire.old }
+    ensures store_fault { IsErrOf result.result Refusal.StoreFault
+        → Rose (D.faults stand.journal.disk) (D.faults result.stand.journal.disk) }
+    ensures quiet_store { result.result ≢ Err Refusal.StoreFault → result.result ≢ Err Refusal.WriteFault
+        → result.result ≢ Err Refusal.NoMemory → D.faults result.stand.journal.disk ≡ D.faults stand.journal.disk }
+{
+    each_block_is_split_off();
+    earlier_blocks_stand();
+    match hear_block(alloc, wire, &mut ear.waiting, ear.room.as_mut_slice()) {
+        Ok(NextBlock::Whole(block)) => serve_block(rt, alloc, input, block, stand, wire, gate),
+        Ok(NextBlock::TooLong) => {
+            let result = reply_refusal(alloc, 0, ScriptWhy::Limit, wire);
+            turned(stand, result, true)
+        }
+        Ok(NextBlock::Ended) => {
+            let result = reply_to_rest(alloc, ear.waiting.as_slice(), wire);
+            turned(stand, result, false)
+        }
+        Ok(NextBlock::EndedTooLong) => {
+            let result = reply_refusal(alloc, 0, ScriptWhy::Limit, wire);
+            turned(stand, result, false)
+        }
+        Err(trouble) => turned(stand, Err(Refusal::from(trouble)), false),
+    }
+}
+
+/// What came of a block that served nothing.
+fn turned<D: Disk + Drop>(stand: Stand<D>, said: Result<(), Refusal>, more: bool) -> BlockStep<D>
+    ensures stand { result.stand ≡ stand }
+    ensures answer { result.result ≡ turned_by said more }
+{
+    let result = match said {
+        Ok(()) => Ok(more),
+        Err(refusal) => Err(refusal),
+    };
+    BlockStep { stand, result }
+}
+
+/// Replies to an unfinished block at the end of the input, if there is one.
+fn reply_to_rest<W: Wire>(alloc: Global, rest: &[u8], wire: &mut W) -> Result<(), Refusal>
+    requires { length rest.now ≤ most_block }
+    ensures said { OnOk result (Says (W.turns wire.old) (W.turns wire.new) (reply_to_rest rest.now)) }
+    ensures stopped { IfErr result (IsSaidUpTo (reply_to_rest rest.now) (W.turns wire.old) (W.turns wire.new)) }
+    ensures same { W.ended wire.new ≡ W.ended wire.old }
+    ensures fault { IsErrOf result Refusal.WriteFault → Rose (W.faults wire.old) (W.faults wire.new) }
+    ensures quiet { result ≢ Err Refusal.WriteFault → W.faults wire.new ≡ W.faults wire.old }
+{
+    if rest.is_empty() {
+        return Ok(());
+    }
+    reply_refusal(alloc, last_line(rest), ScriptWhy::Unfinished, wire)
+}
+
+/// Serves a block if it is right, and replies to it.
+fn serve_block<R: Threads + Wait + Sync, W: Wire, D: Disk + Drop + Send, G: Gate + Sync>(
+    rt: &R,
+    alloc: Global,
+    input: &mut Input,
+    block: Octets,
+    stand: Stand<D>,
+    wire: &mut W,
+    gate: &G,
+) -> BlockStep<D>
+    requires within { IsWithin input.old.subs input.old.script }
+    requires number { stand.number + 1 < 2 ^ 32 }
+    requires text { stand.text ≡ [] }
+    requires short { length block ≤ most_block }
+    requires serving { (waiting : List ℕ) × IsServingAny D.seen D.may_leave input.old.subs input.old.script
+        (block ∷ []) waiting stand.number stand.state stand.journal (W.turns wire.old) }
+
+    ensures turned { (waiting : List ℕ) → IsTurned D.seen D.may_leave input.old.subs input.old.script
+        (block ∷ []) waiting waiting stand.number result.stand.number stand.state result.stand.state
+        stand.journal result.stand.journal result.result (W.turns wire.old) (W.turns wire.new) }
+    ensures goes { IfOk result.result (λ more. more ≡ true) }
+    ensures text { IsOk result.result → result.stand.text ≡ [] }
+    ensures number { result.stand.number ≤ stand.number + 1 }
+    ensures refused { IfErr result.result RoundsStop }
+    ensures input { input.new ≡ input.old }
+
+    // A fault comes only with a risen count.
+    ensures write_fault { IsErrOf result.result Refusal.WriteFault → Rose (W.faults wire.old) (W.faults wire.new) }
+    ensures quiet { result.result ≢ Err Refusal.WriteFault → W.faults wire.new ≡ W.faults wire.old }
+    ensures store_fault { IsErrOf result.result Refusal.StoreFault
+        → Rose (D.faults stand.journal.disk) (D.faults result.stand.journal.disk) }
+    ensures quiet_store { result.result ≢ Err Refusal.StoreFault → result.result ≢ Err Refusal.WriteFault
+        → result.result ≢ Err Refusal.NoMemory → D.faults result.stand.journal.disk ≡ D.faults stand.journal.disk }
+{
+    match read_block(alloc, block.as_slice(), &mut input.subs) {
+        Ok(Some(jobs)) => serve_jobs(rt, alloc, input, jobs, stand, wire, gate),
+        Ok(None) => {
+            let result = say_end(wire);
+            turned(stand, result, true)
+        }
+        Err(ScriptRefusal::Line(line, why)) => {
+            let result = reply_refusal(alloc, line, why, wire);
+            turned(stand, result, true)
+        }
+        Err(ScriptRefusal::NoMemory) => turned(stand, Err(Refusal::NoMemory), true),
+    }
+}
+
+/// Serves the round of a block, and says its text and `end` at once.
+fn serve_jobs<R: Threads + Wait + Sync, W: Wire, D: Disk + Drop + Send, G: Gate + Sync>(
+    rt: &R,
+    alloc: Global,
+    input: &Input,
+    jobs: RoundPart,
+    stand: Stand<D>,
+    wire: &mut W,
+    gate: &G,
+) -> BlockStep<D>
+    requires within { IsWithin input.now.subs input.now.script }
+    requires known { IsBlock input.now.subs jobs }
+    requires number { stand.number + 1 < 2 ^ 32 }
+    requires text { stand.text ≡ [] }
+    requires serving { (block waiting : List ℕ) × (asked_of input.now.subs block ≡ Ok (Some jobs))
+        × IsServingAny D.seen D.may_leave input.now.subs input.now.script
+        (block ∷ []) waiting stand.number stand.state stand.journal (W.turns wire.old) }
+
+    ensures turned { (block waiting : List ℕ) → asked_of input.now.subs block ≡ Ok (Some jobs)
+        → IsTurned D.seen D.may_leave input.now.subs input.now.script
+        (block ∷ []) waiting waiting stand.number result.stand.number stand.state result.stand.state
+        stand.journal result.stand.journal result.result (W.turns wire.old) (W.turns wire.new) }
+    ensures goes { IfOk result.result (λ more. more ≡ true) }
+    ensures text { IsOk result.result → result.stand.text ≡ [] }
+    ensures number { result.stand.number ≤ stand.number + 1 }
+    ensures refused { IfErr result.result RoundsStop }
+
+    // A fault comes only with a risen count.
+    ensures write_fault { IsErrOf result.result Refusal.WriteFault → Rose (W.faults wire.old) (W.faults wire.new) }
+    ensures quiet { result.result ≢ Err Refusal.WriteFault → W.faults wire.new ≡ W.faults wire.old }
+    ensures store_fault { IsErrOf result.result Refusal.StoreFault
+        → Rose (D.faults stand.journal.disk) (D.faults result.stand.journal.disk) }
+    ensures quiet_store { result.result ≢ Err Refusal.StoreFault → result.result ≢ Err Refusal.WriteFault
+        → result.result ≢ Err Refusal.NoMemory → D.faults result.stand.journal.disk ≡ D.faults stand.journal.disk }
+{
+    let Made { mut stand, result } = make_jobs(rt, alloc, input, &jobs, stand, gate);
+    match result {
+        Ok(stop) => {
+            let said = say_round(alloc, &mut stand.text, wire);
+            turned(stand, round_answer(said, stop), true)
+        }
+        Err(NoMemory) => turned(stand, Err(Refusal::NoMemory), true),
+    }
+}
+
+/// Serves jobs as the header says.
+fn make_jobs<R: Threads + Wait + Sync, D: Disk + Drop + Send, G: Gate + Sync>(
+    rt: &R,
+    alloc: Global,
+    input: &Input,
+    jobs: &RoundPart,
+    stand: Stand<D>,
+    gate: &G,
+) -> Made<D>
+    requires within { IsWithin input.now.subs input.now.script }
+    requires known { IsBlock input.now.subs jobs.now }
+    requires number { stand.number + 1 < 2 ^ 32 }
+    requires text { stand.text ≡ [] }
+    requires stands { (from : D) × (reserved : List ℕ) × (at : Course) × StandsOn D.seen D.may_leave
+        (setting_of input.now.subs input.now.script) from reserved at stand.number stand.state stand.journal }
+
+    ensures made { IfOk result.result (λ stop. MakesRound D.seen D.may_leave
+        (setting_of input.now.subs input.now.script) input.now.script.full
+        stand.number stand.state stand.journal jobs.now stop result.stand.state result.stand.journal
+        [] result.stand.text) }
+    ensures ends { OnErr result.result ((from : D) (reserved : List ℕ) (at : Course)
+        → StandsOn D.seen D.may_leave (setting_of input.now.subs input.now.script)
+        from reserved at stand.number stand.state stand.journal
+        → Covers D.seen D.may_leave input.now.subs from at.early result.stand.journal) }
+    ensures number { result.stand.number ≡ stand.number + 1 }
+
+    // A fault comes only with a risen count.
+    ensures store_fault { IfOk result.result (λ stop. stop ≡ Some stops.Fault
+        → Rose (D.faults stand.journal.disk) (D.faults result.stand.journal.disk)) }
+    ensures quiet_store { IfOk result.result (λ stop. stop ≢ Some stops.Fault
+        → D.faults result.stand.journal.disk ≡ D.faults stand.journal.disk) }
+{
+    let rands = Rands::new(input.script.key);
+    let names = Names::new(input.script.key);
+    let settings = Settings {
+        set: Setting {
+            subs: &input.subs,
+            rands: &rands,
+            names: &names,
+            realm: input.script.realm.as_slice(),
+        },
+        full: input.script.full,
+        workers: input.script.workers,
+    };
+    make_round(rt, alloc, &settings, jobs, stand, gate)
+}
+
+/// What a round comes to whose text was said or wasn't: in it, reservations ended or didn't.
+fn round_answer(said: Result<(), Refusal>, stop: Option<Stop>) -> Result<(), Refusal>
+    ensures { result ≡ round_answer said stop }
+{
+    match said {
+        Ok(()) => stopped(stop),
+        Err(refusal) => Err(refusal),
+    }
+}
+
+/// Says the text of a round and `end`.
+fn say_round<W: Wire>(alloc: Global, text: &mut Octets, wire: &mut W) -> Result<(), Refusal>
+    ensures said { OnOk result (Says (W.turns wire.old) (W.turns wire.new) (text.old ++ end_line)) }
+    ensures done { OnOk result (text.new ≡ []) }
+    ensures stopped { IfErr result (IsSaidUpTo (text.old ++ end_line) (W.turns wire.old) (W.turns wire.new)) }
+    ensures same { W.ended wire.new ≡ W.ended wire.old }
+    ensures fault { IsErrOf result Refusal.WriteFault → Rose (W.faults wire.old) (W.faults wire.new) }
+    ensures quiet { result ≢ Err Refusal.WriteFault → W.faults wire.new ≡ W.faults wire.old }
+{
+    text.append(END)?;
+    say_whole(wire, text.as_slice())?;
+    *text = Octets::new(alloc);
+    Ok(())
+}
+
+impl From<Trouble> for Refusal {
+    ghost from_gives = { λ trouble e. e ≡ trouble_refusal trouble };
+
+    fn from(trouble: Trouble) -> Refusal {
+        match trouble {
+            Trouble::Failed => Refusal::ReadFault,
+            Trouble::NoMemory => Refusal::NoMemory,
+            Trouble::Endless => Refusal::TooLong,
+        }
+    }
+}

@@ -1,0 +1,325 @@
+//! The program's form that stays alive.
+
+ghost use Rattle.std.specs.Prelude.{◌≡◌, ◌≢◌, ◌<◌, ◌⊎◌, ℕ, List, [], length, Option, Some, None, Err, OnOk, IfOk, IfErr, IsErrOf, IsTrue};
+ghost use Rattle.std.specs.Option.{option_copied};
+ghost use Rattle.auc_block.specs.declared.turn.Turn.{Turn};
+ghost use Rattle.auc_edge.specs.Faults.{Rose};
+ghost use Rattle.auc_edge.specs.Shelf.{File};
+ghost use Rattle.auc_journal.specs.Durable.{IsTold};
+ghost use Rattle.auc_journal.specs.Journal.{limits_of};
+ghost use Rattle.auc_script.specs.Limits.{IsWithin};
+ghost use Rattle.auc_run.specs.Crash.{IsFull, MayLeave, Remembers};
+ghost use Rattle.auc_run.specs.Inner.{Begins, JournalStops, status_in};
+ghost use Rattle.auc_run.specs.InnerService.{EndsReady, HeaderStops, HearsFirst, HearsHeader, IsEarly, IsHeaderStop, ServesOr, ServiceStops, TookHeader};
+ghost use Rattle.auc_run.specs.Outcome.{IsQuiet};
+ghost use Rattle.auc_run.specs.Service.{EndsUnnamed, EndsUnserved, HasQuietWire, IsBeforeOpening, Serves};
+ghost use Rattle.auc_run.specs.Words.{service_named};
+
+use crate::blocks::{Ear, serve_blocks};
+use crate::forms::{ServiceWords, service_words};
+use crate::input::read_subscribers;
+use crate::law::laws_of_transcripts;
+use crate::opening::open_journal;
+use crate::refusal::{Performed, Refusal, refused};
+use crate::replies::{READY, last_line, say_refusal};
+use crate::rounds::{Stand, first_state};
+use crate::status::{Ended, Status};
+use crate::top_call::{Input, is_realm};
+use auc_block::{NextBlock, Wire, each_block_is_split_off, hear_block, say_whole};
+use auc_disk::Disk;
+use auc_edge::{Gate, Octets, Shelf};
+use auc_journal::{Journal, OpenRefused};
+use auc_script::{Script, ScriptWhy};
+use auc_subs::Subscribers;
+use std::alloc::{AllocError, Global};
+use std::sync::Wait;
+use std::thread::Threads;
+
+/// How many bytes are heard at once.
+const ROOM: usize = 65_536;
+
+/// Serves blocks that are heard, and replies to each before the next one is heard.
+///
+/// The words are `serve` or `serve SUBSCRIBERS`. A block is the lines up to a line `end`. The first one is the header: the
+/// lines of a scenario before its first round. It is answered by `ready`. Each further block is at most one round for the
+/// header's subscribers. A right one is served, and the reply is the text of its round; a wrong one is refused by the line of
+/// its first cause, and nothing is served. Each reply ends with a line `end`. A service goes on until the input ends, a call of
+/// the outside fails, reservations end, or memory runs out.
+pub fn serve<R: Threads + Wait + Sync, H: Shelf, W: Wire, D: Disk + Drop + Send, G: Gate + Sync>(
+    rt: &R,
+    alloc: Global,
+    words: &[Octets],
+    shelf: &mut H,
+    wire: &mut W,
+    disk: D,
+    gate: &G,
+) -> Ended<D>
+    // However a service ends: the rounds of the blocks that it answered are a lawful transcript, each reply was said before more
+    // was heard, and a crash leaves a journal that reserves each number of their vectors; or nothing was served, and nothing was
+    // said but a refusal's line or some first bytes of it.
+    ensures ran { (subscribers : Option (List ℕ)) → service_named words.now ≡ Some subscribers
+        → Serves (H.files shelf.old) subscribers (D.seen disk) (MayLeave D.seen D.may_leave disk result.disk)
+        result.status (W.turns wire.old) (W.turns wire.new)
+        ⊎ EndsUnserved (H.files shelf.old) subscribers (D.seen disk) result.status (W.turns wire.old) (W.turns wire.new) }
+    ensures usage_ran { service_named words.now ≡ None
+        → EndsUnnamed result.status (W.turns wire.old) (W.turns wire.new) }
+
+    // It is done only at the end of the input, after blocks were served.
+    ensures done { result.status ≡ Status.Done → IsTrue (W.ended wire.new)
+        × (subscribers : Option (List ℕ)) × (service_named words.now ≡ Some subscribers)
+        × Serves (H.files shelf.old) subscribers (D.seen disk) (MayLeave D.seen D.may_leave disk result.disk)
+        Status.Done (W.turns wire.old) (W.turns wire.new) }
+    ensures store_full { result.status ≡ Status.StoreFull → IsTold D.seen D.may_leave disk
+        → IsFull (D.seen result.disk) }
+
+    // A journal never forgets: however the service ends, a crash leaves for every identity at least what was reserved before.
+    ensures remembers { Remembers D.seen D.may_leave result.status disk result.disk }
+    ensures untouched { service_named words.now ≡ None ⊎ IsBeforeOpening result.status → result.disk ≡ disk }
+
+    // A fault comes only with a risen count: that of the subscribers' file, of the wire, or of the disk.
+    ensures read_fault { result.status ≡ Status.ReadFault → Rose (W.faults wire.old) (W.faults wire.new)
+        ⊎ ((name : List ℕ) × (service_named words.now ≡ Some (Some name))
+        × Rose (H.faults shelf.old name) (H.faults shelf.new name)) }
+    ensures quiet_shelf { result.status ≢ Status.ReadFault
+        → (name : List ℕ) → H.faults shelf.new name ≡ H.faults shelf.old name }
+    ensures write_fault { result.status ≡ Status.WriteFault → Rose (W.faults wire.old) (W.faults wire.new) }
+    ensures quiet_wire { HasQuietWire result.status → W.faults wire.new ≡ W.faults wire.old }
+    ensures store_fault { result.status ≡ Status.StoreFault → Rose (D.faults disk) (D.faults result.disk) }
+    ensures quiet_disk { IsQuiet result.status → D.faults result.disk ≡ D.faults disk }
+{
+    let Some(form) = service_words(words) else {
+        return Ended {
+            status: say_refusal(alloc, Refusal::Usage, wire),
+            disk,
+        };
+    };
+    let Performed { disk, result } = serve_words(rt, alloc, &form, shelf, wire, disk, gate);
+    match result {
+        Ok(()) => Ended {
+            status: Status::Done,
+            disk,
+        },
+        Err(refusal) => Ended {
+            status: say_refusal(alloc, refusal, wire),
+            disk,
+        },
+    }
+}
+
+/// Reads the subscribers, if a file of them is named, hears the header, and serves what is heard behind it.
+fn serve_words<R: Threads + Wait + Sync, H: Shelf, W: Wire, D: Disk + Drop + Send, G: Gate + Sync>(
+    rt: &R,
+    alloc: Global,
+    form: &ServiceWords,
+    shelf: &mut H,
+    wire: &mut W,
+    disk: D,
+    gate: &G,
+) -> Performed<D>
+    ensures ran { ServesOr (λ refusal. IsEarly (H.files shelf.old) (option_copied form.now.subscribers) (D.seen disk)
+        refusal (W.turns wire.old) (W.turns wire.new)) (H.files shelf.old) (option_copied form.now.subscribers)
+        (D.seen disk) (MayLeave D.seen D.may_leave disk result.disk) result.result (W.turns wire.old) (W.turns wire.new) }
+    ensures done { OnOk result.result (IsTrue (W.ended wire.new)) }
+    ensures store_full { IsErrOf result.result Refusal.StoreFull → IsTold D.seen D.may_leave disk
+        → IsFull (D.seen result.disk) }
+    ensures remembers { Remembers D.seen D.may_leave (status_in result.result) disk result.disk }
+    ensures untouched { IsBeforeOpening (status_in result.result) → result.disk ≡ disk }
+
+    // A fault comes only with a risen count.
+    ensures read_fault { IsErrOf result.result Refusal.ReadFault → Rose (W.faults wire.old) (W.faults wire.new)
+        ⊎ ((name : List ℕ) × (option_copied form.now.subscribers ≡ Some name)
+        × Rose (H.faults shelf.old name) (H.faults shelf.new name)) }
+    ensures quiet_shelf { result.result ≢ Err Refusal.ReadFault
+        → (name : List ℕ) → H.faults shelf.new name ≡ H.faults shelf.old name }
+    ensures write_fault { IsErrOf result.result Refusal.WriteFault → Rose (W.faults wire.old) (W.faults wire.new) }
+    ensures quiet_wire { HasQuietWire (status_in result.result) → W.faults wire.new ≡ W.faults wire.old }
+    ensures store_fault { IsErrOf result.result Refusal.StoreFault → Rose (D.faults disk) (D.faults result.disk) }
+    ensures quiet_disk { IsQuiet (status_in result.result) → D.faults result.disk ≡ D.faults disk }
+{
+    let Ok(mut ear) = new_ear(alloc) else {
+        return Performed {
+            disk,
+            result: Err(Refusal::NoMemory),
+        };
+    };
+    match read_header(alloc, form, shelf, wire, &mut ear) {
+        Ok(mut input) => serve_input(rt, alloc, &mut input, wire, &mut ear, disk, gate),
+        Err(refusal) => Performed {
+            disk,
+            result: Err(refusal),
+        },
+    }
+}
+
+/// Nothing was heard yet.
+fn new_ear(alloc: Global) -> Result<Ear, AllocError>
+    ensures { IfOk result (λ ear. (ear.waiting.items ≡ []) × (0 < length ear.room.items)) }
+{
+    let room = vec![in alloc; 0u8; ROOM]?;
+    Ok(Ear {
+        waiting: Vec::new(alloc),
+        room,
+    })
+}
+
+/// Reads the subscribers, if a file of them is named, and hears the header.
+fn read_header<H: Shelf, W: Wire>(
+    alloc: Global,
+    form: &ServiceWords,
+    shelf: &mut H,
+    wire: &mut W,
+    ear: &mut Ear,
+) -> Result<Input, Refusal>
+    requires room { 0 < length ear.old.room.items }
+    requires nothing { ear.old.waiting.items ≡ [] }
+
+    ensures read { IfOk result (λ input. HearsHeader (H.files shelf.old) (option_copied form.now.subscribers)
+        input.subs input.script ear.new.waiting.items (W.turns wire.old) (W.turns wire.new)) }
+    ensures within { IfOk result (λ input. IsWithin input.subs input.script) }
+    ensures room { length ear.new.room.items ≡ length ear.old.room.items }
+    ensures refused { (seen : Option (List ℕ)) → IfErr result (λ refusal. IsEarly (H.files shelf.old)
+        (option_copied form.now.subscribers) seen refusal (W.turns wire.old) (W.turns wire.new)) }
+    ensures causes { IfErr result HeaderStops }
+
+    // A fault comes only with a risen count.
+    ensures read_fault { IsErrOf result Refusal.ReadFault → Rose (W.faults wire.old) (W.faults wire.new)
+        ⊎ ((name : List ℕ) × (option_copied form.now.subscribers ≡ Some name)
+        × Rose (H.faults shelf.old name) (H.faults shelf.new name)) }
+    ensures quiet_shelf { result ≢ Err Refusal.ReadFault
+        → (name : List ℕ) → H.faults shelf.new name ≡ H.faults shelf.old name }
+    ensures quiet_wire { result ≢ Err Refusal.ReadFault → W.faults wire.new ≡ W.faults wire.old }
+{
+    let mut subs = read_subscribers(alloc, form.subscribers, shelf)?;
+    let script = hear_header(alloc, wire, ear, &mut subs)?;
+    Ok(Input { subs, script })
+}
+
+/// Hears the header, and adds its subscribers to those that there are.
+fn hear_header<W: Wire>(
+    alloc: Global,
+    wire: &mut W,
+    ear: &mut Ear,
+    subs: &mut Subscribers,
+) -> Result<Script, Refusal>
+    requires room { 0 < length ear.old.room.items }
+    requires nothing { ear.old.waiting.items ≡ [] }
+
+    ensures read { IfOk result (λ script. HearsFirst subs.old subs.new script ear.new.waiting.items
+        (W.turns wire.old) (W.turns wire.new)) }
+    ensures within { IfOk result (IsWithin subs.new) }
+    ensures room { length ear.new.room.items ≡ length ear.old.room.items }
+    ensures refused { IfErr result (IsHeaderStop subs.old (W.turns wire.old) (W.turns wire.new)) }
+    ensures fault { IsErrOf result Refusal.ReadFault → Rose (W.faults wire.old) (W.faults wire.new) }
+    ensures quiet { result ≢ Err Refusal.ReadFault → W.faults wire.new ≡ W.faults wire.old }
+{
+    each_block_is_split_off();
+    match hear_block(alloc, wire, &mut ear.waiting, ear.room.as_mut_slice())? {
+        NextBlock::Whole(block) => Ok(Script::read_header(alloc, block.as_slice(), subs)?),
+        NextBlock::TooLong => Err(Refusal::Scenario(0, ScriptWhy::Limit)),
+        NextBlock::EndedTooLong => Err(Refusal::Scenario(0, ScriptWhy::Limit)),
+        NextBlock::Ended => Err(Refusal::Scenario(
+            last_line(ear.waiting.as_slice()),
+            ScriptWhy::Unfinished,
+        )),
+    }
+}
+
+/// Opens the journal for the subscribers of a header, and serves what is heard behind it.
+fn serve_input<R: Threads + Wait + Sync, W: Wire, D: Disk + Drop + Send, G: Gate + Sync>(
+    rt: &R,
+    alloc: Global,
+    input: &mut Input,
+    wire: &mut W,
+    ear: &mut Ear,
+    disk: D,
+    gate: &G,
+) -> Performed<D>
+    requires within { IsWithin input.old.subs input.old.script }
+    requires room { 0 < length ear.old.room.items }
+    requires heard { (first : List ℕ) × (start : Option (List Turn))
+        × TookHeader first ear.old.waiting.items start (W.turns wire.old) }
+
+    ensures ran { (told : Option (List File)) (subscribers : Option (List ℕ)) (start : Option (List Turn))
+        → HearsHeader told subscribers input.old.subs input.old.script ear.old.waiting.items start (W.turns wire.old)
+        → ServesOr (λ refusal. IsEarly told subscribers (D.seen disk) refusal start (W.turns wire.new))
+        told subscribers (D.seen disk) (MayLeave D.seen D.may_leave disk result.disk) result.result start (W.turns wire.new) }
+    ensures done { OnOk result.result (IsTrue (W.ended wire.new)) }
+    ensures refused { IfErr result.result (λ refusal. JournalStops (D.seen disk) refusal ⊎ ServiceStops refusal) }
+    ensures store_full { IsErrOf result.result Refusal.StoreFull → IsTold D.seen D.may_leave disk
+        → IsFull (D.seen result.disk) }
+    ensures remembers { Remembers D.seen D.may_leave (status_in result.result) disk result.disk }
+
+    // A fault comes only with a risen count.
+    ensures read_fault { IsErrOf result.result Refusal.ReadFault → Rose (W.faults wire.old) (W.faults wire.new) }
+    ensures write_fault { IsErrOf result.result Refusal.WriteFault → Rose (W.faults wire.old) (W.faults wire.new) }
+    ensures quiet_wire { HasQuietWire (status_in result.result) → W.faults wire.new ≡ W.faults wire.old }
+    ensures store_fault { IsErrOf result.result Refusal.StoreFault → Rose (D.faults disk) (D.faults result.disk) }
+    ensures quiet_disk { IsQuiet (status_in result.result) → D.faults result.disk ≡ D.faults disk }
+{
+    match open_journal(alloc, disk, &input.subs) {
+        Ok(journal) => {
+            laws_of_transcripts();
+            is_realm(input.script.realm.as_slice());
+            serve_ready(rt, alloc, input, journal, wire, ear, gate)
+        }
+        Err(OpenRefused { disk, why }) => Performed {
+            disk,
+            result: Err(Refusal::from(why)),
+        },
+    }
+}
+
+/// Replies to the header, and serves what is heard behind it.
+fn serve_ready<R: Threads + Wait + Sync, W: Wire, D: Disk + Drop + Send, G: Gate + Sync>(
+    rt: &R,
+    alloc: Global,
+    input: &mut Input,
+    journal: Journal<D>,
+    wire: &mut W,
+    ear: &mut Ear,
+    gate: &G,
+) -> Performed<D>
+    requires within { IsWithin input.old.subs input.old.script }
+    requires room { 0 < length ear.old.room.items }
+    requires journal { (from : D) × Begins D.seen D.may_leave D.faults input.old.subs from journal }
+    requires heard { (first : List ℕ) × (start : Option (List Turn))
+        × TookHeader first ear.old.waiting.items start (W.turns wire.old) }
+
+    ensures ran { (from : D) (first : List ℕ) (start : Option (List Turn))
+        → Begins D.seen D.may_leave D.faults input.old.subs from journal
+        → TookHeader first ear.old.waiting.items start (W.turns wire.old)
+        → EndsReady D.seen D.may_leave input.old.subs input.old.script from (limits_of journal) first
+        (status_in result.result) result.disk start (W.turns wire.old) (W.turns wire.new) }
+    ensures done { OnOk result.result (IsTrue (W.ended wire.new)) }
+    ensures refused { IfErr result.result ServiceStops }
+    ensures store_full { IsErrOf result.result Refusal.StoreFull → (from : D)
+        → Begins D.seen D.may_leave D.faults input.old.subs from journal → IsTold D.seen D.may_leave from
+        → IsFull (D.seen result.disk) }
+    ensures remembers { (from : D) → Begins D.seen D.may_leave D.faults input.old.subs from journal
+        → Remembers D.seen D.may_leave (status_in result.result) from result.disk }
+
+    // A fault comes only with a risen count.
+    ensures read_fault { IsErrOf result.result Refusal.ReadFault → Rose (W.faults wire.old) (W.faults wire.new) }
+    ensures write_fault { IsErrOf result.result Refusal.WriteFault → Rose (W.faults wire.old) (W.faults wire.new) }
+    ensures quiet_wire { HasQuietWire (status_in result.result) → W.faults wire.new ≡ W.faults wire.old }
+    ensures store_fault { IsErrOf result.result Refusal.StoreFault
+        → Rose (D.faults journal.disk) (D.faults result.disk) }
+    ensures quiet_disk { IsQuiet (status_in result.result) → D.faults result.disk ≡ D.faults journal.disk }
+{
+    let Ok(state) = first_state(alloc, &input.subs, &journal) else {
+        return refused(journal, Refusal::NoMemory);
+    };
+    let stand = Stand {
+        number: 1,
+        state,
+        journal,
+        text: Octets::new(alloc),
+    };
+    match say_whole(wire, READY) {
+        Ok(()) => serve_blocks(rt, alloc, input, stand, wire, ear, gate),
+        Err(failed) => Performed {
+            disk: stand.into_disk(),
+            result: Err(Refusal::from(failed)),
+        },
+    }
+}
