@@ -9,7 +9,7 @@ use auc_edge::Stop;
 use auc_sqn::MAX_SEQ;
 use std::alloc::Global;
 use std::process::Abort;
-use std::thread;
+use std::thread::{self, Threads};
 
 /// The only pass of a book, as the list of all its passes.
 fn all_passes(rt: &impl Abort, alloc: Global, book: &Book, pass: Pass) -> Vec<Pass>
@@ -57,26 +57,29 @@ fn claims(book: &Book, pass: &mut Pass) -> [Option<u32>; 3]
     ]
 }
 
-// By hand: two subscribers, the second one number short of the greatest.
-#[test]
-fn one_pass_draws_jumps_and_claims(rt: HostRuntime) {
-    let alloc = rt.alloc();
-    let limits = [10, MAX_SEQ];
+/// What the only pass of a book answers, and the words at the end.
+fn one_pass(rt: &impl Abort, alloc: Global) -> (Deeds, [Option<u32>; 3], (u64, u64)) {
     let Ok((book, mut passes, keeper)) = Book::open(
         alloc,
         &[10, MAX_SEQ - 1],
         &[MAX_SEQ, MAX_SEQ],
-        &limits,
+        &[10, MAX_SEQ],
         1,
     ) else {
         panic!(rt; "no memory")
     };
-    let mut pass = passes.pop().expect(&rt, "a pass");
+    let mut pass = passes.pop().expect(rt, "a pass");
     let found = deeds(&book, &mut pass);
     let claimed = claims(&book, &mut pass);
-    let passes = all_passes(&rt, alloc, &book, pass);
+    let passes = all_passes(rt, alloc, &book, pass);
     let closed = book.close(passes, keeper);
-    let words = (closed.word(0), closed.word(1));
+    (found, claimed, (closed.word(0), closed.word(1)))
+}
+
+// By hand: two subscribers, the second one number short of the greatest.
+#[test]
+fn one_pass_draws_jumps_and_claims(rt: HostRuntime) {
+    let (found, claimed, words) = one_pass(&rt, rt.alloc());
     let spent = Draw::Exhausted(MAX_SEQ);
     let answers = (
         Draw::Number(11),
@@ -120,25 +123,30 @@ fn look_and_stop(book: &Book, keeper: &mut KeeperPass) -> u64
     seen
 }
 
-// By hand: a limit of 11, and then the store failed.
-#[test]
-fn numbers_are_released_up_to_the_limit(rt: HostRuntime) {
-    let Ok((book, mut passes, mut keeper)) = Book::open(rt.alloc(), &[10], &[MAX_SEQ], &[11], 1)
-    else {
+/// What comes of three numbers with a limit of 11, of which the last is drawn after the keeper stopped, and the last number
+/// that the keeper sees.
+fn three_releases(rt: &impl Abort, alloc: Global) -> ([(Option<Stop>, Option<Release>); 3], u64) {
+    let Ok((book, mut passes, mut keeper)) = Book::open(alloc, &[10], &[MAX_SEQ], &[11], 1) else {
         panic!(rt; "no memory")
     };
-    let mut pass = passes.pop().expect(&rt, "a pass");
+    let mut pass = passes.pop().expect(rt, "a pass");
     let first = read_and_release(&book, &mut pass);
     let second = read_and_release(&book, &mut pass);
     let seen = look_and_stop(&book, &mut keeper);
-    let third = read_and_release(&book, &mut pass);
+    ([first, second, read_and_release(&book, &mut pass)], seen)
+}
+
+// By hand: a limit of 11, and then the store failed.
+#[test]
+fn numbers_are_released_up_to_the_limit(rt: HostRuntime) {
+    let (found, seen) = three_releases(&rt, rt.alloc());
     let above = Some(Release::Above(11));
     let answers = [
         (None, Some(Release::Released)),
         (None, above),
         (Some(Stop::Fault), above),
     ];
-    assert!(rt; [first, second, third] == answers && seen == 12);
+    assert!(rt; found == answers && seen == 12);
 }
 
 /// Draws two numbers of the first subscriber.
@@ -151,6 +159,20 @@ fn draw_two(book: &Book, pass: &mut Pass)
     pass.draw(book, 0);
 }
 
+/// Draws two numbers of the first subscriber with each pass, on three threads.
+fn draw_on_threads<R: Threads + Sync>(rt: &R, book: &Book, passes: &mut [Pass])
+    requires own { All (IsOf book.now.id book.now.tops) passes.old }
+    requires sub { 0 < length book.now.openings }
+    ensures own { All (IsOf book.now.id book.now.tops) passes.new }
+    ensures many { length passes.new ≡ length passes.old }
+{
+    let two = |_: usize, pass: &mut Pass|
+        requires { IsOf book.now.id book.now.tops pass.old × (0 < length book.now.openings) }
+        ensures { IsOf book.entry.now.id book.entry.now.tops pass.new }
+    { draw_two(book, pass) };
+    thread::for_each_mut(rt, passes, 3, &two);
+}
+
 // By hand: three passes draw two numbers each, from 11 to 16.
 #[test]
 fn passes_on_three_threads_draw_from_one_word(rt: HostRuntime) {
@@ -158,11 +180,7 @@ fn passes_on_three_threads_draw_from_one_word(rt: HostRuntime) {
     let Ok((book, mut passes, keeper)) = Book::open(alloc, &[10], &[MAX_SEQ], &[10], 3) else {
         panic!(rt; "no memory")
     };
-    let two = |_: usize, pass: &mut Pass|
-        requires { IsOf book.id book.tops pass.old × (0 < length book.openings) }
-        ensures { IsOf book.id book.tops pass.new }
-    { draw_two(&book, pass) };
-    thread::for_each_mut(&rt, passes.as_mut_slice(), 3, &two);
+    draw_on_threads(&rt, &book, passes.as_mut_slice());
     let closed = book.close(passes, keeper);
     assert!(rt; closed.word(0) == 16);
 }
@@ -173,15 +191,27 @@ fn draws_in(rt: &impl Abort, alloc: Global, order: usize) -> ([(Draw, Draw); 3],
     let Ok((book, mut passes, keeper)) = Book::open(alloc, &[0], &[2], &[0], 3) else {
         panic!(rt; "no memory")
     };
+    let answers = six_draws(&book, passes.as_mut_slice(), order);
+    (answers, book.close(passes, keeper).word(0))
+}
+
+/// What each of three passes answers to its two draws.
+fn six_draws(book: &Book, passes: &mut [Pass], order: usize) -> [(Draw, Draw); 3]
+    requires own { All (IsOf book.now.id book.now.tops) passes.old }
+    requires sub { 0 < length book.now.openings }
+    requires three { length passes.old ≡ 3 }
+    ensures own { All (IsOf book.now.id book.now.tops) passes.new }
+    ensures three { length passes.new ≡ 3 }
+{
     let mut answers = [(Draw::Number(0), Draw::Number(0)); 3];
     let mut rest = order;
     for _ in 0..6 {
         let pass = rest % 3;
-        let answer = draw_by(&book, passes.as_mut_slice(), pass);
+        let answer = draw_by(book, passes, pass);
         answers[pass] = (answers[pass].1, answer);
         rest /= 3;
     }
-    (answers, book.close(passes, keeper).word(0))
+    answers
 }
 
 /// Draws a number of the first subscriber with one of the passes.

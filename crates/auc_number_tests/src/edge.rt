@@ -56,36 +56,41 @@ fn reads_numbered(
     reads(alloc, &mut shelf, b"scenario", limit, bytes.as_slice())
 }
 
+// The size of a file, a limit, and whether the file is read whole, or why it isn't.
+const FILES: [(usize, usize, Result<bool, ReadRefusal>); 5] = [
+    (0, 0, Ok(true)),
+    (5, 5, Ok(true)),
+    (5, 4, Err(ReadRefusal::TooLong)),
+    (150_000, LIMIT, Ok(true)),
+    (150_000, 149_999, Err(ReadRefusal::TooLong)),
+];
+
 // Each limit is the size, above it or below it; the third file takes three reads.
 #[test]
 fn a_file_is_read_whole_up_to_the_limit(rt: HostRuntime) {
     let alloc = rt.alloc();
-    let cases = [
-        (0, 0, Ok(true)),
-        (5, 5, Ok(true)),
-        (5, 4, Err(ReadRefusal::TooLong)),
-        (150_000, LIMIT, Ok(true)),
-        (150_000, 149_999, Err(ReadRefusal::TooLong)),
-    ];
-    for (size, limit, answer) in cases {
+    for (size, limit, answer) in FILES {
         let found = reads_numbered(&rt, alloc, size, limit);
         assert!(rt; found == answer, "at {size}");
     }
 }
 
+// What comes of two reads of a file and one of another name, if the second call to read bytes fails.
+fn three_reads(rt: &impl Abort, alloc: Global) -> [Result<bool, ReadRefusal>; 3] {
+    let bytes = numbered(rt, alloc, 150_000);
+    let mut shelf = shelf_of(rt, alloc, b"scenario", bytes.as_slice());
+    shelf.fail(2).expect(rt, "memory");
+    [
+        reads(alloc, &mut shelf, b"scenario", LIMIT, bytes.as_slice()),
+        reads(alloc, &mut shelf, b"scenario", LIMIT, bytes.as_slice()),
+        reads(alloc, &mut shelf, b"subscribers", LIMIT, bytes.as_slice()),
+    ]
+}
+
 // The second of three reads of a file fails, then none does; another name is missing.
 #[test]
 fn a_read_that_fails_in_the_middle_is_a_fault(rt: HostRuntime) {
-    let alloc = rt.alloc();
-    let bytes = numbered(&rt, alloc, 150_000);
-    let bytes = bytes.as_slice();
-    let mut shelf = shelf_of(&rt, alloc, b"scenario", bytes);
-    shelf.fail(2).expect(&rt, "memory");
-    let found = [
-        reads(alloc, &mut shelf, b"scenario", LIMIT, bytes),
-        reads(alloc, &mut shelf, b"scenario", LIMIT, bytes),
-        reads(alloc, &mut shelf, b"subscribers", LIMIT, bytes),
-    ];
+    let found = three_reads(&rt, rt.alloc());
     let fault = Err(ReadRefusal::ReadFault);
     assert!(rt; found == [fault, Ok(true), fault]);
 }
@@ -108,19 +113,22 @@ impl Sink for ShortSink {
     }
 }
 
+// Whether a text is written whole if one write fails, and whether these bytes are then written.
+fn writes(rt: &impl Abort, alloc: Global, failing: u64, written: &[u8]) -> (bool, bool) {
+    let mut sink = MemSink::new(alloc);
+    sink.fail(failing).expect(rt, "memory");
+    let mut out = ShortSink { sink };
+    let is_ok = write_whole(&mut out, b"vector 1").is_ok();
+    (is_ok, out.sink.as_slice() == written)
+}
+
 #[test]
 fn a_text_is_written_whole_by_short_writes(rt: HostRuntime) {
     let alloc = rt.alloc();
     let cases = [(0, b"vector 1".as_slice(), true), (2, b"vec", false)];
     for (failing, written, succeeds) in cases {
-        let mut sink = MemSink::new(alloc);
-        sink.fail(failing).expect(&rt, "memory");
-        let mut out = ShortSink { sink };
-        let is_ok = write_whole(&mut out, b"vector 1").is_ok();
-        assert!(rt;
-            (is_ok, out.sink.as_slice()) == (succeeds, written),
-            "at {failing}"
-        );
+        let found = writes(&rt, alloc, failing, written);
+        assert!(rt; found == (succeeds, true), "at {failing}");
     }
 }
 
@@ -134,48 +142,47 @@ fn identity_of(rt: &impl Abort, alloc: Global, text: &[u8]) -> Option<(u8, u64, 
     Some((digits, number, is_same))
 }
 
+// A text, and what it is read as.
+const IDENTITIES: [(&[u8], Option<(u8, u64, bool)>); 7] = [
+    (b"244070100000001", Some((15, 244_070_100_000_001, true))),
+    (b"001010000000001", Some((15, 1_010_000_000_001, true))),
+    (b"000000", Some((6, 0, true))),
+    (b"00101", None),
+    (b"0010100000000012", None),
+    (b"00101000000001a", None),
+    (b"+01010000000001", None),
+];
+
 // TS 23.003 §2.2 and RFC 4186 Appendix A.2 (its permanent identity without the leading 1).
 #[test]
 fn identities_are_read_and_written(rt: HostRuntime) {
     let alloc = rt.alloc();
-    let cases = [
-        (
-            b"244070100000001".as_slice(),
-            Some((15, 244_070_100_000_001, true)),
-        ),
-        (b"001010000000001", Some((15, 1_010_000_000_001, true))),
-        (b"000000", Some((6, 0, true))),
-        (b"00101", None),
-        (b"0010100000000012", None),
-        (b"00101000000001a", None),
-        (b"+01010000000001", None),
-    ];
-    for (text, identity) in cases {
+    for (text, identity) in IDENTITIES {
         assert!(rt; identity_of(&rt, alloc, text) == identity, "at {text:?}");
     }
 }
 
-fn grown_octets(rt: &impl Abort, alloc: Global) -> Octets {
+// Whether a text that grows by a word and the greatest number has their bytes.
+fn octets_grow(rt: &impl Abort, alloc: Global) -> bool {
     let mut text = Octets::new(alloc);
     text.append(b"vector ").expect(rt, "memory");
     text.append_number(18_446_744_073_709_551_615)
         .expect(rt, "memory");
-    text
+    text.as_slice() == b"vector 18446744073709551615".as_slice()
 }
 
-fn grown_list(rt: &impl Abort, alloc: Global) -> Items<u64> {
+// The last item of a list that grows by 5 and 7, and whether 5 is then left.
+fn list_grows(rt: &impl Abort, alloc: Global) -> (Option<u64>, bool) {
     let mut list = Items::new(alloc);
     list.push(5).expect(rt, "memory");
     list.push(7).expect(rt, "memory");
-    list
+    (list.pop(), list.as_slice() == [5].as_slice())
 }
 
 #[test]
 fn lists_and_octets_grow(rt: HostRuntime) {
-    let text = grown_octets(&rt, rt.alloc());
-    assert!(rt; text.as_slice() == b"vector 18446744073709551615".as_slice());
-    let mut list = grown_list(&rt, rt.alloc());
-    assert!(rt; (list.pop(), list.as_slice()) == (Some(7), [5].as_slice()));
+    assert!(rt; octets_grow(&rt, rt.alloc()));
+    assert!(rt; list_grows(&rt, rt.alloc()) == (Some(7), true));
 }
 
 // A missing file, a folder, the empty name and one that isn't UTF-8 are faults.

@@ -15,24 +15,38 @@ use std::process::Abort;
 // A worker on another thread may have the value.
 fn is_sent<T: Send>(_value: &T) {}
 
-// A new journal of one subscriber, on a disk of which these writes fail.
+// A disk of which the second call of its length, the first read and this write fail.
+fn disk_of(rt: &impl Abort, alloc: Global, write: u64) -> MemDisk {
+    let mut fail = FailList::new(alloc);
+    fail.push(DiskCall::Len, 2).expect(rt, "memory");
+    fail.push(DiskCall::ReadAt, 1).expect(rt, "memory");
+    fail.push(DiskCall::WriteAt, write).expect(rt, "memory");
+    MemDisk::new(alloc, Octets::new(alloc), fail).expect(rt, "memory")
+}
+
+// A new journal of one subscriber, on a disk of which these calls fail.
 fn journal_of(rt: &impl Abort, alloc: Global, write: u64) -> Journal<MemDisk>
     ensures { (length result.imsis ≡ 1) × (result.failed ≡ false) }
 {
-    let mut fail = FailList::new(alloc);
-    for (call, ordinal) in [
-        (DiskCall::Len, 2),
-        (DiskCall::ReadAt, 1),
-        (DiskCall::WriteAt, write),
-    ] {
-        fail.push(call, ordinal).expect(rt, "memory");
-    }
-    let disk = MemDisk::new(alloc, Octets::new(alloc), fail).expect(rt, "memory");
     let imsi = Imsi::read(b"001010000000001").expect(rt, "an IMSI");
-    match Journal::open(alloc, disk, &[imsi]) {
+    match Journal::open(alloc, disk_of(rt, alloc, write), &[imsi]) {
         Ok(journal) => journal,
         Err(_) => panic!(rt; "no journal"),
     }
+}
+
+// A book whose word stands at this opening, and its keeper with a new journal, of whose disk this write fails.
+fn opened(rt: &impl Abort, alloc: Global, opening: u64, write: u64) -> (Book, Keeper<MemDisk>)
+    requires { opening ≤ max_seq }
+    ensures own { result.1.pass.id ≡ result.0.id }
+    ensures subs { (1 ≤ length result.0.openings) × (1 ≤ length result.1.journal.imsis) }
+{
+    let journal = journal_of(rt, alloc, write);
+    let limits = [journal.reserved(0)];
+    let Ok((book, _passes, pass)) = Book::open(alloc, &[opening], &[MAX_SEQ], &limits, 1) else {
+        panic!(rt; "no memory")
+    };
+    (book, Keeper::new(journal, pass))
 }
 
 // Asks for a number, if the keeper sees one that isn't lower.
@@ -53,12 +67,7 @@ fn ask(keeper: &mut Keeper<MemDisk>, book: &Book, n: u64) -> Option<Ensured>
 fn reserve(rt: &impl Abort, alloc: Global, opening: u64, n: u64) -> (Option<Ensured>, u64)
     requires { (opening ≤ max_seq) × (n ≤ max_seq) }
 {
-    let journal = journal_of(rt, alloc, 9);
-    let limits = [journal.reserved(0)];
-    let Ok((book, _passes, pass)) = Book::open(alloc, &[opening], &[MAX_SEQ], &limits, 1) else {
-        panic!(rt; "no memory")
-    };
-    let mut keeper = Keeper::new(journal, pass);
+    let (book, mut keeper) = opened(rt, alloc, opening, 9);
     is_sent(&keeper);
     let answer = ask(&mut keeper, &book, n);
     let (journal, _pass) = keeper.parts();
@@ -99,12 +108,7 @@ fn ask_five(keeper: &mut Keeper<MemDisk>, book: &Book) -> [Option<Ensured>; 5]
 // disk, and a greater one does. A keeper that stopped answers that for each number.
 #[test]
 fn a_number_up_to_its_limit_makes_no_call(rt: HostRuntime) {
-    let journal = journal_of(&rt, rt.alloc(), 4);
-    let limits = [journal.reserved(0)];
-    let Ok((book, _passes, pass)) = Book::open(rt.alloc(), &[100], &[MAX_SEQ], &limits, 1) else {
-        panic!(rt; "no memory")
-    };
-    let mut keeper = Keeper::new(journal, pass);
+    let (book, mut keeper) = opened(&rt, rt.alloc(), 100, 4);
     let found = ask_five(&mut keeper, &book);
     let yes = Some(Ensured::Yes(64));
     let stopped = Some(Ensured::Stopped(Stop::Fault));

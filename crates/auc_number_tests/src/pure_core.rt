@@ -23,11 +23,10 @@ fn core_of(rt: &impl Abort, alloc: Global, openings: &[u64], tops: &[u64]) -> Co
     }
 }
 
-// By hand: two subscribers, the second one number short of its greatest.
-#[test]
-fn each_subscriber_draws_its_own_numbers_to_the_greatest(rt: HostRuntime) {
-    let alloc = rt.alloc();
-    let mut core = core_of(&rt, alloc, &[10, MAX_SEQ - 1], &[MAX_SEQ, MAX_SEQ]);
+/// The answers to draws of the two subscribers of a core, and their words after them.
+fn five_draws(mut core: Core) -> ([Reply; 5], (u64, u64))
+    requires { 1 < length core.words }
+{
     let replies = [
         core.apply(Event::Draw(0)),
         core.apply(Event::Draw(1)),
@@ -35,22 +34,31 @@ fn each_subscriber_draws_its_own_numbers_to_the_greatest(rt: HostRuntime) {
         core.apply(Event::Draw(1)),
         core.apply(Event::Draw(0)),
     ];
-    let expected = [
-        Reply::Number(11),
-        Reply::Number(MAX_SEQ),
-        Reply::Exhausted(MAX_SEQ),
-        Reply::Exhausted(MAX_SEQ),
-        Reply::Number(12),
-    ];
-    assert!(rt; replies == expected);
-    assert!(rt; (core.word(0), core.word(1)) == (12, MAX_SEQ + 1));
+    (replies, (core.word(0), core.word(1)))
 }
 
-// By hand: the greatest numbers are 12, 3 and 0, so that the second and the third subscriber have none left.
+const FIVE_DRAWS: [Reply; 5] = [
+    Reply::Number(11),
+    Reply::Number(MAX_SEQ),
+    Reply::Exhausted(MAX_SEQ),
+    Reply::Exhausted(MAX_SEQ),
+    Reply::Number(12),
+];
+
+// By hand: two subscribers, the second one number short of its greatest.
 #[test]
-fn each_subscriber_has_its_own_greatest_number(rt: HostRuntime) {
-    let alloc = rt.alloc();
-    let mut core = core_of(&rt, alloc, &[11, 3, 0], &[12, 3, 0]);
+fn each_subscriber_draws_its_own_numbers_to_the_greatest(rt: HostRuntime) {
+    let core = core_of(&rt, rt.alloc(), &[10, MAX_SEQ - 1], &[MAX_SEQ, MAX_SEQ]);
+    let (replies, words) = five_draws(core);
+    assert!(rt; replies == FIVE_DRAWS);
+    assert!(rt; words == (12, MAX_SEQ + 1));
+}
+
+/// The answers to draws and resynchronisations of the three subscribers of a core, and their words after them.
+fn seven_events(mut core: Core) -> ([Reply; 7], (u64, u64, u64))
+    requires subs { 2 < length core.words }
+    requires top { 12 ≤ slice_index core.tops 0 }
+{
     let replies = [
         core.apply(Event::Draw(0)),
         core.apply(Event::Resync(0, 12)),
@@ -60,17 +68,26 @@ fn each_subscriber_has_its_own_greatest_number(rt: HostRuntime) {
         core.apply(Event::Draw(2)),
         core.apply(Event::Resync(2, 0)),
     ];
-    let expected = [
-        Reply::Number(12),
-        Reply::InRange(12, 12),
-        Reply::Exhausted(12),
-        Reply::InRange(12, 12),
-        Reply::Exhausted(3),
-        Reply::Exhausted(0),
-        Reply::InRange(0, 0),
-    ];
-    assert!(rt; replies == expected);
-    assert!(rt; (core.word(0), core.word(1), core.word(2)) == (13, 4, 1));
+    (replies, (core.word(0), core.word(1), core.word(2)))
+}
+
+const SEVEN_EVENTS: [Reply; 7] = [
+    Reply::Number(12),
+    Reply::InRange(12, 12),
+    Reply::Exhausted(12),
+    Reply::InRange(12, 12),
+    Reply::Exhausted(3),
+    Reply::Exhausted(0),
+    Reply::InRange(0, 0),
+];
+
+// By hand: the greatest numbers are 12, 3 and 0, so that the second and the third subscriber have none left.
+#[test]
+fn each_subscriber_has_its_own_greatest_number(rt: HostRuntime) {
+    let core = core_of(&rt, rt.alloc(), &[11, 3, 0], &[12, 3, 0]);
+    let (replies, words) = seven_events(core);
+    assert!(rt; replies == SEVEN_EVENTS);
+    assert!(rt; words == (13, 4, 1));
 }
 
 /// The answer to a resynchronisation.

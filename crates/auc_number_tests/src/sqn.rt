@@ -47,24 +47,25 @@ fn untouched_array_refuses_seq_0_and_accepts_up_to_its_reach(rt: HostRuntime) {
     assert!(rt; spent.check([255; 6]) == Verdict::Old(MAX_SEQ));
 }
 
+const VERDICTS: [(u64, Verdict); 9] = [
+    (33, Verdict::Fresh),
+    (33, Verdict::Old(33)),
+    (2, Verdict::Fresh),
+    (32, Verdict::Fresh),
+    (1, Verdict::Old(33)),
+    (33 + 268435457, Verdict::Far(33)),
+    (33 + 268435456, Verdict::Fresh),
+    (34, Verdict::Fresh),
+    (2, Verdict::Old(34)),
+];
+
 // By hand, TS 33.102 Annex C.2.1: 1 comes 32 places before 33 and shares its IND, and 2 to 32 have INDs of
 // their own; the last SEQ that isn't far is 2^28 above the greatest.
 #[test]
 fn each_verdict_comes_where_it_should(rt: HostRuntime) {
     let mut array = SqnArray::opening(0, 5, None);
     assert!(rt; array.highest() == [0, 0, 0, 0, 0, 0]);
-    let cases = [
-        (33, Verdict::Fresh),
-        (33, Verdict::Old(33)),
-        (2, Verdict::Fresh),
-        (32, Verdict::Fresh),
-        (1, Verdict::Old(33)),
-        (33 + 268435457, Verdict::Far(33)),
-        (33 + 268435456, Verdict::Fresh),
-        (34, Verdict::Fresh),
-        (2, Verdict::Old(34)),
-    ];
-    for (number, verdict) in cases {
+    for (number, verdict) in VERDICTS {
         assert!(rt; array.check(sqn_of(number, 5)) == verdict, "at {number}");
     }
     assert!(rt; array.highest() == sqn_of(33 + 268435456, 5));

@@ -4,7 +4,8 @@ ghost use Rattle.std.specs.Prelude.{◌≡◌, IsTrue, All, ◌<◌};
 ghost use Rattle.auc_world.specs.Record.{IsBelow, NamesBelow, subscriber_of};
 ghost use Rattle.auc_world.specs.Vectors.{IsReleasableLine};
 
-use auc_edge::{Items, NoMemory, Octets};
+use auc_edge::{Items, Octets};
+use auc_ident::Names;
 use auc_print::print_round;
 use auc_random::Rands;
 use auc_sqn::top;
@@ -13,6 +14,7 @@ use auc_world::{
     BoxedFurther, Further, JobRecord, LineRecord, Premise, RoundRecord, Setting, printed_vectors,
 };
 use std::alloc::Global;
+use std::process::Abort;
 
 // Whether each subscriber that a round names is one of so many.
 pub(crate) fn names_below(round: &RoundRecord, count: usize) -> bool
@@ -68,63 +70,63 @@ fn are_releasable(job: &[LineRecord], set: &Setting) -> bool
     job.iter().all(|line| is_releasable(line, set))
 }
 
-// Appends the text of a round of this one record, which has to be printable, and answers whether it is.
+// Appends the text of a round of this one record, and answers whether it is printable.
 pub(crate) fn print_alone(
+    rt: &impl Abort,
     alloc: Global,
     record: LineRecord,
     set: &Setting,
-    full: bool,
     out: &mut Octets,
-) -> Result<bool, NoMemory> {
-    let job = one(alloc, record)?;
-    print_job(alloc, job, set, full, out)
+) -> bool {
+    print_one_job(
+        rt,
+        alloc,
+        &round_of(rt, alloc, one(rt, alloc, record)),
+        set,
+        true,
+        out,
+    )
 }
 
-// The same of a round of one job.
-pub(crate) fn print_job(
-    alloc: Global,
-    job: JobRecord,
-    set: &Setting,
-    full: bool,
-    out: &mut Octets,
-) -> Result<bool, NoMemory> {
-    let round = RoundRecord {
+// A round of this one job.
+fn round_of(rt: &impl Abort, alloc: Global, job: JobRecord) -> RoundRecord {
+    RoundRecord {
         number: 8,
         closings: Items::new(alloc),
         sessions: Items::new(alloc),
         premise: Premise::NoSession,
-        jobs: one(alloc, job)?,
-    };
-    print_one_job(alloc, &round, set, full, out)
+        jobs: one(rt, alloc, job),
+    }
 }
 
 fn print_one_job(
+    rt: &impl Abort,
     alloc: Global,
     round: &RoundRecord,
     set: &Setting,
     full: bool,
     out: &mut Octets,
-) -> Result<bool, NoMemory> {
+) -> bool {
     let [job] = round.jobs.as_slice() else {
-        return Ok(false);
+        return false;
     };
     if !names_below(round, set.subs.len() as usize) || !are_releasable(job.as_slice(), set) {
-        return Ok(false);
+        return false;
     }
     if full {
-        let vectors = [printed_vectors(alloc, set, job.as_slice(), true)?];
-        print_round(round, &vectors, set, true, out)?;
+        let vectors = [printed_vectors(alloc, set, job.as_slice(), true).expect(rt, "memory")];
+        print_round(round, &vectors, set, true, out).expect(rt, "memory");
     } else {
-        print_round(round, &[], set, false, out)?;
+        print_round(round, &[], set, false, out).expect(rt, "memory");
     }
-    Ok(true)
+    true
 }
 
 // A list of one record.
-pub(crate) fn one<T: Drop>(alloc: Global, record: T) -> Result<Items<T>, NoMemory> {
+pub(crate) fn one<T: Drop>(rt: &impl Abort, alloc: Global, record: T) -> Items<T> {
     let mut list = Items::new(alloc);
-    list.push(record)?;
-    Ok(list)
+    list.push(record).expect(rt, "memory");
+    list
 }
 
 /// The key of the 32 bytes from 0 to 31.
@@ -141,49 +143,75 @@ const FIRST: &[u8] =
 const SECOND: &[u8] =
     b"000007 465b5ce8b199b49faa5f0a2ee238a6bc opc cd63cb71954a9f4e48a5994e37a02baf 8000 0 0";
 
-pub(crate) fn subscribers(alloc: Global) -> Result<Subscribers, NoMemory> {
-    subscribers_of(alloc, &[FIRST, SECOND])
+pub(crate) fn subscribers(rt: &impl Abort, alloc: Global) -> Subscribers {
+    subscribers_of(rt, alloc, &[FIRST, SECOND])
 }
 
 // All lines are right, so an answer other than Ok is want of memory.
-pub(crate) fn subscribers_of(alloc: Global, lines: &[&[u8]]) -> Result<Subscribers, NoMemory> {
+pub(crate) fn subscribers_of(rt: &impl Abort, alloc: Global, lines: &[&[u8]]) -> Subscribers {
     let mut subs = Subscribers::new(alloc);
     for line in lines {
-        subs.add(line).map_err(|_| NoMemory)?;
+        assert!(rt; subs.add(line).is_ok());
     }
-    Ok(subs)
+    subs
 }
 
-// What follows from a vector, and its lines: in each print, and what a full print adds.
-pub(crate) type FurtherCase = (Further, &'static [u8], &'static [u8]);
+// The text of a round of this one job, which has to be printable.
+pub(crate) fn job_text(
+    rt: &impl Abort,
+    alloc: Global,
+    subs: &Subscribers,
+    job: JobRecord,
+    full: bool,
+) -> Octets {
+    let rands = rands();
+    let names = Names::new([0; 32]);
+    let set = Setting {
+        subs,
+        rands: &rands,
+        names: &names,
+        realm: b"",
+    };
+    let mut text = Octets::new(alloc);
+    let is_printed = print_one_job(rt, alloc, &round_of(rt, alloc, job), &set, full, &mut text);
+    assert!(rt; is_printed);
+    text
+}
 
-// The text of a round of a record, as it is printed and as it has to be: its line, and what a full print adds.
-pub(crate) fn record_text(
+// The text that a round of a record has to have: its line, and the lines that a full print adds.
+fn wanted_text(rt: &impl Abort, alloc: Global, lines: (&[u8], &[&[u8]]), full: bool) -> Octets {
+    let (line, more) = lines;
+    let mut wanted = Octets::copied_from(alloc, b"round 8\njob 1\n").expect(rt, "memory");
+    wanted.append(line).expect(rt, "memory");
+    if full {
+        for added in more {
+            wanted.append(added).expect(rt, "memory");
+        }
+    }
+    wanted
+}
+
+// Whether the text of a round of a record is its line, and in a full print what it adds, too.
+pub(crate) fn is_printed(
+    rt: &impl Abort,
     alloc: Global,
     record: LineRecord,
-    lines: (&[u8], &[u8]),
+    lines: (&[u8], &[&[u8]]),
     full: bool,
-    set: &Setting,
-) -> Result<(Octets, Octets), NoMemory> {
-    let (line, more) = lines;
-    let (mut text, mut wanted) = (Octets::new(alloc), Octets::new(alloc));
-    wanted.append(b"round 8\njob 1\n")?;
-    wanted.append(line)?;
-    if full {
-        wanted.append(more)?;
-    }
-    print_alone(alloc, record, set, full, &mut text)?;
-    Ok((text, wanted))
+) -> bool {
+    let subs = subscribers(rt, alloc);
+    let text = job_text(rt, alloc, &subs, one(rt, alloc, record), full);
+    text.as_slice() == wanted_text(rt, alloc, lines, full).as_slice()
 }
 
-// The text of a round of what follows from a vector, or of what happened at sites or in a session of EAP-SIM.
-pub(crate) fn further_text(
+// The same of a record of what follows from a vector, or of what happened at sites or in a session of EAP-SIM.
+pub(crate) fn is_further_printed(
+    rt: &impl Abort,
     alloc: Global,
-    case: FurtherCase,
+    further: Further,
+    lines: (&[u8], &[&[u8]]),
     full: bool,
-    set: &Setting,
-) -> Result<(Octets, Octets), NoMemory> {
-    let (said, line, more) = case;
-    let record = LineRecord::Further(BoxedFurther::new(alloc, said)?);
-    record_text(alloc, record, (line, more), full, set)
+) -> bool {
+    let boxed = BoxedFurther::new(alloc, further).expect(rt, "memory");
+    is_printed(rt, alloc, LineRecord::Further(boxed), lines, full)
 }

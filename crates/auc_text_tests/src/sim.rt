@@ -1,81 +1,36 @@
 //! The text of lines for sessions of EAP-SIM.
 
-use crate::printing::{FurtherCase, further_text, rands, subscribers};
-use auc_edge::{NoMemory, Octets};
+use crate::printing::is_further_printed;
+use auc_edge::Octets;
 use auc_hmac::KeySet;
-use auc_ident::Names;
 use auc_sim::{SimBecame, SimNote, SimWhy};
 use auc_vector::{Outcome, Reason, Step};
-use auc_world::{End, Further, Setting};
+use auc_world::{End, Further};
 use std::alloc::Global;
-use std::test::Fail;
+use std::process::Abort;
+
+// What an end did with a packet, with the bytes that it sent.
+#[derive(Clone, Copy)]
+enum Deed {
+    Sent(&'static [u8]),
+    Succeeded(&'static [u8]),
+    Failed(SimWhy, &'static [u8]),
+    Ignored(Reason),
+}
+
+// What happened in a session: its first packet, a packet at an end with the number of the packet that the end sent, a packet
+// that there isn't, or whether the keys of both ends agree.
+#[derive(Clone, Copy)]
+enum Happening {
+    Started(&'static [u8]),
+    Did(End, u32, Deed, Option<u32>),
+    Nothing(End, u32),
+    Ended(bool),
+}
 
 // A packet of these bytes.
-fn packet(alloc: Global, bytes: &[u8]) -> Result<Octets, NoMemory> {
-    let mut packet = Octets::new(alloc);
-    packet.append(bytes)?;
-    Ok(packet)
-}
-
-// What an end did with a packet, and the number of the packet that it sent.
-fn did(end: End, packet: u32, step: Step<SimWhy>, sent: Option<u32>) -> Further {
-    let became = SimBecame::Did { step, sent };
-    Further::Sim {
-        sub: 1,
-        note: SimNote::Delivered {
-            end,
-            packet,
-            became,
-        },
-    }
-}
-
-fn nothing(end: End, packet: u32) -> Further {
-    Further::Sim {
-        sub: 1,
-        note: SimNote::Delivered {
-            end,
-            packet,
-            became: SimBecame::NoSuchPacket,
-        },
-    }
-}
-
-// By hand.
-fn line_without_an_end(alloc: Global, place: usize) -> Result<FurtherCase, NoMemory> {
-    let of = |note| Further::Sim { sub: 0, note };
-    Ok(match place {
-        0 => (
-            of(SimNote::Started(packet(alloc, &[1, 1, 0, 8])?)),
-            b"sim 001010000000001 start sent 1\n",
-            b"packet 1 01010008\n",
-        ),
-        1 => (
-            of(SimNote::Ended { agree: true }),
-            b"sim 001010000000001 agree\n",
-            b"",
-        ),
-        2 => (
-            of(SimNote::Ended { agree: false }),
-            b"sim 001010000000001 differ\n",
-            b"",
-        ),
-        3 => (
-            did(End::Peer, 1, Step::Sent(packet(alloc, &[2, 1])?), Some(2)),
-            b"sim 000007 peer 1 sent 2\n",
-            b"packet 2 0201\n",
-        ),
-        4 => (
-            nothing(End::Peer, 9),
-            b"sim 000007 peer 9 nosuchpacket\n",
-            b"",
-        ),
-        _ => (
-            nothing(End::Server, 0),
-            b"sim 000007 server 0 nosuchpacket\n",
-            b"",
-        ),
-    })
+fn packet(rt: &impl Abort, alloc: Global, bytes: &[u8]) -> Octets {
+    Octets::copied_from(alloc, bytes).expect(rt, "memory")
 }
 
 fn keys() -> KeySet {
@@ -88,9 +43,37 @@ fn keys() -> KeySet {
     }
 }
 
+fn step_of(rt: &impl Abort, alloc: Global, deed: Deed) -> Step<SimWhy> {
+    match deed {
+        Deed::Sent(bytes) => Step::Sent(packet(rt, alloc, bytes)),
+        Deed::Succeeded(bytes) => Step::Ended(Outcome::Success(keys()), packet(rt, alloc, bytes)),
+        Deed::Failed(why, bytes) => Step::Ended(Outcome::Failure(why), packet(rt, alloc, bytes)),
+        Deed::Ignored(reason) => Step::Ignored(reason),
+    }
+}
+
+fn note_of(rt: &impl Abort, alloc: Global, happening: Happening) -> SimNote {
+    match happening {
+        Happening::Started(bytes) => SimNote::Started(packet(rt, alloc, bytes)),
+        Happening::Did(end, packet, deed, sent) => SimNote::Delivered {
+            end,
+            packet,
+            became: SimBecame::Did {
+                step: step_of(rt, alloc, deed),
+                sent,
+            },
+        },
+        Happening::Nothing(end, packet) => SimNote::Delivered {
+            end,
+            packet,
+            became: SimBecame::NoSuchPacket,
+        },
+        Happening::Ended(agree) => SimNote::Ended { agree },
+    }
+}
+
 // By hand: K_encr in 32 digits, K_aut and K_re in 64, MSK and EMSK in 128.
-const SENT_AND_KEYS: &[u8] = b"packet 5 03020004
-keys 01010101010101010101010101010101 \
+const KEYS: &[u8] = b"keys 01010101010101010101010101010101 \
 0202020202020202020202020202020202020202020202020202020202020202 \
 0303030303030303030303030303030303030303030303030303030303030303 \
 0404040404040404040404040404040404040404040404040404040404040404\
@@ -99,134 +82,148 @@ keys 01010101010101010101010101010101 \
 0505050505050505050505050505050505050505050505050505050505050505
 ";
 
+// What happened in the session of a subscriber, its line, and the lines that a full print adds.
+type SimCase = (u32, Happening, &'static [u8], &'static [&'static [u8]]);
+
 // By hand. A Success has keys, a Failure hasn't, and an end that sends nothing has no packet.
-fn line_of_an_end(alloc: Global, place: usize) -> Result<FurtherCase, NoMemory> {
-    let succeeds = || Outcome::Success(keys());
-    let fails = |why| Step::Ended(Outcome::Failure(why), Octets::new(alloc));
-    Ok(match place {
-        0 => (
-            did(
-                End::Server,
-                4,
-                Step::Ended(succeeds(), packet(alloc, &[3, 2, 0, 4])?),
-                Some(5),
-            ),
-            b"sim 000007 server 4 sent 5 ended success\n",
-            SENT_AND_KEYS,
+const CASES: [SimCase; 18] = [
+    (
+        0,
+        Happening::Started(&[1, 1, 0, 8]),
+        b"sim 001010000000001 start sent 1\n",
+        &[b"packet 1 01010008\n"],
+    ),
+    (
+        0,
+        Happening::Ended(true),
+        b"sim 001010000000001 agree\n",
+        &[],
+    ),
+    (
+        0,
+        Happening::Ended(false),
+        b"sim 001010000000001 differ\n",
+        &[],
+    ),
+    (
+        1,
+        Happening::Did(End::Peer, 1, Deed::Sent(&[2, 1]), Some(2)),
+        b"sim 000007 peer 1 sent 2\n",
+        &[b"packet 2 0201\n"],
+    ),
+    (
+        1,
+        Happening::Nothing(End::Peer, 9),
+        b"sim 000007 peer 9 nosuchpacket\n",
+        &[],
+    ),
+    (
+        1,
+        Happening::Nothing(End::Server, 0),
+        b"sim 000007 server 0 nosuchpacket\n",
+        &[],
+    ),
+    (
+        1,
+        Happening::Did(End::Server, 4, Deed::Succeeded(&[3, 2, 0, 4]), Some(5)),
+        b"sim 000007 server 4 sent 5 ended success\n",
+        &[b"packet 5 03020004\n", KEYS],
+    ),
+    (
+        1,
+        Happening::Did(End::Peer, 5, Deed::Succeeded(&[]), None),
+        b"sim 000007 peer 5 ended success\n",
+        &[KEYS],
+    ),
+    (
+        1,
+        Happening::Did(
+            End::Server,
+            4,
+            Deed::Failed(SimWhy::WrongMac, &[4, 2, 0, 4]),
+            Some(5),
         ),
-        1 => (
-            did(
-                End::Peer,
-                5,
-                Step::Ended(succeeds(), Octets::new(alloc)),
-                None,
-            ),
-            b"sim 000007 peer 5 ended success\n",
-            &SENT_AND_KEYS[18..],
+        b"sim 000007 server 4 sent 5 ended failure wrongmac\n",
+        &[b"packet 5 04020004\n"],
+    ),
+    (
+        1,
+        Happening::Did(
+            End::Server,
+            2,
+            Deed::Failed(SimWhy::ClientError(65535), &[4, 1, 0, 4]),
+            Some(3),
         ),
-        2 => (
-            did(
-                End::Server,
-                4,
-                Step::Ended(
-                    Outcome::Failure(SimWhy::WrongMac),
-                    packet(alloc, &[4, 2, 0, 4])?,
-                ),
-                Some(5),
-            ),
-            b"sim 000007 server 4 sent 5 ended failure wrongmac\n",
-            b"packet 5 04020004\n",
+        b"sim 000007 server 2 sent 3 ended failure clienterror 65535\n",
+        &[b"packet 3 04010004\n"],
+    ),
+    (
+        1,
+        Happening::Did(End::Peer, 6, Deed::Failed(SimWhy::WrongMac, &[]), None),
+        b"sim 000007 peer 6 ended failure wrongmac\n",
+        &[],
+    ),
+    (
+        1,
+        Happening::Did(End::Peer, 6, Deed::Failed(SimWhy::Version, &[]), None),
+        b"sim 000007 peer 6 ended failure version\n",
+        &[],
+    ),
+    (
+        1,
+        Happening::Did(End::Peer, 6, Deed::Failed(SimWhy::NotFresh, &[]), None),
+        b"sim 000007 peer 6 ended failure notfresh\n",
+        &[],
+    ),
+    (
+        1,
+        Happening::Did(
+            End::Peer,
+            6,
+            Deed::Failed(SimWhy::FailureReceived, &[]),
+            None,
         ),
-        3 => (
-            did(
-                End::Server,
-                2,
-                Step::Ended(
-                    Outcome::Failure(SimWhy::ClientError(65535)),
-                    packet(alloc, &[4, 1, 0, 4])?,
-                ),
-                Some(3),
-            ),
-            b"sim 000007 server 2 sent 3 ended failure clienterror 65535\n",
-            b"packet 3 04010004\n",
-        ),
-        4 => (
-            did(End::Peer, 6, fails(SimWhy::WrongMac), None),
-            b"sim 000007 peer 6 ended failure wrongmac\n",
-            b"",
-        ),
-        _ => (
-            did(End::Peer, 6, fails(SimWhy::Version), None),
-            b"sim 000007 peer 6 ended failure version\n",
-            b"",
-        ),
-    })
-}
+        b"sim 000007 peer 6 ended failure failurereceived\n",
+        &[],
+    ),
+    (
+        1,
+        Happening::Did(End::Peer, 5, Deed::Ignored(Reason::Closed), None),
+        b"sim 000007 peer 5 ignored closed\n",
+        &[],
+    ),
+    (
+        1,
+        Happening::Did(End::Server, 4, Deed::Ignored(Reason::NotForMe), None),
+        b"sim 000007 server 4 ignored notforme\n",
+        &[],
+    ),
+    (
+        1,
+        Happening::Did(End::Peer, 1, Deed::Ignored(Reason::Unexpected), None),
+        b"sim 000007 peer 1 ignored unexpected\n",
+        &[],
+    ),
+    (
+        1,
+        Happening::Did(End::Server, 4294967295, Deed::Ignored(Reason::Closed), None),
+        b"sim 000007 server 4294967295 ignored closed\n",
+        &[],
+    ),
+];
 
-// By hand.
-fn further_line_of_an_end(alloc: Global, place: usize) -> FurtherCase {
-    let fails = |why| Step::Ended(Outcome::Failure(why), Octets::new(alloc));
-    let ignores = |reason| Step::Ignored(reason);
-    match place {
-        0 => (
-            did(End::Peer, 6, fails(SimWhy::NotFresh), None),
-            b"sim 000007 peer 6 ended failure notfresh\n",
-            b"",
-        ),
-        1 => (
-            did(End::Peer, 6, fails(SimWhy::FailureReceived), None),
-            b"sim 000007 peer 6 ended failure failurereceived\n",
-            b"",
-        ),
-        2 => (
-            did(End::Peer, 5, ignores(Reason::Closed), None),
-            b"sim 000007 peer 5 ignored closed\n",
-            b"",
-        ),
-        3 => (
-            did(End::Server, 4, ignores(Reason::NotForMe), None),
-            b"sim 000007 server 4 ignored notforme\n",
-            b"",
-        ),
-        4 => (
-            did(End::Peer, 1, ignores(Reason::Unexpected), None),
-            b"sim 000007 peer 1 ignored unexpected\n",
-            b"",
-        ),
-        _ => (
-            did(End::Server, 4294967295, ignores(Reason::Closed), None),
-            b"sim 000007 server 4294967295 ignored closed\n",
-            b"",
-        ),
-    }
-}
-
-// A line and what a full print adds, of 18.
-fn case_of(alloc: Global, place: usize) -> Result<FurtherCase, NoMemory> {
-    match place {
-        0..=5 => line_without_an_end(alloc, place),
-        6..=11 => line_of_an_end(alloc, place - 6),
-        _ => Ok(further_line_of_an_end(alloc, place % 6)),
-    }
+// Whether the text of a case is printed.
+fn is_right(rt: &impl Abort, alloc: Global, case: &SimCase, full: bool) -> bool {
+    let (sub, happening, line, more) = *case;
+    let note = note_of(rt, alloc, happening);
+    is_further_printed(rt, alloc, Further::Sim { sub, note }, (line, more), full)
 }
 
 #[test]
-fn full_prints_add_the_packets_and_keys_of_eap_sim(rt: HostRuntime) -> Result<(), Fail> {
-    let subs = subscribers(rt.alloc())?;
-    let rands = rands();
-    let names = Names::new([0; 32]);
-    let set = Setting {
-        subs: &subs,
-        rands: &rands,
-        names: &names,
-        realm: b"",
-    };
+fn full_prints_add_the_packets_and_keys_of_eap_sim(rt: HostRuntime) {
     for full in [false, true] {
-        for place in 0..18 {
-            let case = case_of(rt.alloc(), place)?;
-            let (text, wanted) = further_text(rt.alloc(), case, full, &set)?;
-            assert_eq!(rt; text.as_slice(), wanted.as_slice());
+        for case in &CASES {
+            assert!(rt; is_right(&rt, rt.alloc(), case, full), "at {:?}", case.2);
         }
     }
-    Ok(())
 }

@@ -1,6 +1,6 @@
 //! A desk, call by call, through a caller of any centre.
 
-ghost use Rattle.std.specs.Prelude.{◌≡◌, ◌<◌, ◌≤◌, length, slice_index};
+ghost use Rattle.std.specs.Prelude.{◌≡◌, ◌<◌, ◌≤◌, ◌∷◌, [], length, slice_index, false};
 ghost use Rattle.auc_sqn.specs.Number.{max_seq};
 ghost use Rattle.auc_draw.specs.Book.{IsOf};
 ghost use Rattle.auc_centre.specs.Adds.{Adds, kept_by};
@@ -11,7 +11,7 @@ ghost use Rattle.auc_centre.specs.Kept.{subs_of};
 use auc_centre::{Desk, Kept, Naming};
 use auc_disk::{Disk, DiskCall, FailList, MemDisk};
 use auc_draw::{Book, KeeperPass, Pass};
-use auc_edge::{Imsi, NoMemory, Octets, Stop};
+use auc_edge::{Imsi, Octets, Stop};
 use auc_journal::Journal;
 use auc_keeper::Keeper;
 use auc_sqn::MAX_SEQ;
@@ -20,7 +20,6 @@ use std::alloc::Global;
 use std::marker::Brand;
 use std::process::Abort;
 use std::sync::{Mutex, Wait};
-use std::test::Fail;
 
 // The answers to a draw and to a resynchronisation after it.
 type Answers = (Result<u64, CentreRefusal>, Result<Resynced, CentreRefusal>);
@@ -89,24 +88,38 @@ fn draw_three_times<L: Naming<D>, D: Disk + Drop, R: Wait>(
     (answers, journal, keeper)
 }
 
+/// A new journal of this subscriber, on a disk of which this write fails.
+fn journal_of(rt: &impl Abort, alloc: Global, imsi: Imsi, write: u64) -> Journal<MemDisk>
+    ensures subscriber { result.imsis ≡ imsi ∷ [] }
+    ensures ready { result.failed ≡ false }
+{
+    let mut fail = FailList::new(alloc);
+    fail.push(DiskCall::WriteAt, write).expect(rt, "memory");
+    let disk = MemDisk::new(alloc, Octets::new(alloc), fail).expect(rt, "memory");
+    match Journal::open(alloc, disk, &[imsi]) {
+        Ok(journal) => journal,
+        Err(_) => panic!(rt; "no journal"),
+    }
+}
+
 /// The answers in a round of one subscriber whose number stands at this opening and whose greatest number is this top, with a
-/// journal on this disk; and the subscriber's limit after the round.
+/// journal on a disk of which this write fails; and the subscriber's limit after the round.
 fn play<R: Abort + Wait>(
     rt: &R,
     alloc: Global,
-    disk: MemDisk,
+    write: u64,
     opening: u64,
     top: u64,
     seq_ms: u64,
-) -> Result<([Answers; 3], u64), NoMemory>
+) -> ([Answers; 3], u64)
     requires { (opening ≤ top) × (top ≤ max_seq) × (seq_ms ≤ top) }
 {
-    let imsi = Imsi::read(b"001010000000001").ok_or(NoMemory)?;
-    let Ok(journal) = Journal::open(alloc, disk, &[imsi]) else {
-        return Err(NoMemory);
-    };
+    let imsi = Imsi::read(b"001010000000001").expect(rt, "an IMSI");
+    let journal = journal_of(rt, alloc, imsi, write);
     let limits = [journal.reserved(0)];
-    let (book, mut passes, keeper) = Book::open(alloc, &[opening], &[top], &limits, 2)?;
+    let Ok((book, mut passes, keeper)) = Book::open(alloc, &[opening], &[top], &limits, 2) else {
+        panic!(rt; "no memory")
+    };
     let mut second = passes.pop().expect(rt, "a pass");
     let mut first = passes.pop().expect(rt, "a pass");
     let (answers, journal, _keeper) = draw_three_times::<Brand, MemDisk, R>(
@@ -118,20 +131,13 @@ fn play<R: Abort + Wait>(
         keeper,
         seq_ms,
     );
-    Ok((answers, journal.reserved(0)))
-}
-
-/// A new disk of which this write fails.
-fn disk_without_write(alloc: Global, ordinal: u64) -> Result<MemDisk, NoMemory> {
-    let mut fail = FailList::new(alloc);
-    fail.push(DiskCall::WriteAt, ordinal)?;
-    MemDisk::new(alloc, Octets::new(alloc), fail)
+    (answers, journal.reserved(0))
 }
 
 // By hand, with a range of 2^28 = 268435456 and 64 numbers a reservation: the opening, the top, the SEQ, the three answers,
 // the limit.
 #[test]
-fn desks_draw_and_resynchronise(rt: HostRuntime) -> Result<(), Fail> {
+fn desks_draw_and_resynchronise(rt: HostRuntime) {
     let alloc = rt.alloc();
     let spent = |word| Err(CentreRefusal::Exhausted(word));
     let cases = [
@@ -186,26 +192,21 @@ fn desks_draw_and_resynchronise(rt: HostRuntime) -> Result<(), Fail> {
         ),
     ];
     for (opening, top, seq, answers, limit) in cases {
-        let disk = disk_without_write(alloc, 100)?;
         assert!(rt;
-            play(&rt, alloc, disk, opening, top, seq)? == (answers, limit),
+            play(&rt, alloc, 100, opening, top, seq) == (answers, limit),
             "from {opening}"
         );
     }
-    Ok(())
 }
 
 // By hand: the first write after the opening's fails.
 #[test]
-fn draws_are_withheld_after_the_keeper_stopped(rt: HostRuntime) -> Result<(), Fail> {
-    let alloc = rt.alloc();
+fn draws_are_withheld_after_the_keeper_stopped(rt: HostRuntime) {
     let withheld = |n| Err(CentreRefusal::Withheld(n, Stop::Fault));
     let answers = [
         (withheld(11), Ok(Resynced::InRange(11, 5))),
         (withheld(12), Ok(Resynced::InRange(12, 5))),
         (withheld(13), Ok(Resynced::InRange(13, 5))),
     ];
-    let disk = disk_without_write(alloc, 2)?;
-    assert!(rt; play(&rt, alloc, disk, 10, MAX_SEQ, 5)? == (answers, 0));
-    Ok(())
+    assert!(rt; play(&rt, rt.alloc(), 2, 10, MAX_SEQ, 5) == (answers, 0));
 }

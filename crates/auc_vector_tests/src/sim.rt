@@ -1,11 +1,12 @@
 //! Keys, MACs and both ends of EAP-SIM, by the examples of the standard.
 
-use auc_edge::{NoMemory, Octets};
+use auc_edge::Octets;
 use auc_hmac::KeySet;
 use auc_milenage::Secret;
 use auc_sim::{SimPeer, SimServer, SimWhy, Triplet, card, is_sim_sealed, receive_sim, sim_keys};
 use auc_vector::{Outcome, Step};
 use std::alloc::Global;
+use std::process::Abort;
 
 // RFC 4186 Appendix A.2 to A.6.
 const IDENTITY: &[u8] = b"1244070100000001@eapsim.foo";
@@ -83,31 +84,28 @@ fn keys_are_those_of_the_standard(rt: HostRuntime) {
     let keys = standard_keys();
     let mut k_aut = [0; 32];
     k_aut[..16].copy_from_slice(&0x25af1942efcbf4bc72b3943421f2a974_u128.to_be_bytes());
-    assert_eq!(rt;
-        keys.k_encr,
-        0x536e5ebc4465582aa6a8ec9986ebb620_u128.to_be_bytes()
-    );
-    assert_eq!(rt; keys.k_aut, k_aut);
+    assert!(rt; keys.k_encr == 0x536e5ebc4465582aa6a8ec9986ebb620_u128.to_be_bytes());
+    assert!(rt; keys.k_aut == k_aut);
     let msk = joined([
         0x39d45aeaf4e30601983e972b6cfd46d1,
         0xc363773365690d09cd44976b525f47d3,
         0xa60a985e955c53b090b2e4b73719196a,
         0x402542968fd14a888f46b9a7886e4488,
     ]);
-    assert_eq!(rt; keys.msk, msk);
+    assert!(rt; keys.msk == msk);
     let emsk = joined([
         0x5949eab0fff69d52315c6c634fd14a7f,
         0x0d52023d56f79698fa6596abeed4f93f,
         0xbb48eb534d985414ceed0d9a8ed33c38,
         0x7c9dfdab92ffbdf240fcecf65a2c93b9,
     ]);
-    assert_eq!(rt; keys.emsk, emsk);
+    assert!(rt; keys.emsk == emsk);
 }
 
 /// Whether a packet is received with a right AT_MAC under the keys of the standard's example.
-fn is_right(alloc: Global, bytes: &[u8], extra: &[u8]) -> Result<bool, NoMemory> {
-    let received = receive_sim(alloc, bytes)?;
-    Ok(is_sim_sealed(&received, &standard_keys().k_aut, extra))
+fn is_right(rt: &impl Abort, alloc: Global, bytes: &[u8], extra: &[u8]) -> bool {
+    let received = receive_sim(alloc, bytes).expect(rt, "memory");
+    is_sim_sealed(&received, &standard_keys().k_aut, extra)
 }
 
 // RFC 4186 Appendix A.5 and A.6: AT_MAC of the request, with NONCE_MT, and that of the response, with the SRES values.
@@ -122,8 +120,7 @@ fn macs_are_those_of_the_standard(rt: HostRuntime) {
         (RESPONSE.as_slice(), nonce.as_slice(), false),
     ];
     for (packet, extra, right) in cases {
-        let found = is_right(alloc, packet, extra).expect(&rt, "memory");
-        assert_eq!(rt; found, right);
+        assert!(rt; is_right(&rt, alloc, packet, extra) == right);
     }
 }
 
@@ -151,58 +148,67 @@ fn won(step: &Step<SimWhy>) -> Option<KeySet> {
 }
 
 /// What a peer sends after these bytes.
-fn from_peer(alloc: Global, peer: &mut SimPeer, bytes: &[u8]) -> Result<Octets, NoMemory> {
-    Ok(sent(alloc, peer.on_bytes(alloc, bytes)?))
+fn from_peer(rt: &impl Abort, alloc: Global, peer: &mut SimPeer, bytes: &[u8]) -> Octets {
+    sent(alloc, peer.on_bytes(alloc, bytes).expect(rt, "memory"))
 }
 
 /// The server's Challenge, after its Start request.
 fn challenge_of(
+    rt: &impl Abort,
     alloc: Global,
     server: &mut SimServer,
     peer: &mut SimPeer,
     start: &[u8],
-) -> Result<Octets, NoMemory> {
-    let answer = from_peer(alloc, peer, start)?;
-    Ok(sent(alloc, server.on_bytes(alloc, answer.as_slice())?))
+) -> Octets {
+    let answer = from_peer(rt, alloc, peer, start);
+    let step = server.on_bytes(alloc, answer.as_slice());
+    sent(alloc, step.expect(rt, "memory"))
 }
 
 /// The keys of both ends after the Challenge.
 fn keys_after(
+    rt: &impl Abort,
     alloc: Global,
     server: &mut SimServer,
     peer: &mut SimPeer,
     challenge: &[u8],
-) -> Result<(Option<KeySet>, Option<KeySet>), NoMemory> {
-    let answer = from_peer(alloc, peer, challenge)?;
-    let step = server.on_bytes(alloc, answer.as_slice())?;
+) -> (Option<KeySet>, Option<KeySet>) {
+    let answer = from_peer(rt, alloc, peer, challenge);
+    let step = server
+        .on_bytes(alloc, answer.as_slice())
+        .expect(rt, "memory");
     let keys = won(&step);
     let last = sent(alloc, step);
-    Ok((keys, won(&peer.on_bytes(alloc, last.as_slice())?)))
+    let step = peer.on_bytes(alloc, last.as_slice()).expect(rt, "memory");
+    (keys, won(&step))
 }
 
 /// The keys of both ends after a session without loss, with the triplets of these RANDs.
 fn keys_of_both(
+    rt: &impl Abort,
     alloc: Global,
     rands: [u8; 2],
-) -> Result<(Option<KeySet>, Option<KeySet>), NoMemory> {
+) -> (Option<KeySet>, Option<KeySet>) {
     let s = secret();
     let triplets = rands.map(|byte| card(&s, [byte; 16]));
-    let mut peer = SimPeer::new(alloc, s, b"1001010000000001", [9; 16])?;
-    let (mut server, start) = SimServer::start(alloc, b"1001010000000001", &triplets)?;
-    let challenge = challenge_of(alloc, &mut server, &mut peer, start.as_slice())?;
-    keys_after(alloc, &mut server, &mut peer, challenge.as_slice())
+    let started = SimServer::start(alloc, b"1001010000000001", &triplets);
+    let (mut server, start) = started.expect(rt, "memory");
+    let peer = SimPeer::new(alloc, s, b"1001010000000001", [9; 16]);
+    let mut peer = peer.expect(rt, "memory");
+    let challenge = challenge_of(rt, alloc, &mut server, &mut peer, start.as_slice());
+    keys_after(rt, alloc, &mut server, &mut peer, challenge.as_slice())
 }
 
 #[test]
 fn both_ends_succeed_with_equal_keys(rt: HostRuntime) {
-    let (server, peer) = keys_of_both(rt.alloc(), [3, 4]).expect(&rt, "memory");
+    let (server, peer) = keys_of_both(&rt, rt.alloc(), [3, 4]);
     assert!(rt; server.is_some());
     assert!(rt; peer == server);
 }
 
 #[test]
 fn equal_rands_end_in_failure(rt: HostRuntime) {
-    let (server, peer) = keys_of_both(rt.alloc(), [3, 3]).expect(&rt, "memory");
+    let (server, peer) = keys_of_both(&rt, rt.alloc(), [3, 3]);
     assert!(rt; server.is_none());
     assert!(rt; peer.is_none());
 }

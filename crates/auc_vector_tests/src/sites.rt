@@ -74,111 +74,183 @@ fn numbers_of(lease: &Lease) -> [u64; 4] {
     numbers
 }
 
+/// A reply that grants the first four numbers.
+const FIRST_FOUR: (Told, [u64; 4]) = (Told::Granted, [1, 2, 3, 4]);
+
+/// A reply that grants the four numbers after them.
+const NEXT_FOUR: (Told, [u64; 4]) = (Told::Granted, [5, 6, 7, 8]);
+
+/// The grant of a reply to a request, which has to tell this and to have these numbers.
+fn grant_of<R: Abort + Wait>(
+    rt: &R,
+    master: &mut Master,
+    centre: &mut CoreCentre,
+    r: Request,
+    expected: (Told, [u64; 4]),
+) -> Grant
+    requires { 0 < length centre.old.words }
+    ensures { length centre.new.words ≡ length centre.old.words }
+{
+    let (told, grant) = answer(rt, master, centre, r);
+    assert!(rt; (told, numbers_of(&grant.lease)) == expected);
+    grant
+}
+
+/// What the reply to a request tells beside its grant.
+fn told_of<R: Abort + Wait>(
+    rt: &R,
+    master: &mut Master,
+    centre: &mut CoreCentre,
+    r: Request,
+) -> Told
+    requires { 0 < length centre.old.words }
+    ensures { length centre.new.words ≡ length centre.old.words }
+{
+    let (told, _) = answer(rt, master, centre, r);
+    told
+}
+
+/// What two sites answer to their grants and then draw, the second site first; and what the first one answers to a restart,
+/// to a draw and to its grant after that.
+fn hand_out(
+    first: &mut Site,
+    second: &mut Site,
+    to_first: &Grant,
+    to_second: &Grant,
+) -> ([Taken; 3], [Option<u64>; 3], bool) {
+    let by_second = second.on_grant(to_second);
+    let of_second = second.draw();
+    let by_first = first.on_grant(to_first);
+    let of_first = first.draw();
+    let restarted = first.restart();
+    let after = first.draw();
+    let again = first.on_grant(to_first);
+    (
+        [by_second, by_first, again],
+        [of_second, of_first, after],
+        restarted,
+    )
+}
+
 // By hand: site 1 asks before site 2, takes its grant after it, and restarts.
 #[test]
 fn sites_hand_out_the_numbers_of_their_own_grants(rt: HostRuntime) {
     each_run_hands_out_once::<CoreCentre>();
+    let (mut first, mut second) = (Site::new(1, 1), Site::new(2, 1));
     let mut centre = centre_at(&rt, rt.alloc(), 0);
     let mut master = Master::new(rt.alloc(), 2).expect(&rt, "memory");
-    let (mut first, mut second) = (Site::new(1, 1), Site::new(2, 1));
     let asked = ask(&rt, &mut first);
-    let (told, to_first) = answer(&rt, &mut master, &mut centre, asked);
-    assert!(rt; (told, numbers_of(&to_first.lease)) == (Told::Granted, [1, 2, 3, 4]));
+    let to_first = grant_of(&rt, &mut master, &mut centre, asked, FIRST_FOUR);
     let asked = ask(&rt, &mut second);
-    let (told, to_second) = answer(&rt, &mut master, &mut centre, asked);
-    assert!(rt; (told, numbers_of(&to_second.lease)) == (Told::Granted, [5, 6, 7, 8]));
-    assert!(rt; second.on_grant(&to_second) == Taken::Taken(4));
-    assert!(rt; second.draw() == Some(5));
-    assert!(rt; first.on_grant(&to_first) == Taken::Taken(4));
-    assert!(rt; first.draw() == Some(1));
-    assert!(rt; first.restart());
-    assert!(rt; first.draw() == None);
-    assert!(rt; first.on_grant(&to_first) == Taken::NotMine(None));
+    let to_second = grant_of(&rt, &mut master, &mut centre, asked, NEXT_FOUR);
+    let found = hand_out(&mut first, &mut second, &to_first, &to_second);
+    let taken = [Taken::Taken(4), Taken::Taken(4), Taken::NotMine(None)];
+    assert!(rt; found == (taken, [Some(5), Some(1), None], true));
     assert!(rt; centre.word(0) == 8);
+}
+
+/// What a site answers to a grant, what it draws then, and what it answers to another grant.
+fn take_both(site: &mut Site, grant: &Grant, other: &Grant) -> (Taken, Option<u64>, Taken) {
+    let taken = site.on_grant(grant);
+    let drawn = site.draw();
+    (taken, drawn, site.on_grant(other))
 }
 
 // By hand: the request comes twice before the master restarts, and once after it.
 #[test]
 fn repeated_request_has_one_grant_until_the_master_restarts(rt: HostRuntime) {
+    let mut site = Site::new(1, 1);
     let mut centre = centre_at(&rt, rt.alloc(), 0);
     let mut master = Master::new(rt.alloc(), 1).expect(&rt, "memory");
-    let mut site = Site::new(1, 1);
     let asked = ask(&rt, &mut site);
-    let (told, grant) = answer(&rt, &mut master, &mut centre, asked);
-    assert!(rt; (told, numbers_of(&grant.lease)) == (Told::Granted, [1, 2, 3, 4]));
-    let (told, again) = answer(&rt, &mut master, &mut centre, asked);
-    assert!(rt; (told, numbers_of(&again.lease)) == (Told::Again, [1, 2, 3, 4]));
+    let grant = grant_of(&rt, &mut master, &mut centre, asked, FIRST_FOUR);
+    let again = (Told::Again, [1, 2, 3, 4]);
+    grant_of(&rt, &mut master, &mut centre, asked, again);
     master.restart();
-    let (told, anew) = answer(&rt, &mut master, &mut centre, asked);
-    assert!(rt; (told, numbers_of(&anew.lease)) == (Told::Granted, [5, 6, 7, 8]));
-    assert!(rt; site.on_grant(&anew) == Taken::Taken(4));
-    assert!(rt; site.draw() == Some(5));
-    assert!(rt; site.on_grant(&grant) == Taken::NotMine(None));
+    let anew = grant_of(&rt, &mut master, &mut centre, asked, NEXT_FOUR);
+    let found = take_both(&mut site, &anew, &grant);
+    assert!(rt; found == (Taken::Taken(4), Some(5), Taken::NotMine(None)));
     assert!(rt; centre.word(0) == 8);
 }
 
 // By hand: the older of two requests, before and after the master restarts. The site waits for the newer one.
 #[test]
 fn old_request_draws_again_after_a_restart_and_its_grant_is_not_taken(rt: HostRuntime) {
+    let mut site = Site::new(1, 7);
     let mut centre = centre_at(&rt, rt.alloc(), 0);
     let mut master = Master::new(rt.alloc(), 1).expect(&rt, "memory");
-    let mut site = Site::new(1, 7);
     let older = ask(&rt, &mut site);
     let newer = ask(&rt, &mut site);
-    let (told, grant) = answer(&rt, &mut master, &mut centre, newer);
-    assert!(rt; (told, numbers_of(&grant.lease)) == (Told::Granted, [1, 2, 3, 4]));
-    let (told, _) = answer(&rt, &mut master, &mut centre, older);
-    assert!(rt; told == Told::Old(newer));
+    let grant = grant_of(&rt, &mut master, &mut centre, newer, FIRST_FOUR);
+    assert!(rt; told_of(&rt, &mut master, &mut centre, older) == Told::Old(newer));
     master.restart();
-    let (told, useless) = answer(&rt, &mut master, &mut centre, older);
-    assert!(rt; (told, numbers_of(&useless.lease)) == (Told::Granted, [5, 6, 7, 8]));
-    assert!(rt; site.on_grant(&useless) == Taken::NotMine(Some(newer)));
-    assert!(rt; site.on_grant(&grant) == Taken::Taken(4));
+    let useless = grant_of(&rt, &mut master, &mut centre, older, NEXT_FOUR);
+    let taken = [site.on_grant(&useless), site.on_grant(&grant)];
+    assert!(rt; taken == [Taken::NotMine(Some(newer)), Taken::Taken(4)]);
     assert!(rt; centre.word(0) == 8);
+}
+
+/// What a site draws three times.
+fn draw_thrice(site: &mut Site) -> [Option<u64>; 3] {
+    [site.draw(), site.draw(), site.draw()]
 }
 
 // By hand: two numbers are left for a lease of four.
 #[test]
 fn lease_is_cut_short_by_the_last_number_and_then_none_is_granted(rt: HostRuntime) {
+    let mut site = Site::new(1, 1);
     let mut centre = centre_at(&rt, rt.alloc(), MAX_SEQ - 2);
     let mut master = Master::new(rt.alloc(), 1).expect(&rt, "memory");
-    let mut site = Site::new(1, 1);
     let asked = ask(&rt, &mut site);
-    let (told, grant) = answer(&rt, &mut master, &mut centre, asked);
-    let last = [MAX_SEQ - 1, MAX_SEQ, 0, 0];
-    assert!(rt; (told, numbers_of(&grant.lease)) == (Told::Granted, last));
+    let last = (Told::Granted, [MAX_SEQ - 1, MAX_SEQ, 0, 0]);
+    let grant = grant_of(&rt, &mut master, &mut centre, asked, last);
     assert!(rt; site.on_grant(&grant) == Taken::Taken(2));
     let asked = ask(&rt, &mut site);
+    let told = told_of(&rt, &mut master, &mut centre, asked);
+    let again = told_of(&rt, &mut master, &mut centre, asked);
     let spent = Told::Refused(CentreRefusal::Exhausted(MAX_SEQ));
-    let (told, _) = answer(&rt, &mut master, &mut centre, asked);
-    let (again, _) = answer(&rt, &mut master, &mut centre, asked);
     assert!(rt; [told, again] == [spent, spent]);
     assert!(rt; site.outstanding() == Some(asked));
-    assert!(rt;
-        [site.draw(), site.draw(), site.draw()] == [Some(MAX_SEQ - 1), Some(MAX_SEQ), None]
-    );
+    assert!(rt; draw_thrice(&mut site) == [Some(MAX_SEQ - 1), Some(MAX_SEQ), None]);
 }
 
-// By hand: a grant of the numbers 3 and 7, which is made without a centre.
-#[test]
-fn grant_that_comes_twice_is_taken_once(rt: HostRuntime) {
-    let mut master = Master::new(rt.alloc(), 1).expect(&rt, "memory");
-    let mut site = Site::new(1, 1);
-    let asked = ask(&rt, &mut site);
+/// A lease of these numbers.
+fn lease_of(rt: &impl Abort, numbers: [u64; 2]) -> Lease {
     let mut lease = Lease::new();
-    for n in [3, 7] {
+    for n in numbers {
         assert!(rt; lease.can_push(n));
         lease.push(n);
     }
+    lease
+}
+
+/// A master's grant of a lease to a new request, which it judges before and after that.
+fn granted(rt: &impl Abort, master: &mut Master, asked: Request, lease: Lease) -> Grant {
     assert!(rt; master.has_site(1));
     assert!(rt; asked.site == 1);
     assert!(rt; matches!(master.judge(asked), Judged::New));
     let grant = master.grant(asked, lease);
     assert!(rt; matches!(master.judge(asked), Judged::Again(_)));
-    assert!(rt; site.on_grant(&grant) == Taken::Taken(2));
-    assert!(rt; site.draw() == Some(3));
-    assert!(rt; site.on_grant(&grant) == Taken::NotMine(None));
-    assert!(rt; [site.draw(), site.draw()] == [Some(7), None]);
+    grant
+}
+
+/// What a site answers to a grant that comes twice; and what it draws once between the two, and twice after them.
+fn take_twice(site: &mut Site, grant: &Grant) -> ([Taken; 2], [Option<u64>; 3]) {
+    let taken = site.on_grant(grant);
+    let drawn = site.draw();
+    let again = site.on_grant(grant);
+    ([taken, again], [drawn, site.draw(), site.draw()])
+}
+
+// By hand: a grant of the numbers 3 and 7, which is made without a centre.
+#[test]
+fn grant_that_comes_twice_is_taken_once(rt: HostRuntime) {
+    let mut site = Site::new(1, 1);
+    let mut master = Master::new(rt.alloc(), 1).expect(&rt, "memory");
+    let asked = ask(&rt, &mut site);
+    let grant = granted(&rt, &mut master, asked, lease_of(&rt, [3, 7]));
+    let taken = [Taken::Taken(2), Taken::NotMine(None)];
+    assert!(rt; take_twice(&mut site, &grant) == (taken, [Some(3), Some(7), None]));
 }
 
 // By hand: numbers that a lease refuses.

@@ -13,7 +13,6 @@ use auc_vector::{
     ask, keys_by, keys_of, read_auts, report, vector, vectors,
 };
 use std::sync::Wait;
-use std::test::Fail;
 
 /// What stands in the place of a vector that isn't made.
 const BLANK: Vector = Vector {
@@ -87,7 +86,7 @@ fn each_part_of_a_vector_is_that_of_another_implementation(rt: HostRuntime) {
             ck: ck.to_be_bytes(),
             ik: ik.to_be_bytes(),
         };
-        assert_eq!(rt; made, expected, "at {n}");
+        assert!(rt; made == expected, "at {n}");
     }
 }
 
@@ -164,7 +163,7 @@ fn vectors_made_together_are_those_of_another_implementation(rt: HostRuntime) {
             ck: ck.to_be_bytes(),
             ik: ik.to_be_bytes(),
         };
-        assert_eq!(rt; made[place], expected, "at {place}");
+        assert!(rt; made[place] == expected, "at {place}");
     }
 }
 
@@ -203,10 +202,10 @@ fn autn_has_the_sqn_of_its_index_length(rt: HostRuntime) {
         assert!(rt; bits <= 6 && 1 <= n && n <= top(bits));
         let (s, amf, rand) = (secret(), [0xb9, 0xb9], rand_at(0));
         let alone = vector(&s, Method::Aka, amf, &[], bits, n, rand);
-        assert_eq!(rt; alone.autn, autn.to_be_bytes(), "at {n} of {bits} bits");
         let mut made = [BLANK];
         vectors(&s, Method::Aka, amf, &[], bits, n, &[rand], &mut made);
-        assert_eq!(rt; made, [alone], "at {n} of {bits} bits");
+        let expected = (autn.to_be_bytes(), [alone]);
+        assert!(rt; (alone.autn, made) == expected, "at {n} of {bits} bits");
     }
 }
 
@@ -248,7 +247,7 @@ fn only_the_keys_of_a_vector_depend_on_the_method(rt: HostRuntime) {
             ik: ik.to_be_bytes(),
             ..own
         };
-        assert_eq!(rt; made, expected, "at {n}");
+        assert!(rt; made == expected, "at {n}");
     }
 }
 
@@ -332,16 +331,9 @@ fn keys_of_eap_aka_prime_are_those_of_the_published_cases(rt: HostRuntime) {
     ];
     for (name, primed_ck, primed_ik, keys) in cases {
         let (own_ck, own_ik) = keys_by(Method::Prime, name, autn, ck, ik);
-        assert_eq!(rt;
-            (own_ck, own_ik),
-            (primed_ck.to_be_bytes(), primed_ik.to_be_bytes()),
-            "for {name:?}"
-        );
-        assert_eq!(rt;
-            keys_of(Method::Prime, b"0555444333222111", own_ik, own_ck),
-            keys,
-            "keys for {name:?}"
-        );
+        let own_keys = keys_of(Method::Prime, b"0555444333222111", own_ik, own_ck);
+        let expected = (primed_ck.to_be_bytes(), primed_ik.to_be_bytes(), keys);
+        assert!(rt; (own_ck, own_ik, own_keys) == expected, "for {name:?}");
     }
 }
 
@@ -459,8 +451,10 @@ fn hear<C: Centre, R: Wait>(
 
 // By hand, with a range of 2^28 below the number.
 #[test]
-fn a_replayed_auts_moves_the_number_once(rt: HostRuntime) -> Result<(), Fail> {
-    let mut centre = CoreCentre::new(Core::new(rt.alloc(), &[10, 10], &[MAX_SEQ, MAX_SEQ])?);
+fn a_replayed_auts_moves_the_number_once(rt: HostRuntime) {
+    let mut centre = CoreCentre::new(Core::new(rt.alloc(), &[10, 10], &[MAX_SEQ, MAX_SEQ]).expect(
+        &rt, "memory",
+    ));
     let in_range = |seen, seq| Some(Ok(Resynced::InRange(seen, seq)));
     let moved = |from, to| Some(Ok(Resynced::Moved(from, to)));
     let cases = [
@@ -476,44 +470,75 @@ fn a_replayed_auts_moves_the_number_once(rt: HostRuntime) -> Result<(), Fail> {
         let auts = make_auts(&secret(), [7; 16], sqn_of(seq, 5));
         assert!(rt; hear(&rt, &mut centre, 1, auts) == answer, "at {seq}");
     }
-    assert_eq!(rt; (centre.word(0), centre.word(1)), (10, MAX_SEQ));
-    Ok(())
+    assert!(rt; (centre.word(0), centre.word(1)) == (10, MAX_SEQ));
+}
+
+/// The answers to two draws of one subscriber, to a resynchronisation with the greatest number, and to one more draw.
+fn spend<C: Centre, R: Wait>(
+    rt: &R,
+    centre: &mut C,
+) -> (
+    [Result<u64, CentreRefusal>; 3],
+    Result<Resynced, CentreRefusal>,
+)
+    requires sub { 0 < C.subs centre.old }
+    requires top { C.top centre.old 0 ≡ max_seq }
+    ensures subs { C.subs centre.new ≡ C.subs centre.old }
+{
+    let first = centre.next(rt, 0);
+    let second = centre.next(rt, 0);
+    let resynced = centre.resync(rt, 0, MAX_SEQ);
+    ([first, second, centre.next(rt, 0)], resynced)
 }
 
 // By hand: one number is left.
 #[test]
-fn a_spent_subscriber_keeps_its_word(rt: HostRuntime) -> Result<(), Fail> {
-    let mut centre = CoreCentre::new(Core::new(rt.alloc(), &[MAX_SEQ - 1], &[MAX_SEQ])?);
+fn a_spent_subscriber_keeps_its_word(rt: HostRuntime) {
+    let core = Core::new(rt.alloc(), &[MAX_SEQ - 1], &[MAX_SEQ]);
+    let mut centre = CoreCentre::new(core.expect(&rt, "memory"));
     let spent = Err(CentreRefusal::Exhausted(MAX_SEQ));
-    assert!(rt; [centre.next(&rt, 0), centre.next(&rt, 0)] == [Ok(MAX_SEQ), spent]);
-    let answers = (centre.resync(&rt, 0, MAX_SEQ), centre.next(&rt, 0));
-    assert!(rt; answers == (Ok(Resynced::InRange(MAX_SEQ, MAX_SEQ)), spent));
-    assert_eq!(rt; centre.word(0), MAX_SEQ + 1);
-    Ok(())
+    let in_range = Ok(Resynced::InRange(MAX_SEQ, MAX_SEQ));
+    assert!(rt; spend(&rt, &mut centre) == ([Ok(MAX_SEQ), spent, spent], in_range));
+    assert!(rt; centre.word(0) == MAX_SEQ + 1);
+}
+
+/// The answers to two draws of the first subscriber and one of the second, to a resynchronisation of each, and to one more
+/// draw of the second.
+fn serve_two<C: Centre, R: Wait>(
+    rt: &R,
+    centre: &mut C,
+) -> (
+    [Result<u64, CentreRefusal>; 4],
+    [Result<Resynced, CentreRefusal>; 2],
+)
+    requires subs { 1 < C.subs centre.old }
+    requires tops { (11 ≤ C.top centre.old 0) × (500 ≤ C.top centre.old 1) }
+    ensures subs { C.subs centre.new ≡ C.subs centre.old }
+{
+    let first = centre.next(rt, 0);
+    let second = centre.next(rt, 0);
+    let third = centre.next(rt, 1);
+    let resynced = [centre.resync(rt, 0, 11), centre.resync(rt, 1, 500)];
+    ([first, second, third, centre.next(rt, 1)], resynced)
 }
 
 // By hand: the greatest numbers are 11 and 500.
 #[test]
-fn each_subscriber_of_a_centre_has_its_own_greatest_number(rt: HostRuntime) -> Result<(), Fail> {
-    let mut centre = CoreCentre::new(Core::new(rt.alloc(), &[10, 10], &[11, 500])?);
-    let drawn = [
-        centre.next(&rt, 0),
-        centre.next(&rt, 0),
-        centre.next(&rt, 1),
-    ];
-    let spent = Err(CentreRefusal::Exhausted(11));
-    assert!(rt; drawn == [Ok(11), spent, Ok(11)]);
-    let answers = [centre.resync(&rt, 0, 11), centre.resync(&rt, 1, 500)];
-    let expected = [Ok(Resynced::InRange(11, 11)), Ok(Resynced::Moved(11, 500))];
-    assert!(rt; answers == expected);
-    assert!(rt; centre.next(&rt, 1) == Err(CentreRefusal::Exhausted(500)));
-    assert_eq!(rt; (centre.word(0), centre.word(1)), (12, 501));
-    Ok(())
+fn each_subscriber_of_a_centre_has_its_own_greatest_number(rt: HostRuntime) {
+    let core = Core::new(rt.alloc(), &[10, 10], &[11, 500]);
+    let mut centre = CoreCentre::new(core.expect(&rt, "memory"));
+    let spent = |n| Err(CentreRefusal::Exhausted(n));
+    let drawn = [Ok(11), spent(11), Ok(11), spent(500)];
+    let resynced = [Ok(Resynced::InRange(11, 11)), Ok(Resynced::Moved(11, 500))];
+    assert!(rt; serve_two(&rt, &mut centre) == (drawn, resynced));
+    assert!(rt; (centre.word(0), centre.word(1)) == (12, 501));
 }
 
 #[test]
-fn an_auts_with_one_bit_turned_over_moves_nothing(rt: HostRuntime) -> Result<(), Fail> {
-    let mut centre = CoreCentre::new(Core::new(rt.alloc(), &[10], &[MAX_SEQ])?);
+fn an_auts_with_one_bit_turned_over_moves_nothing(rt: HostRuntime) {
+    let mut centre = CoreCentre::new(Core::new(rt.alloc(), &[10], &[MAX_SEQ]).expect(
+        &rt, "memory",
+    ));
     for byte in 0..14 {
         for bit in [1, 2, 4, 8, 16, 32, 64, 128] {
             let mut auts = make_auts(&secret(), [7; 16], sqn_of(500, 5));
@@ -524,23 +549,34 @@ fn an_auts_with_one_bit_turned_over_moves_nothing(rt: HostRuntime) -> Result<(),
             );
         }
     }
-    assert_eq!(rt; centre.word(0), 10);
-    Ok(())
+    assert!(rt; centre.word(0) == 10);
+}
+
+/// The notes of a draw, of two reports, of a draw and of a report.
+fn notes_of<C: Centre, R: Wait>(rt: &R, centre: &mut C) -> ([NumberNote; 2], [ResyncNote; 3])
+    requires sub { 0 < C.subs centre.old }
+    requires top { C.top centre.old 0 ≡ max_seq }
+{
+    let drawn = ask(rt, centre, 0);
+    let in_range = report(rt, centre, 0, 3);
+    let moved = report(rt, centre, 0, MAX_SEQ);
+    let refused = ask(rt, centre, 0);
+    (
+        [drawn, refused],
+        [in_range, moved, report(rt, centre, 0, 5)],
+    )
 }
 
 // By hand: a draw, a report that is in range, one that moves the number to the last, and a draw that is refused.
 #[test]
-fn notes_name_the_answers_of_a_centre(rt: HostRuntime) -> Result<(), Fail> {
-    let mut centre = CoreCentre::new(Core::new(rt.alloc(), &[10], &[MAX_SEQ])?);
-    assert!(rt; ask(&rt, &mut centre, 0) == NumberNote::Drew(11));
-    let reports = [
-        report(&rt, &mut centre, 0, 3),
-        report(&rt, &mut centre, 0, MAX_SEQ),
+fn notes_name_the_answers_of_a_centre(rt: HostRuntime) {
+    let core = Core::new(rt.alloc(), &[10], &[MAX_SEQ]);
+    let mut centre = CoreCentre::new(core.expect(&rt, "memory"));
+    let drawn = [NumberNote::Drew(11), NumberNote::Exhausted(MAX_SEQ)];
+    let reported = [
+        ResyncNote::InRange(11, 3),
+        ResyncNote::Moved(11, MAX_SEQ),
+        ResyncNote::Beyond(MAX_SEQ, 5),
     ];
-    let expected = [ResyncNote::InRange(11, 3), ResyncNote::Moved(11, MAX_SEQ)];
-    assert!(rt; reports == expected);
-    assert!(rt; ask(&rt, &mut centre, 0) == NumberNote::Exhausted(MAX_SEQ));
-    let beyond = ResyncNote::Beyond(MAX_SEQ, 5);
-    assert!(rt; report(&rt, &mut centre, 0, 5) == beyond);
-    Ok(())
+    assert!(rt; notes_of(&rt, &mut centre) == (drawn, reported));
 }
