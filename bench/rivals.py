@@ -86,8 +86,8 @@ class TextFile:
         self.program, self.folder = str(program.resolve()), folder
         self.path = Path(folder) / "milenage"
 
-    def store(self, sqn=0):
-        self.path.write_text(f"{IMSI} {K} {OPC} {AMF} {sqn:012x}\n")
+    def store(self, sqn=0, imsis=(IMSI,)):
+        self.path.write_text("".join(f"{it} {K} {OPC} {AMF} {sqn:012x}\n" for it in imsis))
 
     def start(self, number=0):
         return Gateway(self.program, self.folder, number, "-u", "-m", self.path)
@@ -97,11 +97,12 @@ class Sqlite(TextFile):
     """hlr_auc_gw over its SQLite database."""
     name = "hlr_auc_gw, SQLite"
 
-    def store(self, sqn=0):
+    def store(self, sqn=0, imsis=(IMSI,)):
         # The gateway makes the table.
         self.start().end()
+        rows = [(int(it), K, OPC, AMF, f"{sqn:012x}") for it in imsis]
         with closing(sqlite3.connect(self.path)) as database, database:
-            database.execute("INSERT INTO milenage VALUES (?, ?, ?, ?, ?, NULL)", (int(IMSI), K, OPC, AMF, f"{sqn:012x}"))
+            database.executemany("INSERT INTO milenage VALUES (?, ?, ?, ?, ?, NULL)", rows)
 
     def start(self, number=0):
         return Gateway(self.program, self.folder, number, "-D", self.path)

@@ -26,7 +26,7 @@ from ends import run_main
 PAGES = ["README.md", "CONTRIBUTING.md", *sorted(str(it.relative_to(TOP)) for it in (TOP / "docs").glob("*.md"))]
 QUOTED = r"`([^`]+)`"
 NAME = re.compile(r"[\w*'-]+(?:::[\w-]+)?")
-KIND = r"(?:pub(?:\(crate\))?|abbrev|unfoldable|data|record|fn|struct|enum|trait|const)"
+KIND = r"(?:pub(?:\(crate\))?|ghost|abbrev|unfoldable|data|record|fn|struct|enum|trait|const)"
 DEFINED = rf"(?m)^\s*(?:{KIND}\s+)+{{}}(?![\w'-])"
 
 

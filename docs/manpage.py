@@ -120,7 +120,7 @@ def synopsis():
 def page():
     guide = GUIDE.read_text(encoding="utf-8")
     options = served(OPTIONS, installed=True)
-    own = "The script adds: 4 for `reserved` in a folder without a journal, and 70 if the program could not be run."
+    own = "The script adds: 4 for `reserved` or `compact` in a folder without a journal, and 70 if the program could not be run."
     sections = {
         "NAME": [f"auc \\- {WHAT}"],
         "SYNOPSIS": synopsis(),

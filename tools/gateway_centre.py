@@ -26,6 +26,10 @@ LONG_HEADER, USUAL = [*HEADER, "bits", "age"], (str(BITS), "-")
 ROW = re.compile(
     r"[0-9]{6,15},[0-9a-f]{32},opc?,[0-9a-f]{32},[0-9a-f]{4},[0-9]{1,15},[0-9]{1,15}(,[0-6],(-|[0-9]{1,15}))?", re.IGNORECASE)
 
+# Whole lines of a subscriber: a vector and its bytes, or another one; and a line that refuses a block.
+PRINTED = re.compile(r"^(?:(vector \S.*)\nbytes (.*)|((?:sync|withheld|exhausted) \S.*))\n", re.MULTILINE)
+REFUSAL = re.compile("^refused .*", re.MULTILINE)
+
 STATUSES = {
     0: "the program ended",
     1: "the program didn't know its words",
@@ -238,14 +242,10 @@ class Service(Program):
 def lines_by_subscriber(text):
     """The lines that were printed of each subscriber, as words: `vector` with its bytes behind it, `sync`, `withheld` and
     `exhausted`. A last line without its end isn't whole, and doesn't count."""
-    found, vector = defaultdict(list), None
-    for line in text.split("\n")[:-1]:
-        words = line.split()
-        if words and words[0] == "bytes" and vector:
-            found[vector[1]].append([*vector, *words[1:]])
-        elif words and words[0] in ("sync", "withheld", "exhausted"):
-            found[words[1]].append(words)
-        vector = words if words and words[0] == "vector" else None
+    found = defaultdict(list)
+    for vector, octets, other in PRINTED.findall(text):
+        words = [*vector.split(), *octets.split(), *other.split()]
+        found[words[1]].append(words)
     return found
 
 
@@ -335,10 +335,11 @@ class Centre:
     def learn(self, batch, text):
         """Takes a reply: those of the batch that got a vector, and what is told."""
         found, given = lines_by_subscriber(text), set()
-        sentences = [told(line.split()) for line in text.split("\n") if line.startswith("refused ")]
+        sentences = [told(line.split()) for line in REFUSAL.findall(text)]
         self.ready = {}
         for imsi, job in batch.items():
-            self.forget(imsi, job.auts)
+            if job.auts:
+                self.forget(imsi, job.auts)
             sentences += [told(words) for words in found[imsi] if words[0] != "vector"]
             numbers = [int(words[2]) for words in found[imsi] if words[0] == "vector"]
             if not self.rises(imsi, numbers):

@@ -29,7 +29,7 @@ FILES = {
     "day.blocks": "end\nround\njob\ndraw 001010000000001 3\nend\n",
 }
 FORMS = [
-    ["run", "day.scenario", "subscribers.csv"], ["reserved"], ["load", "7", "2", "2", "2"],
+    ["run", "day.scenario", "subscribers.csv"], ["reserved"], ["compact"], ["load", "7", "2", "2", "2"],
     ["vector", K, OPC, "23553cbe9637a89d218ae64dae47bf35", "ff9bb4d0b607", "b9b9"], ["serve", "subscribers.csv"],
 ]
 SUBSETS = [set(it) for count in range(4) for it in itertools.combinations((0, 1, 2), count)]

@@ -637,6 +637,30 @@ while True:
             served.append(sum(not client.hear().endswith("FAILURE") for client in clients))
         self.assertGreater(sum(served[1:]), 0, served)
 
+    def test_clients_that_ask_again_at_once_get_into_one_block(self):
+        program = self.script(BESIDE + """
+noted = open("blocks", "a", buffering=1)
+while True:
+    asked = block()
+    time.sleep(0.01)
+    text = reply(asked)
+    if not text:
+        break
+    noted.write(f"{asked.count(b'draw')}\\n")
+    say(text)
+""")
+        _, first = self.start(program=program)
+        clients = (first, A), (self.client(), B)
+        # The second one asks while the program serves the first one.
+        for client, imsi in clients:
+            client.say(f"AKA-REQ-AUTH {imsi}")
+            time.sleep(0.005)
+        for _ in range(100):
+            for client, imsi in clients:
+                self.assertIsNotNone(client.hear())
+                client.say(f"AKA-REQ-AUTH {imsi}")
+        self.assertGreater((self.folder / "blocks").read_text().count("2"), 5)
+
     def test_request_fails_in_its_time_while_the_program_stands_still(self):
         child, client = self.start("--patience", "0.3")
         self.assertEqual(seq_in(client.vector()), 1)

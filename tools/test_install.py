@@ -367,7 +367,7 @@ class Completions(unittest.TestCase):
             (["re"], ["reserved"]), (["run", "examples/first.s"], ["examples/first.scenario"]),
             (["run", "examples/first.scenario", "examples/subs"], ["examples/subscribers.csv"]),
             (["serve", "examples/subs"], ["examples/subscribers.csv"]), (["serv"], ["serve"]),
-            (["--journal-dir", "exam"], ["examples"]), (["--journal-dir", "examples", "res"], ["reserved"]),
+            (["--journal-dir", "exam"], ["examples"]), (["--journal-dir", "examples", "res"], ["reserved"]), (["comp"], ["compact"]),
             (["install", "exam"], ["examples"]), (["install", "--r"], ["--remove"]), (["install", "--remove", "exam"], ["examples"]),
             (["reserved", ""], []), (["vector", ""], []), (["vector", *"abcde", ""], ["autn"]), (["vector", *"abcdef", ""], []),
         ]

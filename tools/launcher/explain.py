@@ -18,7 +18,7 @@ from pathlib import Path
 from . import running
 from .places import GUIDE, JOURNAL, tell
 
-MAX_BYTES = 67108864
+MAX_BYTES, MAX_JOURNAL = 67108864, 1073741824
 MAX_SHOWN = 160
 # The longest word that is shown: in a line that may hold keys, and in any other one.
 LONGEST_IN_SECRET, LONGEST_PLAIN = 4, 15
@@ -72,6 +72,9 @@ class Call:
 
     def is_service(self):
         return self.words[0] == "serve"
+
+    def is_compaction(self):
+        return self.words == ["compact"]
 
     def files(self):
         """The files of a run or a service in the order in which the program reads them, each with the caller's name for it."""
@@ -185,6 +188,8 @@ def unreadable(call, status):
 
 
 def too_long(call, status):
+    if call.is_compaction():
+        return f"{journal()}: a new one would have more than {MAX_JOURNAL} bytes (status {status})"
     for path, name in call.files():
         size = os.stat(path).st_size
         if size > MAX_BYTES:
@@ -192,6 +197,11 @@ def too_long(call, status):
     if call.is_service():
         return f"auc: the service has heard all blocks that it can number, or one without an end (status {status})"
     return f"auc: a file has more than {MAX_BYTES} bytes (status {status})"
+
+
+def fault_of(error):
+    """What the system says of a journal, in words."""
+    return "another process has it open: one run at a time" if isinstance(error, BlockingIOError) else error.strerror
 
 
 def fault_of_journal(path):
@@ -203,10 +213,8 @@ def fault_of_journal(path):
         with tempfile.TemporaryFile(dir=path.parent, buffering=0) as file:
             file.write(bytes(4096))
             os.fsync(file.fileno())
-    except BlockingIOError:
-        return "another process has it open: one run at a time"
     except OSError as error:
-        return error.strerror
+        return fault_of(error)
     return None
 
 
@@ -218,7 +226,10 @@ def journal_failed(_, status):
 # ---- all statuses
 
 
-def unwritten(_, status):
+def unwritten(call, status):
+    if call.is_compaction() and sys.stdout:
+        fault = fault_of_journal(Path(JOURNAL))
+        return f"{journal()}: a new one could not be written beside it{f': {fault}' if fault else ''} (status {status})"
     closed = ": standard output is closed" if sys.stdout is None else ""
     return f"auc: the output could not be written{closed} (status {status})"
 

@@ -12,6 +12,7 @@ FORMS = [
     ("serve", "stay alive: read blocks of lines from standard input, and reply to each on standard output"),
     ("serve SUBSCRIBERS", "the same, with the subscribers of the CSV file SUBSCRIBERS"),
     ("reserved", "print up to which number each subscriber's numbers are reserved"),
+    ("compact", "replace the journal by a shorter one with the same limits"),
     ("vector K OPC RAND SQN AMF", "print the functions of Milenage at these hexadecimal values"),
     ("vector K OPC RAND SQN AMF autn", "the same, and then AUTN"),
     ("auts K OPC RAND SQN", "print the AUTS with which a USIM whose SQN_MS is SQN answers RAND"),
@@ -44,8 +45,8 @@ builds the program. That takes about {work} minutes of processor time: {here} mi
 more; --portable leaves it out.
 """
 STATUS = """
-The status is the program's; but it is {no_words} for words that aren't here, {no_journal} for `reserved` in a folder
-without a journal, and {not_run} if the program could not be run. {guide} has all of them.
+The status is the program's; but it is {no_words} for words that aren't here, {no_journal} for `reserved` or `compact` in
+a folder without a journal, and {not_run} if the program could not be run. {guide} has all of them.
 To begin: {me} run {pages}/examples/first.scenario
 """
 

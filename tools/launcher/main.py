@@ -5,14 +5,16 @@ import subprocess
 from dataclasses import dataclass, field
 from pathlib import Path
 
-from . import build, install, release, running
+from . import build, compacting, install, release, running
 from .explain import Call, explain
 from .help import FOLDER, NO_JOURNAL, NO_WORDS, help_text
 from .places import CRATE, IS_INSTALLED, JOURNAL, NOT_RUN, TOP, Stopped, put, say, tell, version
 
-FORMS = ("run", "serve", "reserved", "vector", "auts", "load")
+FORMS = ("run", "serve", "reserved", "compact", "vector", "auts", "load")
 # The forms whose further words name files. They alone begin a journal.
 WITH_FILES = ("run", "serve")
+# The words that want a journal that is there.
+OF_JOURNAL = (["reserved"], ["compact"])
 INTERRUPTED = 130
 
 class WrongWords(Exception):
@@ -41,7 +43,7 @@ def options(words):
             setattr(given, option[2:], True)
         else:
             raise WrongWords
-    if words[:1] not in [[it] for it in FORMS]:
+    if words[:1] not in [[it] for it in FORMS] or given.unproved and words == ["compact"]:
         raise WrongWords
     given.words = words
     return given
@@ -135,10 +137,12 @@ def run_proved(given):
     if given.folder is not None:
         words = seen_from_anywhere(words)
         enter(given.folder)
-    if words == ["reserved"] and not os.path.lexists(journal):
+    if words in OF_JOURNAL and not os.path.lexists(journal):
         say(f"no journal in {os.getcwd()}")
         return NO_JOURNAL
     with chosen(given) as program:
+        if words == ["compact"]:
+            return compacting.compact(program)
         begun = Begun(words, journal)
         status = (running.run_telling if given.progress else running.run)(program, words, begun.told)
         begun.told()

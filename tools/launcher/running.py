@@ -38,10 +38,10 @@ def nothing_to_tell():
     return True
 
 
-def run(program, words, told=nothing_to_tell):
+def run(program, words, told=nothing_to_tell, **how):
     """Runs the program: its exit status, as a shell has it. It calls `told` now and then, until that says that nothing is left
     to be told."""
-    return as_a_shell_has_it(ended(started(program, words), told))
+    return as_a_shell_has_it(ended(started(program, words, **how), told))
 
 
 def ended(process, told):

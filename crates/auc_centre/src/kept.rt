@@ -27,13 +27,13 @@ impl<L: Naming<D>, D: Disk + Drop> Model for Kept<L, D> {
 
     ghost view = { λ k. k.keeper };
 
-    ghost invariant = { λ k. IsKept D.seen D.may_leave D.faults L.table L.passes L.opening k.keeper };
+    ghost invariant = { λ k. IsKept D.seen D.may_leave D.faults D.moment D.left_since L.table L.passes L.opening k.keeper };
 }
 
 impl<L: Naming<D>, D: Disk + Drop> Kept<L, D> {
     /// Takes the keeper of the round that `L` names.
     pub fn new(keeper: Keeper<D>) -> Kept<L, D>
-        requires { IsKept D.seen D.may_leave D.faults L.table L.passes L.opening keeper }
+        requires { IsKept D.seen D.may_leave D.faults D.moment D.left_since L.table L.passes L.opening keeper }
         ensures { result ≡ keeper }
     {
         Kept {
@@ -45,7 +45,7 @@ impl<L: Naming<D>, D: Disk + Drop> Kept<L, D> {
     /// The keeper.
     pub fn into_keeper(self) -> Keeper<D>
         ensures same { result ≡ self }
-        ensures kept { IsKept D.seen D.may_leave D.faults L.table L.passes L.opening result }
+        ensures kept { IsKept D.seen D.may_leave D.faults D.moment D.left_since L.table L.passes L.opening result }
     {
         self.keeper
     }

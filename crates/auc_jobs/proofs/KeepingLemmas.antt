@@ -16,7 +16,8 @@ use Rattle.auc_history.proofs.Facts.{AllPairs-cons, AllPairs-head, AllPairs-tail
 use Rattle.auc_journal.specs.Image.{reserved_in}
 use Rattle.auc_journal.specs.Journal.{JournalState, limits_of}
 use Rattle.auc_journal.proofs.Facts.{durable_more}
-use Rattle.auc_keeper.specs.Keeper.{Since}
+use Rattle.auc_keeper.specs.Keeper.{IsLeft, Since}
+use Rattle.auc_keeper.proofs.Facts.{begins_left, leaves_less, left_more}
 use Rattle.auc_lines.specs.declared.part.Line.{Line}
 use Rattle.auc_subs.specs.Subscriber.{AreSubscribers}
 use Rattle.auc_subs.specs.declared.row.Row.{Row}
@@ -35,7 +36,7 @@ use Rattle.auc_jobs.specs.InnerClaims.{IsDone}
 use Rattle.auc_jobs.specs.InnerKeeping.{CanKeep, StaysNear, TellsStop, told_stop}
 use Rattle.auc_jobs.specs.InnerRound.{GoesByLimits, LeadsOn}
 use Rattle.auc_jobs.specs.InnerSharing.{Shared}
-use Rattle.auc_jobs.specs.Round.{DrewFull, IsJournalOf, Serves}
+use Rattle.auc_jobs.specs.Round.{DrewFull, IsJournalOf, LeavesMore, Serves}
 use Rattle.auc_jobs.specs.State.{Standing, StandsAt}
 use Rattle.auc_jobs.proofs.LineLemmas.{some_at}
 use Rattle.auc_jobs.proofs.StoppingLemmas.{fault_told, full_told, jobs_drawn, number_held}
@@ -62,24 +63,49 @@ served_ok (Ok a) P is holds = holds
 served_ok (Err e) P is holds = cc
 
 -- a crash leaves nothing above the words, if the keeper saw nothing above them
-pub stays_near : {D : Type 0} (seen : D → Option (List ℕ)) (may_leave : D → List ℕ → Type 0) (faults : D → ℕ) (journal after : JournalState D) (pass : KeeperValue) (words openings : List ℕ)
-    → Since seen may_leave faults journal (record { journal = after; pass = pass }) → length journal.imsis ≡ length openings
-    → ((i : ℕ) → i < length openings → slice_index pass.seen i ≤ slice_index words i) → StaysNear seen may_leave journal words after
-stays_near seen may_leave faults journal after pass words openings since sized looked = λ from most durable.
-    durable_more seen may_leave from (λ i. max (most i) (slice_index pass.seen i + 64)) (λ i. max (most i) (slice_index words i + least_step)) after
-    (λ i inside.
-    let same = ap (λ (imsis : List Identity). length imsis) since.subscribers in
-    let low = looked i (omega (arith, inside, same, sized)) in
-    higher (most i) (slice_index pass.seen i) (slice_index words i) low)
-    (since.durable from most durable)
+pub stays_near : {D : Type 0} (seen : D → Option (List ℕ)) (may_leave : D → List ℕ → Type 0) (faults moment : D → ℕ) (left_since : D → ℕ → List ℕ → Type 0) (journal after : JournalState D) (pass : KeeperValue) (words openings : List ℕ)
+    → Since seen may_leave faults moment left_since journal (record { journal = after; pass = pass }) → length journal.imsis ≡ length openings
+    → ((i : ℕ) → i < length openings → slice_index pass.seen i ≤ slice_index words i) → StaysNear seen may_leave moment left_since journal words after
+stays_near seen may_leave faults moment left_since journal after pass words openings since sized looked = record {
+  durable = λ from most durable.
+      durable_more seen may_leave from (λ i. max (most i) (slice_index pass.seen i + 64)) (λ i. max (most i) (slice_index words i + least_step)) after
+      (λ i inside.
+      let same = ap (λ (imsis : List Identity). length imsis) since.subscribers in
+      let low = looked i (omega (arith, inside, same, sized)) in
+      higher (most i) (slice_index pass.seen i) (slice_index words i) low)
+      (since.durable from most durable);
+  always = λ from most durable told.
+      leaves_less moment left_since journal.disk after.disk (IsLeft told.0 journal (λ i. max (most i) (slice_index pass.seen i + 64))) (IsLeft told.0 journal (λ i. max (most i) (slice_index words i + least_step)))
+      (left_more told.0 journal (λ i. max (most i) (slice_index pass.seen i + 64)) (λ i. max (most i) (slice_index words i + least_step))
+      (λ i inside. let low = looked i (omega (arith, inside, sized)) in higher (most i) (slice_index pass.seen i) (slice_index words i) low))
+      (since.always from most durable told);
+}
   where
     higher : (m a b : ℕ) → a ≤ b → max m (a + 64) ≤ max m (b + 64)
     higher m a b low = omega (arith, low)
 
+-- what a crash leaves when the workers have ended, whether or not memory ran out
+pub worked_leaves : {D : Type 0} (seen : D → Option (List ℕ)) (may_leave : D → List ℕ → Type 0) (faults moment : D → ℕ) (left_since : D → ℕ → List ℕ → Type 0) (journal after : JournalState D) (pass : KeeperValue)
+    → Since seen may_leave faults moment left_since journal (record { journal = after; pass = pass }) → LeavesMore seen may_leave moment left_since journal after
+worked_leaves seen may_leave faults moment left_since journal after pass since = record {
+  rises = since.rises;
+  durable = λ from most durable. (λ i. max (most i) (slice_index pass.seen i + 64), since.durable from most durable);
+  always = λ from most durable told. (λ i. max (most i) (slice_index pass.seen i + 64), since.always from most durable told);
+}
+
+-- and if they didn't begin
+pub unserved_leaves : {D : Type 0} (seen : D → Option (List ℕ)) (may_leave : D → List ℕ → Type 0) (moment : D → ℕ) (left_since : D → ℕ → List ℕ → Type 0) → ((disk : D) (image : List ℕ) → left_since disk (moment disk) image → may_leave disk image)
+    → (journal : JournalState D) → LeavesMore seen may_leave moment left_since journal journal
+unserved_leaves seen may_leave moment left_since only_now journal = record {
+  rises = λ i inside. omega arith;
+  durable = λ from most durable. (most, durable);
+  always = λ from most durable told. (most, begins_left seen may_leave moment left_since only_now from most journal durable told);
+}
+
 -- what the stop that the lines tell says of the journals, by the keeper's
-pub stop_told : {D : Type 0} (seen : D → Option (List ℕ)) (may_leave : D → List ℕ → Type 0) (faults : D → ℕ) (journal after : JournalState D) (pass : KeeperValue) (records : List (List LineRecord))
-    → Since seen may_leave faults journal (record { journal = after; pass = pass }) → TellsStop faults journal (told_stop pass.stop records) after
-stop_told seen may_leave faults journal after pass records since =
+pub stop_told : {D : Type 0} (seen : D → Option (List ℕ)) (may_leave : D → List ℕ → Type 0) (faults moment : D → ℕ) (left_since : D → ℕ → List ℕ → Type 0) (journal after : JournalState D) (pass : KeeperValue) (records : List (List LineRecord))
+    → Since seen may_leave faults moment left_since journal (record { journal = after; pass = pass }) → TellsStop faults journal (told_stop pass.stop records) after
+stop_told seen may_leave faults moment left_since journal after pass records since =
     let told = fault_told pass.stop records in
     record {
       ready = (λ failed. told.1 (since.failed.0 failed), λ stop. since.failed.1 (told.0 stop));
@@ -142,12 +168,12 @@ drew_above {D} set stop round records before words after subscribers is limits f
     )
 
 -- a round whose pieces go by the limits is served
-pub served_round : {D : Type 0} (seen : D → Option (List ℕ)) (may_leave : D → List ℕ → Type 0) (set : Setting) (state next : Standing) (jobs : List (List Line)) (journal after : JournalState D)
+pub served_round : {D : Type 0} (seen : D → Option (List ℕ)) (may_leave : D → List ℕ → Type 0) (moment : D → ℕ) (left_since : D → ℕ → List ℕ → Type 0) (set : Setting) (state next : Standing) (jobs : List (List Line)) (journal after : JournalState D)
     (done : RoundPieces) (result : Result Ran NoMemory) → IfOk result (λ ran. (early : List LineRecord) → StandsAt set early state → LeadsOn set done.stop early state jobs ran.round done.words next)
     → OnOk result (next.words ≡ reopened set.rows done.words) → IfOk result (λ ran. (ran.round.jobs ≡ done.jobs.records) × (ran.vectors ≡ done.jobs.vectors) × (ran.stop ≡ done.stop))
-    → after.imsis ≡ map (λ row. row.imsi) set.rows → GoesByLimits set done.stop done.jobs.records (limits_of journal) done.words (limits_of after) → StaysNear seen may_leave journal done.words after
-    → IfOk result (λ ran. (early : List LineRecord) → StandsAt set early state → Serves seen may_leave set early state jobs ran.round ran.stop journal next after)
-served_round seen may_leave set state next jobs journal after done (Ok ran) lawful opens parts subscribers limits near = λ early stands.
+    → after.imsis ≡ map (λ row. row.imsi) set.rows → GoesByLimits set done.stop done.jobs.records (limits_of journal) done.words (limits_of after) → StaysNear seen may_leave moment left_since journal done.words after
+    → IfOk result (λ ran. (early : List LineRecord) → StandsAt set early state → Serves seen may_leave moment left_since set early state jobs ran.round ran.stop journal next after)
+served_round seen may_leave moment left_since set state next jobs journal after done (Ok ran) lawful opens parts subscribers limits near = λ early stands.
     let leads : LeadsOn set ran.stop early state jobs ran.round done.words next =
     subst (λ (stop : Option Stop). LeadsOn set stop early state jobs ran.round done.words next) (sym parts.2) (lawful early stands) in
     record {
@@ -161,9 +187,10 @@ served_round seen may_leave set state next jobs journal after done (Ok ran) lawf
           (subst (λ (limit : ℕ). All (λ n. limit < n) (withheld_of sub (all_lines done.jobs.records))) (limit_of_row set.rows after sub row subscribers there)
           (limits.above sub (slice_get_within set.rows sub row there)));
       needs = λ full. drew_above set done.stop ran.round done.jobs.records (limits_of journal) done.words after subscribers parts.0 limits (sym parts.2 ∙ full);
-      durable = near;
+      durable = near.durable;
+      always = near.always;
     }
-served_round seen may_leave set state next jobs journal after done (Err e) lawful opens parts subscribers limits near = tt
+served_round seen may_leave moment left_since set state next jobs journal after done (Err e) lawful opens parts subscribers limits near = tt
 
 -- what holds where a result is Ok holds of what it has
 pub if_ok_at : {A E : Type 0} (P : A → Type 0) (result : Result A E) (x : A) → result ≡ Ok x → IfOk result P → P x

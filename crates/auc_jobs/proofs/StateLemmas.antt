@@ -9,13 +9,16 @@ use Rattle.auc_lines.specs.Part.{AreApart}
 use Rattle.auc_subs.specs.declared.row.Row.{Row}
 use Rattle.auc_subs.specs.Subscriber.{AreSubscribers, top_at}
 use Rattle.auc_subs.proofs.Facts.{drawn_within}
+use Rattle.auc_sqn.specs.Past.{Remembers}
+use Rattle.auc_world.specs.Released.{Released}
 use Rattle.auc_world.specs.Setting.{Setting}
 use Rattle.auc_world.specs.Start.{Kept, fresh_kept}
 use Rattle.auc_world.specs.declared.record.LineRecord.{LineRecord}
 use Rattle.auc_jobs.specs.Usims.{AreOfRows, AreBehind}
 use Rattle.auc_jobs.specs.InnerSharing.{Shared, Begins, IsServable}
 use Rattle.auc_jobs.specs.Serving.{AreAllKnown}
-use Rattle.auc_jobs.specs.State.{Standing, StandsAt}
+use Rattle.auc_world.specs.Given.{past_of}
+use Rattle.auc_jobs.specs.State.{AcceptNothing, Standing, StandsAt}
 use Rattle.auc_jobs.proofs.LineLemmas.{some_at}
 
 -- the numbers of the first rows and of one more
@@ -72,6 +75,18 @@ stands_opened inside old words same size set early within stands =
       pasts = s.pasts;
       earlier = s.earlier;
       numbers = s.numbers;
+    }
+
+-- by lines that no USIM accepted anything by, it stands before all lines once no vector is released
+pub stands_forgotten : (inside old : Standing) (none : Released) → inside ≡ old → none ≡ []
+    → (set : Setting) (early : List LineRecord) → AcceptNothing early → StandsAt set early old → StandsAt set [] (record { words = inside.words; usims = inside.usims; kept = inside.kept; released = none })
+stands_forgotten inside old none same empty set early nothing stands =
+    let s : StandsAt set early inside = subst (StandsAt set early) (sym same) stands in
+    record {
+      subscribers = record { size = s.subscribers.size; numbers = s.subscribers.numbers; secrets = s.subscribers.secrets; kept = s.subscribers.kept };
+      pasts = λ sub row usim here its. subst (λ (sqns : List (List ℕ)). Remembers usim.array (past_of row.bits row.usim sqns)) (nothing row.bits sub) (s.pasts sub row usim here its);
+      earlier = λ sub n. rw empty refl;
+      numbers = λ sub. All-nil (λ n. n ≤ top_at set.rows sub);
     }
 
 -- ---- a round's beginning

@@ -7,8 +7,10 @@ use Rattle.auc_draw.specs.Values.{KeeperValue}
 use Rattle.auc_edge.specs.Faults.{Rose}
 use Rattle.auc_edge.specs.declared.stop.Stop.{Stop}
 use Rattle.auc_edge.specs.declared.stop.Stop.TheVariants.{Fault, Full}
-use Rattle.auc_journal.specs.Durable.{IsDurable}
+use Rattle.auc_journal.specs.Durable.{IsDurable, IsTold}
 use Rattle.auc_journal.specs.Journal.{JournalState, limits_of}
+use Rattle.auc_journal.specs.Settled.{LeavesOnly}
+use Rattle.auc_keeper.specs.Keeper.{IsLeft}
 use Rattle.auc_vector.specs.declared.notes.NumberNote.{NumberNote}
 use Rattle.auc_vector.specs.declared.notes.NumberNote.TheVariants as number
 use Rattle.auc_world.specs.Event.{number_in}
@@ -34,10 +36,11 @@ pub record TellsStop {D : Type 0} (faults : D → ℕ) (journal : JournalState D
   pub quiet : stop ≢ Some Fault → faults after.disk ≡ faults journal.disk
   pub full : stop ≡ Some Full → 2 ^ 30 < after.place + 20
 
--- a crash leaves no limit above that of before and a step above the word
-abbrev pub StaysNear : {D : Type 0} → (D → Option (List ℕ)) → (D → List ℕ → Type 0) → JournalState D → List ℕ → JournalState D → Type 0
-StaysNear {D} seen may_leave journal words after = (from : D) (most : ℕ → ℕ) → IsDurable seen may_leave from most journal
-    → IsDurable seen may_leave from (λ i. max (most i) (slice_index words i + least_step)) after
+-- a crash leaves no limit above that of before and a step above the word, now and at any moment since the round began
+pub record StaysNear {D : Type 0} (seen : D → Option (List ℕ)) (may_leave : D → List ℕ → Type 0) (moment : D → ℕ) (left_since : D → ℕ → List ℕ → Type 0) (journal : JournalState D) (words : List ℕ) (after : JournalState D) : Type 0 where
+  pub durable : (from : D) (most : ℕ → ℕ) → IsDurable seen may_leave from most journal → IsDurable seen may_leave from (λ i. max (most i) (slice_index words i + least_step)) after
+  pub always : (from : D) (most : ℕ → ℕ) → IsDurable seen may_leave from most journal → (told : IsTold seen may_leave from)
+      → LeavesOnly moment left_since journal.disk after.disk (IsLeft told.0 journal (λ i. max (most i) (slice_index words i + least_step)))
 
 -- whether a note says that a number was withheld
 abbrev pub is_withheld : Option NumberNote → Bool

@@ -3,9 +3,11 @@ use Rattle.std.specs.Prelude.{◌≡◌, ℕ, ◌+◌, ◌<◌, ◌≤◌, max, 
 use Rattle.auc_edge.specs.declared.stop.Stop.{Stop}
 use Rattle.auc_edge.specs.declared.stop.Stop.TheVariants.{Full}
 use Rattle.auc_history.specs.History.{drawn}
-use Rattle.auc_journal.specs.Durable.{IsDurable}
+use Rattle.auc_journal.specs.Durable.{IsDurable, IsTold}
 use Rattle.auc_journal.specs.Image.{reserved_in}
 use Rattle.auc_journal.specs.Journal.{JournalState, limits_of, reserved_at}
+use Rattle.auc_journal.specs.Settled.{LeavesOnly}
+use Rattle.auc_keeper.specs.Keeper.{IsLeft}
 use Rattle.auc_lines.specs.declared.part.Line.{Line}
 use Rattle.auc_subs.specs.declared.row.Row.{Row}
 use Rattle.auc_world.specs.Limits.{Raises, least_step}
@@ -34,7 +36,7 @@ pub record DrewFull (rows : List Row) (round : RoundRecord) : Type 0 where
 
 -- a round was served after the lines of earlier rounds: from a state and a journal to the next ones. Reservations may have
 -- ended in it, for this cause
-pub record Serves {D : Type 0} (seen : D → Option (List ℕ)) (may_leave : D → List ℕ → Type 0) (set : Setting) (early : List LineRecord) (state : Standing) (jobs : List (List Line)) (round : RoundRecord) (stop : Option Stop) (journal : JournalState D) (next : Standing) (after : JournalState D) : Type 0 where
+pub record Serves {D : Type 0} (seen : D → Option (List ℕ)) (may_leave : D → List ℕ → Type 0) (moment : D → ℕ) (left_since : D → ℕ → List ℕ → Type 0) (set : Setting) (early : List LineRecord) (state : Standing) (jobs : List (List Line)) (round : RoundRecord) (stop : Option Stop) (journal : JournalState D) (next : Standing) (after : JournalState D) : Type 0 where
   -- the subscribers' words after it
   pub words : List ℕ
   pub lawful : IsLawfulRound set stop early state.kept state.words jobs round words
@@ -49,8 +51,15 @@ pub record Serves {D : Type 0} (seen : D → Option (List ℕ)) (may_leave : D �
   pub needs : stop ≡ Some Full → (drew : DrewFull set.rows round) × (reserved_in after.limits drew.row.imsi < drew.number)
   -- a crash leaves these limits at least, and none above that of before and a step above the word
   pub durable : (from : D) (most : ℕ → ℕ) → IsDurable seen may_leave from most journal → IsDurable seen may_leave from (λ i. max (most i) (slice_index words i + least_step)) after
+  -- and at any moment since the round began, while its threads run too, a crash leaves the limits of before at least, and none
+  -- above that bound
+  pub always : (from : D) (most : ℕ → ℕ) → IsDurable seen may_leave from most journal → (told : IsTold seen may_leave from)
+      → LeavesOnly moment left_since journal.disk after.disk (IsLeft told.0 journal (λ i. max (most i) (slice_index words i + least_step)))
 
--- if memory ran out: no limit fell, and a crash leaves journals with the limits at least
-pub record LeavesMore {D : Type 0} (seen : D → Option (List ℕ)) (may_leave : D → List ℕ → Type 0) (journal after : JournalState D) : Type 0 where
+-- if memory ran out: no limit fell, and a crash leaves journals with the limits at least; at any moment since the round began it
+-- leaves those of before at least
+pub record LeavesMore {D : Type 0} (seen : D → Option (List ℕ)) (may_leave : D → List ℕ → Type 0) (moment : D → ℕ) (left_since : D → ℕ → List ℕ → Type 0) (journal after : JournalState D) : Type 0 where
   pub rises : (i : ℕ) → i < length journal.imsis → reserved_at journal i ≤ reserved_at after i
   pub durable : (from : D) (most : ℕ → ℕ) → IsDurable seen may_leave from most journal → (more : ℕ → ℕ) × IsDurable seen may_leave from more after
+  pub always : (from : D) (most : ℕ → ℕ) → IsDurable seen may_leave from most journal → (told : IsTold seen may_leave from)
+      → (more : ℕ → ℕ) × LeavesOnly moment left_since journal.disk after.disk (IsLeft told.0 journal more)

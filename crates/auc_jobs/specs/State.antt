@@ -1,11 +1,12 @@
 -- What passes from round to round.
-use Rattle.std.specs.Prelude.{◌≡◌, ℕ, ◌<◌, ◌≤◌, List, length, slice_get, slice_index}
+use Rattle.std.specs.Prelude.{◌≡◌, ℕ, ◌<◌, ◌≤◌, List, [], length, slice_get, slice_index}
 use Rattle.auc_subs.specs.Subscriber.{top_at}
 use Rattle.auc_subs.specs.declared.row.Row.{Row}
 use Rattle.auc_world.specs.Setting.{Setting}
 use Rattle.auc_world.specs.Start.{Kept}
 use Rattle.auc_usim.specs.Usim.{Memory}
 use Rattle.auc_world.specs.declared.record.LineRecord.{LineRecord}
+use Rattle.auc_world.specs.Lines.{accepted}
 use Rattle.auc_world.specs.Released.{Released, AreReleased}
 use Rattle.auc_jobs.specs.Numbers.{AreNumbers}
 use Rattle.auc_jobs.specs.Usims.{AreOfRows, AreBehind}
@@ -31,3 +32,7 @@ pub record StandsAt (set : Setting) (early : List LineRecord) (state : Standing)
   pub pasts : AreBehind set.rows early (slice_get state.usims)
   pub earlier : AreReleased state.released early
   pub numbers : AreNumbers set.rows early
+
+-- by some lines no USIM accepted anything
+abbrev pub AcceptNothing : List LineRecord → Type 0
+AcceptNothing lines = (bits sub : ℕ) → accepted bits sub lines ≡ []

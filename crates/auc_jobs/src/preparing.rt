@@ -53,8 +53,8 @@ pub(crate) fn prepare_groups<D: Disk + Drop>(
     requires sized { length keeper.old.journal.imsis ≡ length book.now.openings }
     requires needed { AreReservable (length book.now.openings) keeper.old.pass needed.now }
     ensures own { (keeper.new.pass.id ≡ keeper.old.pass.id) × (keeper.new.pass.passes ≡ keeper.old.pass.passes) }
-    ensures since { (opening : JournalState D) → Since D.seen D.may_leave D.faults opening keeper.old
-        → Since D.seen D.may_leave D.faults opening keeper.new }
+    ensures since { (opening : JournalState D) → Since D.seen D.may_leave D.faults D.moment D.left_since opening keeper.old
+        → Since D.seen D.may_leave D.faults D.moment D.left_since opening keeper.new }
 {
     let mut rest = needed;
     while rest.len() >= 2 {

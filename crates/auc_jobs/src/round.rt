@@ -64,7 +64,7 @@ pub struct Served<D: Disk + Drop> {
 pub fn serve<D: Disk + Drop + Send, G: Gate + Sync, R: Threads + Wait + Sync>(
     rt: &R,
     alloc: Global,
-    number: u32,
+    number: u64,
     jobs: &[JobPart],
     set: &Setting,
     full: bool,
@@ -82,7 +82,7 @@ pub fn serve<D: Disk + Drop + Send, G: Gate + Sync, R: Threads + Wait + Sync>(
     requires realm { length set.now.realm ≤ 255 }
     requires journal { IsJournalOf set.now.rows journal }
     ensures served { IfOk result.result (λ ran. (early : List LineRecord) → StandsAt set.now early state
-        → Serves D.seen D.may_leave set.now early state jobs.now ran.round ran.stop journal
+        → Serves D.seen D.may_leave D.moment D.left_since set.now early state jobs.now ran.round ran.stop journal
         result.state result.journal) }
     ensures next { IfOk result.result (λ ran. (early : List LineRecord)
         → StandsAt set.now early state
@@ -100,7 +100,7 @@ pub fn serve<D: Disk + Drop + Send, G: Gate + Sync, R: Threads + Wait + Sync>(
     ensures quiet { IfOk result.result (λ ran. ran.stop ≢ Some Fault
         → D.faults result.journal.disk ≡ D.faults journal.disk) }
     ensures full { IfOk result.result (λ ran. ran.stop ≡ Some Full → 2 ^ 30 < result.journal.place + 20) }
-    ensures still { OnErr result.result (LeavesMore D.seen D.may_leave journal result.journal) }
+    ensures still { OnErr result.result (LeavesMore D.seen D.may_leave D.moment D.left_since journal result.journal) }
 {
     let pieces = pieces(rt, alloc, jobs, set, full, &state, journal, workers, gate);
     let Pieces { journal, result } = pieces;
@@ -144,8 +144,9 @@ fn pieces<D: Disk + Drop + Send, G: Gate + Sync, R: Threads + Wait + Sync>(
         ≡ (if full then map (vectors_in set.now) done.jobs.records else [])) }
     ensures bound { IfOk result.result (λ done. All (λ word. word ≤ max_seq + 64) done.words) }
     ensures subscribers { result.journal.imsis ≡ journal.imsis }
-    ensures leaves { LeavesMore D.seen D.may_leave journal result.journal }
-    ensures near { IfOk result.result (λ done. StaysNear D.seen D.may_leave journal done.words result.journal) }
+    ensures leaves { LeavesMore D.seen D.may_leave D.moment D.left_since journal result.journal }
+    ensures near { IfOk result.result (λ done.
+        StaysNear D.seen D.may_leave D.moment D.left_since journal done.words result.journal) }
     ensures stop { IfOk result.result (λ done. TellsStop D.faults journal done.stop result.journal) }
 {
     let _count = set.subs.len();
@@ -233,7 +234,7 @@ fn sum_up(
 /// The record of a round whose jobs gave this. It leads the state to the next round.
 fn finish(
     alloc: Global,
-    number: u32,
+    number: u64,
     jobs: &[JobPart],
     set: &Setting,
     state: &mut State,
@@ -271,7 +272,7 @@ fn finish(
 fn give_back(_done: RoundPieces) {}
 
 /// What a round of this number did, whose jobs gave this.
-fn record_round(number: u32, summary: Summary, done: RoundPieces) -> Ran
+fn record_round(number: u64, summary: Summary, done: RoundPieces) -> Ran
     ensures { result ≡ record {
       round = record {
         number = number;

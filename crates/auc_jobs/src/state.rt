@@ -6,7 +6,7 @@ ghost use Rattle.auc_world.specs.Setting.{Setting};
 ghost use Rattle.auc_world.specs.Start.{fresh_kept};
 ghost use Rattle.auc_world.specs.declared.record.LineRecord.{LineRecord};
 ghost use Rattle.auc_jobs.specs.InnerRound.{IsAdvanced};
-ghost use Rattle.auc_jobs.specs.State.{StandsAt};
+ghost use Rattle.auc_jobs.specs.State.{AcceptNothing, StandsAt};
 
 use auc_cards::{JobDevices, Stores, Usims};
 use auc_edge::{Items, NoMemory};
@@ -63,6 +63,15 @@ impl State {
             → StandsAt set early self.old → StandsAt set early self.new }
     {
         self.words = words;
+    }
+
+    /// Forgets which vectors were released. Rounds whose lines only draw and resynchronise never ask.
+    pub fn forget(&mut self, alloc: Global)
+        ensures forgotten { self.new ≡ record self.old { released = [] } }
+        ensures stands { (set : Setting) (early : List LineRecord)
+            → AcceptNothing early → StandsAt set early self.old → StandsAt set [] self.new }
+    {
+        self.released = Numbers::new(alloc);
     }
 
     /// Leads the state from a round's beginning to the next round. All memory is taken before the first change.

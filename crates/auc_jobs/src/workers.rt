@@ -114,7 +114,7 @@ fn work_all<
         × All (IsDone L.table L.tops round.now) all.items) }
     ensures own { (result.keeper.id ≡ L.table) × (result.keeper.passes ≡ L.passes) }
     ensures stop { result.stop ≡ result.keeper.stop }
-    ensures since { Since D.seen D.may_leave D.faults journal
+    ensures since { Since D.seen D.may_leave D.faults D.moment D.left_since journal
         (record { journal = result.journal; pass = result.keeper }) }
 {
     let mut keeper = Keeper::new(journal, keeper);
@@ -358,8 +358,9 @@ pub(crate) fn serve_pieces<D: Disk + Drop + Send, G: Gate + Sync, R: Threads + W
 
     // The journal is of the same subscribers, and no limit of it fell.
     ensures subscribers { result.journal.imsis ≡ journal.imsis }
-    ensures leaves { LeavesMore D.seen D.may_leave journal result.journal }
-    ensures near { IfOk result.result (λ done. StaysNear D.seen D.may_leave journal done.words result.journal) }
+    ensures leaves { LeavesMore D.seen D.may_leave D.moment D.left_since journal result.journal }
+    ensures near { IfOk result.result (λ done.
+        StaysNear D.seen D.may_leave D.moment D.left_since journal done.words result.journal) }
     ensures stop { IfOk result.result (λ done. TellsStop D.faults journal done.stop result.journal) }
 {
     match open_book(alloc, round, openings, &journal, workers) {

@@ -1,7 +1,8 @@
 -- What holds since a round began, after a limit was reserved: for the keeper.
-use Rattle.std.proofs.Common.{◌≡◌, ◌≢◌, ℕ, zero, suc, ◌+◌, ◌≤◌, ◌<◌, List, [], ◌∷◌, ◌++◌, All, get_or, length, ◌↔◌, refl, sym, ◌∙◌, ap, subst, arith, true≢false}
+use Rattle.std.proofs.Common.{◌≡◌, ◌≢◌, ℕ, zero, suc, ◌+◌, ◌*◌, ◌≤◌, ◌<◌, List, [], ◌∷◌, ◌++◌, All, get_or, length, ◌↔◌, refl, sym, ◌∙◌, ap, subst, arith, true≢false}
 use Rattle.std.specs.Prelude.{AllPairs, Bool, true, false, max, map, ◌^◌, slice_index, slice_set, Option, Some, None, Result, Ok, Err}
 use Rattle.std.proofs.lemmas.List.{length-map}
+use Rattle.std.proofs.lemmas.List.Elements.{All-cons, All-nil}
 use Rattle.auc_edge.specs.Faults.{Rose}
 use Rattle.auc_edge.specs.Identity.{Identity}
 use Rattle.auc_edge.specs.declared.stop.Stop.{Stop}
@@ -9,13 +10,15 @@ use Rattle.auc_edge.specs.declared.stop.Stop.TheVariants.{Fault, Full}
 use Rattle.auc_draw.specs.Values.{KeeperValue}
 use Rattle.auc_journal.specs.declared.append_refusal.AppendRefusal.{AppendRefusal}
 use Rattle.auc_journal.specs.declared.append_refusal.AppendRefusal.TheVariants.{StoreFault, StoreFull}
-use Rattle.auc_journal.specs.Image.{reserved_in}
-use Rattle.auc_journal.specs.Durable.{Admits, AdmitsAll, IsDurable}
+use Rattle.auc_journal.specs.Image.{Frame, reserved_in}
+use Rattle.auc_journal.specs.Durable.{Admits, AdmitsAll, IsDurable, IsTold}
 use Rattle.auc_journal.specs.Journal.{JournalState, frame_for, frames_for, imsi_at, limits_of, reserved_at}
 use Rattle.auc_journal.specs.Limits.{AreLimits}
+use Rattle.auc_journal.specs.Settled.{IsAppendingAll, IsSettled, LeavesOnly}
 use Rattle.auc_journal.proofs.Facts.{durable_more, limits_at, limits_raised, one_place, reserved_rises}
-use Rattle.auc_keeper.specs.Keeper.{KeeperState, MayRise, Since, set_all}
+use Rattle.auc_keeper.specs.Keeper.{IsLeft, KeeperState, MayRise, Since, set_all}
 use Rattle.auc_keeper.proofs.GroupLemmas.{AreApart, admits_group, limits_set, reserved_all, set_own}
+use Rattle.auc_keeper.proofs.MomentLemmas.{append_left, begins_left, leaves_less, left_more}
 
 none_some : (stop : Option Stop) (why : Stop) → stop ≡ None → stop ≡ Some why → ⊥
 none_some stop why none some = cc
@@ -69,11 +72,24 @@ group_each old journal items differ limits apart known rise imsis are = λ j d m
     let there : (get_or items j d).0 < length journal.imsis = subst (λ (l : List Identity). (get_or items j d).0 < length l) (sym imsis) (known j d more) in
     (sym (limits_at journal (get_or items j d).0 there) ∙ sym same ∙ own, own)
 
-module _ {D : Type 0} (seen : D → Option (List ℕ)) (may_leave : D → List ℕ → Type 0) (faults : D → ℕ) where
+going : (failed : Bool) → (failed ≡ true → ⊥) → failed ≡ false
+going true never = absurd (never refl)
+going false never = refl
+
+single : (P : ℕ × ℕ → Type 0) (item : ℕ × ℕ) → P item → All P (item ∷ [])
+single P item is = All-cons P item [] is (All-nil P)
+
+module _ {D : Type 0} (seen : D → Option (List ℕ)) (may_leave : D → List ℕ → Type 0) (faults moment : D → ℕ) (left_since : D → ℕ → List ℕ → Type 0) where
+  -- what an append says of a crash at any moment
+  abbrev pub LeavesAppending : JournalState D → JournalState D → List Frame → ℕ → Type 0
+  LeavesAppending old new added size =
+      (frames : List Frame) → IsSettled seen may_leave old.disk frames old.place → (file : List ℕ) → seen old.disk ≡ Some file
+      → LeavesOnly moment left_since old.disk new.disk (IsAppendingAll frames old.place added size)
+
   -- as the round begins
-  pub new_since : (journal : JournalState D) (pass : KeeperValue) → pass.limits ≡ limits_of journal → journal.failed ≡ false → pass.stop ≡ None
-      → Since seen may_leave faults journal (record { journal = journal; pass = pass })
-  new_since journal pass limits ready running = record {
+  pub new_since : ((disk : D) (image : List ℕ) → left_since disk (moment disk) image → may_leave disk image) → (journal : JournalState D) (pass : KeeperValue) → pass.limits ≡ limits_of journal → journal.failed ≡ false → pass.stop ≡ None
+      → Since seen may_leave faults moment left_since journal (record { journal = journal; pass = pass })
+  new_since only_now journal pass limits ready running = record {
     subscribers = refl;
     limits = limits;
     rises = λ i inside. omega arith;
@@ -82,11 +98,14 @@ module _ {D : Type 0} (seen : D → Option (List ℕ)) (may_leave : D → List �
     quiet = λ other. refl;
     full = λ is. absurd (none_some pass.stop _ running is);
     durable = λ from most was. durable_more seen may_leave from most (λ i. max (most i) (slice_index pass.seen i + 64)) journal (λ i inside. omega arith) was;
+    always = λ from most was told.
+        leaves_less moment left_since journal.disk journal.disk (IsLeft told.0 journal most) (IsLeft told.0 journal (λ i. max (most i) (slice_index pass.seen i + 64)))
+        (left_more told.0 journal most (λ i. max (most i) (slice_index pass.seen i + 64)) (λ i inside. omega arith)) (begins_left seen may_leave moment left_since only_now from most journal was told);
   }
 
   -- after a look at a number word
   pub looked_since : (opening : JournalState D) (old : KeeperState D) (sub word : ℕ) → slice_index old.pass.seen sub ≤ word
-      → Since seen may_leave faults opening old → Since seen may_leave faults opening (record { journal = old.journal; pass = record old.pass { seen = slice_set old.pass.seen sub word } })
+      → Since seen may_leave faults moment left_since opening old → Since seen may_leave faults moment left_since opening (record { journal = old.journal; pass = record old.pass { seen = slice_set old.pass.seen sub word } })
   looked_since opening old sub word le since = record {
     subscribers = since.subscribers;
     limits = since.limits;
@@ -101,7 +120,29 @@ module _ {D : Type 0} (seen : D → Option (List ℕ)) (may_leave : D → List �
     durable = λ from most was.
         durable_more seen may_leave from (λ i. max (most i) (slice_index old.pass.seen i + 64)) (λ i. max (most i) (slice_index (slice_set old.pass.seen sub word) i + 64)) old.journal
         (λ i inside. let rise = seen_rises old.pass.seen sub word i le in omega (arith, rise)) (since.durable from most was);
+    always = λ from most was told.
+        leaves_less moment left_since opening.disk old.journal.disk (IsLeft told.0 opening (λ i. max (most i) (slice_index old.pass.seen i + 64)))
+        (IsLeft told.0 opening (λ i. max (most i) (slice_index (slice_set old.pass.seen sub word) i + 64)))
+        (left_more told.0 opening (λ i. max (most i) (slice_index old.pass.seen i + 64)) (λ i. max (most i) (slice_index (slice_set old.pass.seen sub word) i + 64))
+        (λ i inside. let rise = seen_rises old.pass.seen sub word i le in omega (arith, rise))) (since.always from most was told);
   }
+
+  -- what an append leaves at any moment, if its bound is the one of the number words
+  append_always : (opening : JournalState D) (old : KeeperState D) (journal : JournalState D) (added : List Frame) (size : ℕ) → old.pass.stop ≡ None
+      → ((most : ℕ → ℕ) → AdmitsAll old.journal added (λ i. max (most i) (slice_index old.pass.seen i + 64))) → LeavesAppending old.journal journal added size
+      → Since seen may_leave faults moment left_since opening old → (from : D) (most : ℕ → ℕ) → IsDurable seen may_leave from most opening → (told : IsTold seen may_leave from)
+      → LeavesOnly moment left_since opening.disk journal.disk (IsLeft told.0 opening (λ i. max (most i) (slice_index old.pass.seen i + 64)))
+  append_always opening old journal added size running top leaves since from most was told =
+      append_left seen may_leave moment left_since told.0 (λ i. max (most i) (slice_index old.pass.seen i + 64)) opening old.journal added since.subscribers since.rises (top most)
+      ((since.durable from most was).ready told (going old.journal.failed (λ is. none_some old.pass.stop Fault running (since.failed.0 is))))
+      size journal.disk leaves (since.always from most was told)
+
+  -- a bound for the number words is one for a subscriber's frame
+  frame_admitted : (old : KeeperState D) (sub limit : ℕ) (most : ℕ → ℕ) → AllPairs (λ a b. a ≢ b) old.journal.imsis → sub < length old.journal.imsis → limit ≤ slice_index old.pass.seen sub + 64
+      → AdmitsAll old.journal (frame_for old.journal sub limit ∷ []) (λ i. max (most i) (slice_index old.pass.seen i + 64))
+  frame_admitted old sub limit most differ there near =
+      admits_group old.journal.imsis differ (λ i. max (most i) (slice_index old.pass.seen i + 64)) ((sub, limit) ∷ [])
+      (single (λ item. item.0 < length old.journal.imsis) (sub, limit) there) (single (λ item. item.1 ≤ max (most item.0) (slice_index old.pass.seen item.0 + 64)) (sub, limit) (omega (arith, near)))
 
   -- after an append that was refused
   pub stopped_since : (opening : JournalState D) (old : KeeperState D) (journal : JournalState D) (sub limit : ℕ) (why : Stop)
@@ -110,8 +151,9 @@ module _ {D : Type 0} (seen : D → Option (List ℕ)) (may_leave : D → List �
       → (why ≡ Fault → Rose (faults old.journal.disk) (faults journal.disk)) → (why ≢ Fault → faults journal.disk ≡ faults old.journal.disk) → (why ≡ Full → 2 ^ 30 < journal.place + 20)
       → ((from : D) (most : ℕ → ℕ) → Admits old.journal sub limit most
       → IsDurable seen may_leave from most old.journal → IsDurable seen may_leave from most journal)
-      → Since seen may_leave faults opening old → Since seen may_leave faults opening (record { journal = journal; pass = record old.pass { stop = Some why } })
-  stopped_since opening old journal sub limit why running differ there near above imsis limits failed rose quiet full bounded since =
+      → LeavesAppending old.journal journal (frame_for old.journal sub limit ∷ []) 19
+      → Since seen may_leave faults moment left_since opening old → Since seen may_leave faults moment left_since opening (record { journal = journal; pass = record old.pass { stop = Some why } })
+  stopped_since opening old journal sub limit why running differ there near above imsis limits failed rose quiet full bounded leaves since =
       let before : faults old.journal.disk ≡ faults opening.disk = since.quiet (λ is. none_some old.pass.stop _ running is) in
       record {
         subscribers = imsis ∙ since.subscribers;
@@ -130,6 +172,7 @@ module _ {D : Type 0} (seen : D → Option (List ℕ)) (may_leave : D → List �
             bounded from (λ i. max (most i) (slice_index old.pass.seen i + 64))
             (λ i inside same. near_each old.pass.seen most limit sub i (one_place old.journal.imsis differ i sub inside there same) near)
             (since.durable from most was);
+        always = append_always opening old journal (frame_for old.journal sub limit ∷ []) 19 running (λ most. frame_admitted old sub limit most differ there near) leaves since;
       }
 
   pub reserved_since : (opening : JournalState D) (old : KeeperState D) (journal : JournalState D) (sub limit : ℕ)
@@ -139,8 +182,9 @@ module _ {D : Type 0} (seen : D → Option (List ℕ)) (may_leave : D → List �
       → AreLimits journal.limits (old.journal.limits ++ frame_for old.journal sub limit ∷ [])
       → ((from : D) (most : ℕ → ℕ) → Admits old.journal sub limit most
       → IsDurable seen may_leave from most old.journal → IsDurable seen may_leave from most journal)
-      → Since seen may_leave faults opening old → Since seen may_leave faults opening (record { journal = journal; pass = record old.pass { limits = slice_set old.pass.limits sub limit } })
-  reserved_since opening old journal sub limit running differ there less near imsis ready quiet are bounded since = record {
+      → LeavesAppending old.journal journal (frame_for old.journal sub limit ∷ []) 19
+      → Since seen may_leave faults moment left_since opening old → Since seen may_leave faults moment left_since opening (record { journal = journal; pass = record old.pass { limits = slice_set old.pass.limits sub limit } })
+  reserved_since opening old journal sub limit running differ there less near imsis ready quiet are bounded leaves since = record {
     subscribers = imsis ∙ since.subscribers;
     limits = ap (λ (l : List ℕ). slice_set l sub limit) since.limits ∙ sym (limits_raised old.journal journal sub limit imsis are differ there less);
     rises = λ i inside. omega (arith, since.rises i inside, reserved_rises old.journal journal sub limit imsis are i);
@@ -152,6 +196,7 @@ module _ {D : Type 0} (seen : D → Option (List ℕ)) (may_leave : D → List �
         bounded from (λ i. max (most i) (slice_index old.pass.seen i + 64))
         (λ i inside same. near_each old.pass.seen most limit sub i (one_place old.journal.imsis differ i sub inside there same) near)
         (since.durable from most was);
+    always = append_always opening old journal (frame_for old.journal sub limit ∷ []) 19 running (λ most. frame_admitted old sub limit most differ there near) leaves since;
   }
 
   -- a bound for the number words is one for the limits of a group
@@ -167,8 +212,9 @@ module _ {D : Type 0} (seen : D → Option (List ℕ)) (may_leave : D → List �
       → AreLimits journal.limits (old.journal.limits ++ frames_for old.journal items)
       → ((from : D) (most : ℕ → ℕ) → AdmitsAll old.journal (frames_for old.journal items) most
       → IsDurable seen may_leave from most old.journal → IsDurable seen may_leave from most journal)
-      → Since seen may_leave faults opening old → Since seen may_leave faults opening (record { journal = journal; pass = record old.pass { limits = set_all old.pass.limits items } })
-  group_since opening old journal items running differ limits apart known rise imsis ready quiet are bounded since = record {
+      → LeavesAppending old.journal journal (frames_for old.journal items) (4 + 17 * length items)
+      → Since seen may_leave faults moment left_since opening old → Since seen may_leave faults moment left_since opening (record { journal = journal; pass = record old.pass { limits = set_all old.pass.limits items } })
+  group_since opening old journal items running differ limits apart known rise imsis ready quiet are bounded leaves since = record {
     subscribers = imsis ∙ since.subscribers;
     limits = group_limits old journal items differ limits apart known rise imsis are;
     rises = λ i inside. omega (arith, since.rises i inside, reserved_all old.journal journal items imsis are i);
@@ -177,6 +223,7 @@ module _ {D : Type 0} (seen : D → Option (List ℕ)) (may_leave : D → List �
     quiet = λ other. quiet ∙ since.quiet other;
     full = λ is. absurd (none_some old.pass.stop _ running is);
     durable = λ from most was. bounded from (λ i. max (most i) (slice_index old.pass.seen i + 64)) (group_admitted old most items differ known rise) (since.durable from most was);
+    always = append_always opening old journal (frames_for old.journal items) (4 + 17 * length items) running (λ most. group_admitted old most items differ known rise) leaves since;
   }
 
   -- after the append of a group failed
@@ -185,8 +232,9 @@ module _ {D : Type 0} (seen : D → Option (List ℕ)) (may_leave : D → List �
       → journal.imsis ≡ old.journal.imsis → journal.limits ≡ old.journal.limits → journal.failed ≡ true → Rose (faults old.journal.disk) (faults journal.disk)
       → ((from : D) (most : ℕ → ℕ) → AdmitsAll old.journal (frames_for old.journal items) most
       → IsDurable seen may_leave from most old.journal → IsDurable seen may_leave from most journal)
-      → Since seen may_leave faults opening old → Since seen may_leave faults opening (record { journal = journal; pass = record old.pass { stop = Some Fault } })
-  group_stopped_since opening old journal items running differ known rise imsis limits failed rose bounded since =
+      → LeavesAppending old.journal journal (frames_for old.journal items) (4 + 17 * length items)
+      → Since seen may_leave faults moment left_since opening old → Since seen may_leave faults moment left_since opening (record { journal = journal; pass = record old.pass { stop = Some Fault } })
+  group_stopped_since opening old journal items running differ known rise imsis limits failed rose bounded leaves since =
       let before : faults old.journal.disk ≡ faults opening.disk = since.quiet (λ is. none_some old.pass.stop _ running is) in
       record {
         subscribers = imsis ∙ since.subscribers;
@@ -199,6 +247,7 @@ module _ {D : Type 0} (seen : D → Option (List ℕ)) (may_leave : D → List �
         quiet = λ other. absurd (other refl);
         full = λ is. absurd (no_full is);
         durable = λ from most was. bounded from (λ i. max (most i) (slice_index old.pass.seen i + 64)) (group_admitted old most items differ known rise) (since.durable from most was);
+        always = append_always opening old journal (frames_for old.journal items) (4 + 17 * length items) running (λ most. group_admitted old most items differ known rise) leaves since;
       }
     where
       no_full : (let stop : Option Stop = Some Fault in stop) ≡ Some Full → ⊥

@@ -1,2 +1,4 @@
+pub mod Facts
 mod GroupLemmas
 mod KeeperLemmas
+mod MomentLemmas

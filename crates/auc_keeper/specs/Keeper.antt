@@ -5,9 +5,11 @@ use Rattle.auc_edge.specs.declared.stop.Stop.{Stop}
 use Rattle.auc_edge.specs.declared.stop.Stop.TheVariants.{Fault, Full}
 use Rattle.auc_sqn.specs.Number.{max_seq}
 use Rattle.auc_draw.specs.Values.{KeeperValue}
-use Rattle.auc_journal.specs.Durable.{IsDurable}
+use Rattle.auc_journal.specs.Durable.{IsBetween, IsDurable, IsTold}
+use Rattle.auc_journal.specs.Image.{Keeps}
 use Rattle.auc_journal.specs.Journal.{JournalState, NeedsFrame, frame_for, frames_for, limits_of, reserved_at}
 use Rattle.auc_journal.specs.Limits.{AreLimits}
+use Rattle.auc_journal.specs.Settled.{IsClosable, LeavesOnly}
 use Rattle.auc_keeper.specs.declared.keeper.Ensured.{Ensured}
 use Rattle.auc_keeper.specs.declared.keeper.Ensured.TheVariants.{Yes, Stopped}
 use Rattle.auc_keeper.specs.declared.keeper.Prepared.{Prepared}
@@ -103,8 +105,15 @@ pub record Prepares {D : Type 0} (items : List (ℕ × ℕ)) (old : KeeperState 
   -- and the group is passed, if the file would have more than 2^30 bytes
   pub full : old.pass.stop ≡ None → 2 ^ 30 < old.journal.place + 1 + (4 + 17 * length items) → result ≡ prepared.Passed (old.journal.place + 1)
 
+-- what a crash may leave since a round began with this journal, on a disk that had told these bytes: limits between those of
+-- the opening and a bound, none of any identity below what the bytes reserve, and a gate that can be closed
+pub record IsLeft {D : Type 0} (file : List ℕ) (opening : JournalState D) (most : ℕ → ℕ) (image : List ℕ) : Type 0 where
+  pub between : IsBetween opening most image
+  pub keeps : Keeps file image
+  pub closable : IsClosable image
+
 -- what holds of a keeper since its round began with this journal
-pub record Since {D : Type 0} (seen : D → Option (List ℕ)) (may_leave : D → List ℕ → Type 0) (faults : D → ℕ) (opening : JournalState D) (k : KeeperState D) : Type 0 where
+pub record Since {D : Type 0} (seen : D → Option (List ℕ)) (may_leave : D → List ℕ → Type 0) (faults moment : D → ℕ) (left_since : D → ℕ → List ℕ → Type 0) (opening : JournalState D) (k : KeeperState D) : Type 0 where
   pub subscribers : k.journal.imsis ≡ opening.imsis
   -- the limits of the pass are the journal's, and none fell
   pub limits : k.pass.limits ≡ limits_of k.journal
@@ -119,3 +128,6 @@ pub record Since {D : Type 0} (seen : D → Option (List ℕ)) (may_leave : D �
   -- number that was seen
   pub durable : (from : D) (most : ℕ → ℕ) → IsDurable seen may_leave from most opening
       → IsDurable seen may_leave from (λ i. max (most i) (slice_index k.pass.seen i + 64)) k.journal
+  -- and so did a crash at any moment since the round began, also one during an append that failed
+  pub always : (from : D) (most : ℕ → ℕ) → IsDurable seen may_leave from most opening → (told : IsTold seen may_leave from)
+      → LeavesOnly moment left_since opening.disk k.journal.disk (IsLeft told.0 opening (λ i. max (most i) (slice_index k.pass.seen i + 64)))

@@ -62,7 +62,7 @@ impl<D: Disk + Drop> Keeper<D> {
         requires differ { AllPairs (λ a b. a ≢ b) journal.imsis }
 
         ensures parts { result ≡ record { journal = journal; pass = pass } }
-        ensures since { Since D.seen D.may_leave D.faults journal result }
+        ensures since { Since D.seen D.may_leave D.faults D.moment D.left_since journal result }
     {
         Keeper {
             journal,
@@ -81,8 +81,8 @@ impl<D: Disk + Drop> Keeper<D> {
         ensures rises { slice_index self.old.pass.seen sub ≤ result }
 
         // What held since the round began, holds.
-        ensures since { (opening : JournalState D) → Since D.seen D.may_leave D.faults opening self.old
-            → Since D.seen D.may_leave D.faults opening self.new }
+        ensures since { (opening : JournalState D) → Since D.seen D.may_leave D.faults D.moment D.left_since opening self.old
+            → Since D.seen D.may_leave D.faults D.moment D.left_since opening self.new }
     {
         self.pass.look(book, sub)
     }
@@ -107,8 +107,8 @@ impl<D: Disk + Drop> Keeper<D> {
         ensures calls { D.calls self.new.journal.disk ≤ D.calls self.old.journal.disk + 4 }
 
         // What held since the round began, holds.
-        ensures since { (opening : JournalState D) → Since D.seen D.may_leave D.faults opening self.old
-            → Since D.seen D.may_leave D.faults opening self.new }
+        ensures since { (opening : JournalState D) → Since D.seen D.may_leave D.faults D.moment D.left_since opening self.old
+            → Since D.seen D.may_leave D.faults D.moment D.left_since opening self.new }
     {
         if let Some(stop) = self.stop {
             return Ensured::Stopped(stop);
@@ -143,8 +143,8 @@ impl<D: Disk + Drop> Keeper<D> {
         ensures calls { D.calls self.new.journal.disk ≤ D.calls self.old.journal.disk + 4 }
 
         // What held since the round began, holds.
-        ensures since { (opening : JournalState D) → Since D.seen D.may_leave D.faults opening self.old
-            → Since D.seen D.may_leave D.faults opening self.new }
+        ensures since { (opening : JournalState D) → Since D.seen D.may_leave D.faults D.moment D.left_since opening self.old
+            → Since D.seen D.may_leave D.faults D.moment D.left_since opening self.new }
     {
         match self.stop {
             Some(stop) => Prepared::Stopped(stop),
@@ -180,8 +180,8 @@ impl<D: Disk + Drop> Keeper<D> {
         ensures full { 2 ^ 30 < self.old.journal.place + 20 → result ≡ Ensured.Stopped stop.Full }
         ensures told { Tells sub n result self.new }
         ensures calls { D.calls self.new.journal.disk ≤ D.calls self.old.journal.disk + 4 }
-        ensures since { (opening : JournalState D) → Since D.seen D.may_leave D.faults opening self.old
-            → Since D.seen D.may_leave D.faults opening self.new }
+        ensures since { (opening : JournalState D) → Since D.seen D.may_leave D.faults D.moment D.left_since opening self.old
+            → Since D.seen D.may_leave D.faults D.moment D.left_since opening self.new }
     {
         let limit = next_limit(n);
         match self.journal.append(sub, limit) {
@@ -216,8 +216,8 @@ impl<D: Disk + Drop> Keeper<D> {
             → slice_index self.new.pass.limits sub ≡ slice_index self.old.pass.limits sub }
         ensures subscribers { self.new.journal.imsis ≡ self.old.journal.imsis }
         ensures calls { D.calls self.new.journal.disk ≤ D.calls self.old.journal.disk + 4 }
-        ensures since { (opening : JournalState D) → Since D.seen D.may_leave D.faults opening self.old
-            → Since D.seen D.may_leave D.faults opening self.new }
+        ensures since { (opening : JournalState D) → Since D.seen D.may_leave D.faults D.moment D.left_since opening self.old
+            → Since D.seen D.may_leave D.faults D.moment D.left_since opening self.new }
     {
         match self.journal.append_group(items) {
             Ok(()) => {

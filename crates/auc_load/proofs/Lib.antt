@@ -1,2 +1,4 @@
 mod InputLemmas
+mod PieceLemmas
 mod SummaryLemmas
+mod VectorLemmas

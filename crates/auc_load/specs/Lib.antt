@@ -1,3 +1,4 @@
 pub mod Words
 pub mod Input
 pub mod Summary
+pub mod Pieces

@@ -1,5 +1,5 @@
 -- The words `load KEY SUBSCRIBERS JOBS WORKERS`, of which the last four are decimal numbers of 1 to 20 digits.
-use Rattle.std.specs.Prelude.{ℕ, ◌==◌, ◌^◌, ◌-◌, ◌≤◌, ◌<◌, nat_le, List, [], length, codes, Option, Some, None, if◌then◌else◌, slice_index_or}
+use Rattle.std.specs.Prelude.{ℕ, ◌==◌, ◌^◌, ◌-◌, ◌≤◌, nat_le, List, [], length, codes, Option, Some, None, if◌then◌else◌, slice_index_or}
 use Rattle.std.specs.Option.{option_and_then}
 use Rattle.std.specs.Str.{bytes_eq}
 use Rattle.auc_subs.specs.Subscriber.{most_subscribers}

@@ -70,7 +70,7 @@ fn print_lines(
     ensures grows { IsFrontOf out.old out.new }
     ensures fits { OnOk result (RoundFits round.now) }
 {
-    print_line(b"round", &[Word::Number(round.number as u64)], out)?;
+    print_line(b"round", &[Word::Number(round.number)], out)?;
     print_jobs(round.jobs.as_slice(), vectors, set, full, out)?;
     print_closings(round.closings.as_slice(), set.subs, out)?;
     print_sessions(round.sessions.as_slice(), out)?;

@@ -1,8 +1,7 @@
 -- For the top call: each cause comes to its refusal, if the shelf tells its files and the disk its bytes.
-use Rattle.std.proofs.Common.{◌≡◌, ℕ, ◌<◌, true, false, List, [], ◌∷◌, length, Option, Some, None, Result, Ok, Err, IfErr, ◌⊎◌, inl, inr, refl, sym, ◌∙◌, ap, subst, arith}
+use Rattle.std.proofs.Common.{◌≡◌, ℕ, ◌<◌, List, [], ◌∷◌, length, Option, Some, None, Result, Ok, Err, IfErr, ◌⊎◌, inl, inr, refl, sym, ◌∙◌, ap, subst, arith}
 use Rattle.auc_edge.specs.Shelf.{File, IsLonger, IsLongerFile, file_of}
 use Rattle.auc_forms.specs.Algorithm.{algorithm_named}
-use Rattle.auc_forms.specs.Reserved.{asks_reserved}
 use Rattle.auc_forms.specs.declared.algorithm.AlgorithmForm.{AlgorithmForm}
 use Rattle.auc_journal.specs.Image.{read_image}
 use Rattle.auc_load.specs.Words.{load_named}
@@ -16,14 +15,17 @@ use Rattle.auc_run.specs.Inner.{FilesLeave, FilesStop, IsBeforeJournal, Stops, T
 use Rattle.auc_run.specs.Outcome.{AreRead, AreRight, AreUnknown, AreWrong, BeginsWith, HasText, IsCause, IsReadNext, NeedsNoJournal, OpensJournal, max_file}
 use Rattle.auc_run.specs.Refusal.{MayRefuse, MayStop, status_of}
 use Rattle.auc_run.specs.Words.{Files, files_named}
-use Rattle.auc_run.proofs.TopLemmas.{cause_of, full_files}
+use Rattle.auc_run.specs.Telling.{IsLongTold, journal_named}
+use Rattle.auc_run.proofs.TopLemmas.{HasCause, cause_of, full_files}
+use Rattle.auc_run.specs.declared.forms.JournalForm.{JournalForm}
+use Rattle.auc_run.specs.declared.forms.JournalForm.TheVariants as telling
 use Rattle.auc_run.specs.declared.refusal.Refusal.{Refusal}
 use Rattle.auc_run.specs.declared.refusal.Refusal.TheVariants as refused
 use Rattle.auc_run.specs.declared.status.Status.{Status}
 use Rattle.auc_run.specs.declared.status.Status.TheVariants as status
 
 -- a result is of one kind
-ok_err : {A E : Type 0} (x : Result A E) (a : A) (e : E) → x ≡ Ok a → x ≡ Err e → ⊥
+pub ok_err : {A E : Type 0} (x : Result A E) (a : A) (e : E) → x ≡ Ok a → x ≡ Err e → ⊥
 ok_err x a e ok err = apart (sym ok ∙ err)
   where
     apart : Ok a ≡ Err e → ⊥
@@ -231,14 +233,17 @@ comes_files there files seen cause refused.TooLong ended mid new wrong stop (inl
     inl (is ∙ one_wrong there files refused.TooLong cause (judged there files refused.TooLong stop) (judged there files cause wrong))
 comes_files there files seen cause refused.TooLong ended mid new wrong stop (inr untold) = absurd untold
 
--- the word `reserved` names no file
-pub asks_unnamed : (words : List (List ℕ)) → asks_reserved words ≡ true → files_named words ≡ None
-asks_unnamed [] asks = refl
-asks_unnamed (word ∷ []) asks = refl
-asks_unnamed (word ∷ next ∷ more) asks = absurd (apart asks)
-  where
-    apart : false ≡ true → ⊥
-    apart same = cc
+-- words that tell the journal have no other form
+pub telling_alone : (words : List (List ℕ)) (form : JournalForm) → journal_named words ≡ Some form → (files_named words ≡ None) × (algorithm_named words ≡ None) × (load_named words ≡ None)
+telling_alone [] form is = absurd (some_none None form is refl)
+telling_alone (word ∷ []) form is = (refl, refl, refl)
+telling_alone (word ∷ next ∷ more) form is = absurd (some_none None form is refl)
+
+-- so of files it is one of them that is too long
+pub files_long : (words : List (List ℕ)) (told : Option (List File)) (files : Files) (seen : Option (List ℕ)) → files_named words ≡ Some files → HasCause refused.TooLong words told seen
+    → IsCause words told seen refused.TooLong
+files_long words told files seen named (inl cause) = cause
+files_long words told files seen named (inr (form, asks, over)) = absurd (some_none (files_named words) files named (telling_alone words form asks).0)
 
 -- words that name files have no other form
 named_alone : (words : List (List ℕ)) (files : Files) → files_named words ≡ Some files → (algorithm_named words ≡ None) × (load_named words ≡ None)
@@ -277,7 +282,7 @@ comes_named : (words : List (List ℕ)) (there : List File) (seen : Option (List
 comes_named words there seen cause refusal ended mid new files named wrong (inl (others, is, stop)) tells =
     comes_files there files seen cause refusal ended mid new wrong (subst (λ (fs : Files). FilesStop (Some there) fs seen refusal) (some_same (files_named words) others files is named) stop) tells
 comes_named words there seen cause refusal ended mid new files named wrong (inr (inl (form, none, is, stop))) tells = absurd (some_none (files_named words) files named none)
-comes_named words there seen cause refusal ended mid new files named wrong (inr (inr (inl (none, no_algorithm, asks, stop)))) tells = absurd (some_none (files_named words) files named none)
+comes_named words there seen cause refusal ended mid new files named wrong (inr (inr (inl (form, none, no_algorithm, asks, stop)))) tells = absurd (some_none (files_named words) files named none)
 comes_named words there seen cause refusal ended mid new files named wrong (inr (inr (inr (none, no_algorithm, asks, stop)))) tells = absurd (some_none (files_named words) files named none)
 
 -- words of no form
@@ -285,10 +290,7 @@ comes_usage : (words : List (List ℕ)) (told : Option (List File)) (seen : Opti
     → Stops words told seen refusal → Tells refusal ended mid new → MayRefuse refused.Usage ended
 comes_usage words told seen refusal ended mid new (none, no_algorithm, no_load, no_asks) (inl (files, named, stop)) tells = absurd (some_none (files_named words) files named none)
 comes_usage words told seen refusal ended mid new (none, no_algorithm, no_load, no_asks) (inr (inl (form, unnamed, named, stop))) tells = absurd (some_none (algorithm_named words) form named no_algorithm)
-comes_usage words told seen refusal ended mid new (none, no_algorithm, no_load, no_asks) (inr (inr (inl (unnamed, unvalued, asks, stop)))) tells = absurd (apart (sym asks ∙ no_asks))
-  where
-    apart : true ≡ false → ⊥
-    apart same = cc
+comes_usage words told seen refusal ended mid new (none, no_algorithm, no_load, no_asks) (inr (inr (inl (form, unnamed, unvalued, asks, stop)))) tells = absurd (some_none (journal_named words) form asks no_asks)
 comes_usage words told seen refusal ended mid new (none, no_algorithm, no_load, no_asks) (inr (inr (inr (unnamed, unvalued, asks, inl (unloaded, is))))) tells =
     usage_told (subst (λ (r : Refusal). Tells r ended mid new) is tells)
   where
@@ -299,71 +301,76 @@ comes_usage words told seen refusal ended mid new (none, no_algorithm, no_load, 
 
 -- a journal that is none
 unopened_files : (words : List (List ℕ)) (there : List File) (files : Files) (wrong : Refusal) → OpensJournal words (Some there) → files_named words ≡ Some files → AreWrong (Some there) files wrong → ⊥
-unopened_files words there files wrong (inl asks) named is = some_none (files_named words) files named (asks_unnamed words asks)
+unopened_files words there files wrong (inl (form, asks)) named is = some_none (files_named words) files named (telling_alone words form asks).0
 unopened_files words there files wrong (inr (others, other, right)) named is =
     right_wrong there files wrong (subst (λ (fs : Files). AreRight (Some there) fs) (some_same (files_named words) others files other named) right) is
 
-comes_journal : (words : List (List ℕ)) (there : List File) (file : List ℕ) (leaves : List ℕ → Type 0) (place : ℕ) (refusal : Refusal) (ended : Status) (old mid new : Option (List ℕ))
+-- what is told of a journal is too long, so the file is one
+pub long_found : (form : JournalForm) (file : List ℕ) (place : ℕ) → IsLongTold form (Some file) → read_image file ≡ Err place → ⊥
+long_found telling.Reserved file place over none = over
+long_found telling.Compact file place over none = let found = over.is_found file refl in ok_err (read_image file) (record { frames = over.found; end = found.0 }) place found.1 none
+
+comes_journal : (words : List (List ℕ)) (there : List File) (file : List ℕ) (leaves : List ℕ → Type 0) (ever : List ℕ → Type 0) (place : ℕ) (refusal : Refusal) (ended : Status) (old mid new : Option (List ℕ))
     → IsCause words (Some there) (Some file) (refused.NotJournal place) → Stops words (Some there) (Some file) refusal
-    → ((files : Files) → files_named words ≡ Some files → FilesLeave (Some there) files (Some file) leaves (status_of refusal) old mid)
+    → ((files : Files) → files_named words ≡ Some files → FilesLeave (Some there) files (Some file) leaves ever (status_of refusal) old mid)
     → Tells refusal ended mid new → MayRefuse (refused.NotJournal place) ended
-comes_journal words there file leaves place (refused.NotJournal other) ended old mid new cause stops leave (inl (is, line)) = inl is
-comes_journal words there file leaves place (refused.NotJournal other) ended old mid new cause stops leave (inr (inl is)) = inr (inr (inl is))
-comes_journal words there file leaves place (refused.NotJournal other) ended old mid new cause stops leave (inr (inr is)) = inr (inr (inr (inr is)))
-comes_journal words there file leaves place refused.ReadFault ended old mid new cause stops leave (inl (is, line)) = inr (inl is)
-comes_journal words there file leaves place refused.ReadFault ended old mid new cause stops leave (inr untold) = absurd untold
-comes_journal words there file leaves place refused.WriteFault ended old mid new cause stops leave (inl (is, line)) = inr (inr (inl is))
-comes_journal words there file leaves place refused.WriteFault ended old mid new cause stops leave (inr untold) = absurd untold
-comes_journal words there file leaves place refused.StoreFault ended old mid new cause stops leave (inl (is, line)) = inr (inr (inr (inl is)))
-comes_journal words there file leaves place refused.StoreFault ended old mid new cause stops leave (inr untold) = absurd untold
-comes_journal words there file leaves place refused.NoMemory ended old mid new cause stops leave (inl (is, line)) = inr (inr (inr (inr is)))
-comes_journal words there file leaves place refused.NoMemory ended old mid new cause stops leave (inr untold) = absurd untold
-comes_journal words there file leaves place refused.StoreFull ended old mid new (opens, none) stops leave tells =
+comes_journal words there file leaves ever place (refused.NotJournal other) ended old mid new cause stops leave (inl (is, line)) = inl is
+comes_journal words there file leaves ever place (refused.NotJournal other) ended old mid new cause stops leave (inr (inl is)) = inr (inr (inl is))
+comes_journal words there file leaves ever place (refused.NotJournal other) ended old mid new cause stops leave (inr (inr is)) = inr (inr (inr (inr is)))
+comes_journal words there file leaves ever place refused.ReadFault ended old mid new cause stops leave (inl (is, line)) = inr (inl is)
+comes_journal words there file leaves ever place refused.ReadFault ended old mid new cause stops leave (inr untold) = absurd untold
+comes_journal words there file leaves ever place refused.WriteFault ended old mid new cause stops leave (inl (is, line)) = inr (inr (inl is))
+comes_journal words there file leaves ever place refused.WriteFault ended old mid new cause stops leave (inr untold) = absurd untold
+comes_journal words there file leaves ever place refused.StoreFault ended old mid new cause stops leave (inl (is, line)) = inr (inr (inr (inl is)))
+comes_journal words there file leaves ever place refused.StoreFault ended old mid new cause stops leave (inr untold) = absurd untold
+comes_journal words there file leaves ever place refused.NoMemory ended old mid new cause stops leave (inl (is, line)) = inr (inr (inr (inr is)))
+comes_journal words there file leaves ever place refused.NoMemory ended old mid new cause stops leave (inr untold) = absurd untold
+comes_journal words there file leaves ever place refused.StoreFull ended old mid new (opens, none) stops leave tells =
     let files = full_files words (Some there) (Some file) stops in
     let found = (leave files.0 files.1).is_found file refl in
     absurd (ok_err (read_image file) (record { frames = (leave files.0 files.1).found; end = found.0 }) place found.1 (none file refl))
-comes_journal words there file leaves place refused.Usage ended old mid new (opens, none) stops leave tells =
+comes_journal words there file leaves ever place refused.Usage ended old mid new (opens, none) stops leave tells =
     let cause = cause_of words (Some there) (Some file) refused.Usage stops in
     elim opens [
-      | inl asks ↦ absurd (apart (sym asks ∙ cause.3))
+      | inl asks ↦ absurd (some_none (journal_named words) asks.0 asks.1 cause.3)
       | inr named ↦ absurd (some_none (files_named words) named.0 named.1 cause.0)
     ]
-  where
-    apart : true ≡ false → ⊥
-    apart same = cc
-comes_journal words there file leaves place (refused.Subscribers row fault) ended old mid new (opens, none) stops leave tells =
+comes_journal words there file leaves ever place (refused.Subscribers row fault) ended old mid new (opens, none) stops leave tells =
     let cause = cause_of words (Some there) (Some file) (refused.Subscribers row fault) stops in
     absurd (unopened_files words there cause.0 (refused.Subscribers row fault) opens cause.1 cause.2)
-comes_journal words there file leaves place (refused.Scenario line fault) ended old mid new (opens, none) stops leave tells =
+comes_journal words there file leaves ever place (refused.Scenario line fault) ended old mid new (opens, none) stops leave tells =
     let cause = cause_of words (Some there) (Some file) (refused.Scenario line fault) stops in
     absurd (unopened_files words there cause.0 (refused.Scenario line fault) opens cause.1 cause.2)
-comes_journal words there file leaves place refused.TooLong ended old mid new (opens, none) stops leave tells =
-    let cause = cause_of words (Some there) (Some file) refused.TooLong stops in
-    absurd (unopened_files words there cause.0 refused.TooLong opens cause.1 cause.2)
+comes_journal words there file leaves ever place refused.TooLong ended old mid new (opens, none) stops leave tells =
+    of_cause (cause_of words (Some there) (Some file) refused.TooLong stops)
+  where
+    of_cause : HasCause refused.TooLong words (Some there) (Some file) → MayRefuse (refused.NotJournal place) ended
+    of_cause (inl cause) = absurd (unopened_files words there cause.0 refused.TooLong opens cause.1 cause.2)
+    of_cause (inr (form, named, over)) = absurd (long_found form file place over (none file refl))
 
-comes : (words : List (List ℕ)) (there : List File) (file : List ℕ) (leaves : List ℕ → Type 0) (cause refusal : Refusal) (ended : Status) (old mid new : Option (List ℕ))
+comes : (words : List (List ℕ)) (there : List File) (file : List ℕ) (leaves : List ℕ → Type 0) (ever : List ℕ → Type 0) (cause refusal : Refusal) (ended : Status) (old mid new : Option (List ℕ))
     → IsCause words (Some there) (Some file) cause → Stops words (Some there) (Some file) refusal
-    → ((files : Files) → files_named words ≡ Some files → FilesLeave (Some there) files (Some file) leaves (status_of refusal) old mid) → Tells refusal ended mid new → MayRefuse cause ended
-comes words there file leaves refused.Usage refusal ended old mid new is stops leave tells = comes_usage words (Some there) (Some file) refusal ended mid new is stops tells
-comes words there file leaves (refused.NotJournal place) refusal ended old mid new is stops leave tells = comes_journal words there file leaves place refusal ended old mid new is stops leave tells
-comes words there file leaves (refused.Subscribers row fault) refusal ended old mid new (files, named, wrong) stops leave tells =
+    → ((files : Files) → files_named words ≡ Some files → FilesLeave (Some there) files (Some file) leaves ever (status_of refusal) old mid) → Tells refusal ended mid new → MayRefuse cause ended
+comes words there file leaves ever refused.Usage refusal ended old mid new is stops leave tells = comes_usage words (Some there) (Some file) refusal ended mid new is stops tells
+comes words there file leaves ever (refused.NotJournal place) refusal ended old mid new is stops leave tells = comes_journal words there file leaves ever place refusal ended old mid new is stops leave tells
+comes words there file leaves ever (refused.Subscribers row fault) refusal ended old mid new (files, named, wrong) stops leave tells =
     comes_named words there (Some file) (refused.Subscribers row fault) refusal ended mid new files named wrong stops tells
-comes words there file leaves (refused.Scenario line fault) refusal ended old mid new (files, named, wrong) stops leave tells =
+comes words there file leaves ever (refused.Scenario line fault) refusal ended old mid new (files, named, wrong) stops leave tells =
     comes_named words there (Some file) (refused.Scenario line fault) refusal ended mid new files named wrong stops tells
-comes words there file leaves refused.TooLong refusal ended old mid new (files, named, wrong) stops leave tells =
+comes words there file leaves ever refused.TooLong refusal ended old mid new (files, named, wrong) stops leave tells =
     comes_named words there (Some file) refused.TooLong refusal ended mid new files named wrong stops tells
-comes words there file leaves refused.ReadFault refusal ended old mid new (files, named, wrong) stops leave tells = absurd wrong
-comes words there file leaves refused.WriteFault refusal ended old mid new (files, named, wrong) stops leave tells = absurd wrong
-comes words there file leaves refused.StoreFault refusal ended old mid new (files, named, wrong) stops leave tells = absurd wrong
-comes words there file leaves refused.StoreFull refusal ended old mid new (files, named, wrong) stops leave tells = absurd wrong
-comes words there file leaves refused.NoMemory refusal ended old mid new (files, named, wrong) stops leave tells = absurd wrong
+comes words there file leaves ever refused.ReadFault refusal ended old mid new (files, named, wrong) stops leave tells = absurd wrong
+comes words there file leaves ever refused.WriteFault refusal ended old mid new (files, named, wrong) stops leave tells = absurd wrong
+comes words there file leaves ever refused.StoreFault refusal ended old mid new (files, named, wrong) stops leave tells = absurd wrong
+comes words there file leaves ever refused.StoreFull refusal ended old mid new (files, named, wrong) stops leave tells = absurd wrong
+comes words there file leaves ever refused.NoMemory refusal ended old mid new (files, named, wrong) stops leave tells = absurd wrong
 
-pub comes_at : (words : List (List ℕ)) (told : Option (List File)) (seen : Option (List ℕ)) (there : List File) (file : List ℕ) (leaves : List ℕ → Type 0) (cause refusal : Refusal) (ended : Status) (old mid new : Option (List ℕ))
+pub comes_at : (words : List (List ℕ)) (told : Option (List File)) (seen : Option (List ℕ)) (there : List File) (file : List ℕ) (leaves : List ℕ → Type 0) (ever : List ℕ → Type 0) (cause refusal : Refusal) (ended : Status) (old mid new : Option (List ℕ))
     → told ≡ Some there → seen ≡ Some file → IsCause words (Some there) (Some file) cause → Stops words told seen refusal
-    → ((files : Files) → files_named words ≡ Some files → FilesLeave told files seen leaves (status_of refusal) old mid) → Tells refusal ended mid new → MayRefuse cause ended
-comes_at words told seen there file leaves cause refusal ended old mid new told_is seen_is is stops leave tells =
-    comes words there file leaves cause refusal ended old mid new is
+    → ((files : Files) → files_named words ≡ Some files → FilesLeave told files seen leaves ever (status_of refusal) old mid) → Tells refusal ended mid new → MayRefuse cause ended
+comes_at words told seen there file leaves ever cause refusal ended old mid new told_is seen_is is stops leave tells =
+    comes words there file leaves ever cause refusal ended old mid new is
     (subst (λ (s : Option (List ℕ)). Stops words (Some there) s refusal) seen_is (subst (λ (t : Option (List File)). Stops words t seen refusal) told_is stops))
-    (λ files named. subst (λ (s : Option (List ℕ)). FilesLeave (Some there) files s leaves (status_of refusal) old mid) seen_is
-    (subst (λ (t : Option (List File)). FilesLeave t files seen leaves (status_of refusal) old mid) told_is (leave files named)))
+    (λ files named. subst (λ (s : Option (List ℕ)). FilesLeave (Some there) files s leaves ever (status_of refusal) old mid) seen_is
+    (subst (λ (t : Option (List File)). FilesLeave t files seen leaves ever (status_of refusal) old mid) told_is (leave files named)))
     tells

@@ -14,7 +14,7 @@ use Rattle.auc_transcript.proofs.Facts.{early_of_end}
 use Rattle.auc_world.specs.Lines.{numbers_of}
 use Rattle.auc_world.specs.Transcript.{beginning, lines_of}
 use Rattle.auc_world.specs.declared.record.LineRecord.{LineRecord}
-use Rattle.auc_run.specs.Chain.{AreChained, ChainRun, DrewAbove, EachOtherRunIsOfAChain, EachRunDrawsAboveEarlierRuns, EachServedRunIsOfAChain, EachServiceIsOfAChain, Releases, ServedOn, identities}
+use Rattle.auc_run.specs.Chain.{AreChained, ChainRun, DrewAbove, EachCutRunIsOfAChain, EachOtherRunIsOfAChain, EachRunDrawsAboveEarlierRuns, EachServedRunIsOfAChain, EachServiceIsOfAChain, Releases, ServedOn, identities}
 use Rattle.auc_run.specs.Crash.{IsFound, limits_in}
 use Rattle.auc_run.specs.Outcome.{IsWritten}
 use Rattle.auc_run.specs.Output.{setting_of}
@@ -92,8 +92,8 @@ chain_above file (run ∷ runs) closable (began, more) =
     (chain_above run.image runs (began.closable closable) more)
 
 -- what makes a run one of a chain
-pub served_chained : {D : Type 0} (seen : D → Option (List ℕ)) (may_leave : D → List ℕ → Type 0) → EachServedRunIsOfAChain seen may_leave
-served_chained seen may_leave from disk shelf files status old new told image runs remembers leaves = record {
+pub served_chained : {D : Type 0} (seen : D → Option (List ℕ)) (may_leave : D → List ℕ → Type 0) (moment : D → ℕ) (left_since : D → ℕ → List ℕ → Type 0) → EachServedRunIsOfAChain seen may_leave moment left_since
+served_chained seen may_leave moment left_since from disk shelf files status old new told image runs remembers leaves = record {
   rounds = inr (record {
     script = runs.script;
     found = runs.found;
@@ -118,6 +118,13 @@ other_chained seen may_leave from disk status old new told image remembers leave
   closable = λ closable. remembers.closable told closable image leaves;
 }
 
+pub cut_chained : {D : Type 0} (seen : D → Option (List ℕ)) (may_leave : D → List ℕ → Type 0) (moment : D → ℕ) (left_since : D → ℕ → List ℕ → Type 0) → EachCutRunIsOfAChain seen may_leave moment left_since
+cut_chained seen may_leave moment left_since from disk status old new told image remembers left = record {
+  rounds = inl refl;
+  keeps = λ closable. ((remembers told closable).each image left).0;
+  closable = λ closable. ((remembers told closable).each image left).1;
+}
+
 -- an output that tells nothing tells nothing of any text
 untold_written : (status : Status) (text : List ℕ) → IsWritten status None None text
 untold_written ended.WriteFault text = record { front = []; rest = text; whole = refl; appended = refl }
@@ -133,8 +140,8 @@ untold_written ended.TooLong text = refl
 untold_written ended.NoMemory text = refl
 
 -- what makes a service one of a chain
-pub service_chained : {D : Type 0} (seen : D → Option (List ℕ)) (may_leave : D → List ℕ → Type 0) → EachServiceIsOfAChain seen may_leave
-service_chained seen may_leave from disk shelf subscribers status old new told image serves remembers leaves =
+pub service_chained : {D : Type 0} (seen : D → Option (List ℕ)) (may_leave : D → List ℕ → Type 0) (moment : D → ℕ) (left_since : D → ℕ → List ℕ → Type 0) → EachServiceIsOfAChain seen may_leave moment left_since
+service_chained seen may_leave moment left_since from disk shelf subscribers status old new told image serves remembers leaves =
     let service = serves.service in
     record {
       rounds = inr (record {

@@ -1,6 +1,9 @@
 mod NameLemmas
 mod EntryLemmas
 mod PrintableLemmas
+mod AlwaysLemmas
+mod QuietLemmas
+mod BlockLemmas
 mod StandLemmas
 mod OpeningLemmas
 mod RememberLemmas
@@ -13,6 +16,7 @@ mod RefusalLemmas
 mod TopLemmas
 mod CauseLemmas
 mod EndLemmas
+mod TellingLemmas
 mod LoadLemmas
 mod ChainLemmas
 mod ServiceLemmas

@@ -491,10 +491,10 @@ load_round_closes load set kept round words is same_rows lawful =
     ∙ ap (λ (n : ℕ). flat_map (λ sub. closing_with sub (drawn_for load sub)) (range_with_len 0 n)) count
 
 -- a round that was served is lawful from the state's words, which are the numbers of the rows
-pub served_lawful : {D : Type 0} (seen : D → Option (List ℕ)) (may_leave : D → List ℕ → Type 0) (set : Setting) (state next : Standing) (jobs : List (List Line)) (round : RoundRecord) (stop : Option Stop)
-    (journal after : JournalState D) → state.words ≡ map (λ (row : Row). row.seq) set.rows → Serves seen may_leave set [] state jobs round stop journal next after
+pub served_lawful : {D : Type 0} (seen : D → Option (List ℕ)) (may_leave : D → List ℕ → Type 0) (moment : D → ℕ) (left_since : D → ℕ → List ℕ → Type 0) (set : Setting) (state next : Standing) (jobs : List (List Line)) (round : RoundRecord) (stop : Option Stop)
+    (journal after : JournalState D) → state.words ≡ map (λ (row : Row). row.seq) set.rows → Serves seen may_leave moment left_since set [] state jobs round stop journal next after
     → (kept : List Kept) × (words : List ℕ) × IsLawfulRound set stop [] kept (map (λ (row : Row). row.seq) set.rows) jobs round words
-served_lawful seen may_leave set state next jobs round stop journal after same serves =
+served_lawful seen may_leave moment left_since set state next jobs round stop journal after same serves =
     (state.kept, serves.words, subst (λ (os : List ℕ). IsLawfulRound set stop [] state.kept os jobs round serves.words) same serves.lawful)
 
 -- if reservations didn't end in the round of a load, its closings are those that the summary has to tell

@@ -8,7 +8,7 @@ use Rattle.auc_edge.specs.Identity.{Identity}
 use Rattle.auc_journal.specs.Image.{reserved_in}
 use Rattle.auc_journal.specs.Journal.{JournalState, imsi_at, limits_of, reserved_at}
 use Rattle.auc_journal.specs.Durable.{IsDurable}
-use Rattle.auc_journal.specs.Opening.{Opens}
+use Rattle.auc_journal.specs.Opening.{LeavesOpening, Opens}
 use Rattle.auc_journal.proofs.Facts.{limits_at}
 use Rattle.auc_sqn.specs.Number.{max_seq, top_of}
 use Rattle.auc_subs.specs.Subscriber.{tops_of}
@@ -97,11 +97,12 @@ same_numbers f g same (imsi ∷ imsis) =
     ap (λ (n : ℕ). n ∷ map f imsis) (same imsi) ∙ ap (λ (rest : List ℕ). g imsi ∷ rest) (same_numbers f g same imsis)
 
 -- what a run begins with
-pub opened_begins : {D E : Type 0} (seen : D → Option (List ℕ)) (may_leave : D → List ℕ → Type 0) (faults : D → ℕ) (rows : List Row) (from : D) (imsis : List Identity) (opening : Result (JournalState D) E)
+pub opened_begins : {D E : Type 0} (seen : D → Option (List ℕ)) (may_leave : D → List ℕ → Type 0) (moment : D → ℕ) (left_since : D → ℕ → List ℕ → Type 0) (faults : D → ℕ) (rows : List Row) (from : D) (imsis : List Identity) (opening : Result (JournalState D) E)
     → imsis ≡ map (λ row. row.imsi) rows → IfOk opening (λ j. Opens seen may_leave from j.disk j.limits j.place) → IfOk opening (λ j. j.imsis ≡ imsis) → IfOk opening (λ j. j.failed ≡ false)
-    → IfOk opening (λ j. faults j.disk ≡ faults from) → IfOk opening (λ j. IsDurable seen may_leave from (λ sub. reserved_at j sub) j) → IfOk opening (Begins seen may_leave faults rows from)
-opened_begins seen may_leave faults rows from imsis (Err e) is opens same ready quiet durable = tt
-opened_begins seen may_leave faults rows from imsis (Ok j) is opens same ready quiet durable = record {
+    → IfOk opening (λ j. faults j.disk ≡ faults from) → IfOk opening (λ j. IsDurable seen may_leave from (λ sub. reserved_at j sub) j)
+    → IfOk opening (λ j. LeavesOpening seen may_leave moment left_since from j.disk) → IfOk opening (Begins seen may_leave moment left_since faults rows from)
+opened_begins seen may_leave moment left_since faults rows from imsis (Err e) is opens same ready quiet durable always = tt
+opened_begins seen may_leave moment left_since faults rows from imsis (Ok j) is opens same ready quiet durable always = record {
   found = opens.frames;
   is_found = λ file told. (j.place, opens.read file told);
   subscribers = same ∙ is;
@@ -110,4 +111,5 @@ opened_begins seen may_leave faults rows from imsis (Ok j) is opens same ready q
   ready = ready;
   durable = durable;
   quiet = quiet;
+  always = always;
 }

@@ -4,7 +4,9 @@ use Rattle.std.proofs.lemmas.List.Elements.{All-nil, All-cons, All-head, All-tai
 use Rattle.auc_edge.specs.Shelf.{File}
 use Rattle.auc_edge.specs.declared.stop.Stop.{Stop}
 use Rattle.auc_edge.specs.declared.stop.Stop.TheVariants.{Full}
+use Rattle.auc_journal.specs.Durable.{IsTold}
 use Rattle.auc_journal.specs.Journal.{JournalState, limits_of}
+use Rattle.auc_journal.specs.Settled.{LeavesOnly}
 use Rattle.auc_lines.specs.declared.part.Part.{Part}
 use Rattle.auc_print.specs.OneText.{AreAtTheirEnds, IsPrintable, PartFits}
 use Rattle.auc_print.proofs.Facts.{are_identities, lawful_at_ends, one_transcript}
@@ -16,13 +18,14 @@ use Rattle.auc_world.proofs.Facts.{length-opened, sixteen_block}
 use Rattle.auc_world.specs.Agreement.{IsRealm}
 use Rattle.auc_world.specs.Transcript.{Course, Leads, beginning}
 use Rattle.auc_world.specs.declared.record.PartRecord.{PartRecord}
-use Rattle.auc_run.specs.Crash.{IsKept, MayLeave, limits_in}
-use Rattle.auc_run.specs.Inner.{Begins, IsKnownPart, IsRead, Laws, RunsParts}
+use Rattle.auc_run.specs.Crash.{IsKept, MayHaveLeft, MayLeave, limits_in}
+use Rattle.auc_run.specs.Inner.{Begins, IsKnownPart, IsLeftInRun, IsRead, Laws, RunsParts}
 use Rattle.auc_run.specs.Outcome.{IsStopOf, IsWritten, RunsFiles, RunsFull}
 use Rattle.auc_run.specs.Output.{IsOutput, IsTranscript, setting_of, text_of}
 use Rattle.auc_run.specs.Words.{Files}
 use Rattle.auc_run.specs.declared.status.Status.{Status}
 use Rattle.auc_run.specs.declared.status.Status.TheVariants.{StoreFull}
+use Rattle.auc_run.proofs.AlwaysLemmas.{any_time}
 use Rattle.auc_run.proofs.HeldLemmas.{held_apart}
 use Rattle.auc_run.proofs.KnownLemmas.{Known}
 use Rattle.auc_run.proofs.PrintableLemmas.{parts_named}
@@ -108,17 +111,17 @@ front_fits rows script served left known cut = record {
 }
 
 -- a scenario that was read was run
-pub files_run : Laws → {D : Type 0} (seen : D → Option (List ℕ)) (may_leave : D → List ℕ → Type 0) (faults : D → ℕ) (told : Option (List File)) (files : Files) (script : Script) (rows : List Row)
+pub files_run : Laws → {D : Type 0} (seen : D → Option (List ℕ)) (may_leave : D → List ℕ → Type 0) (moment : D → ℕ) (left_since : D → ℕ → List ℕ → Type 0) (faults : D → ℕ) (told : Option (List File)) (files : Files) (script : Script) (rows : List Row)
     (from disk : D) (journal : JournalState D) (ended : Status) (old new : Option (List ℕ))
-    → IsRead told files rows script → Known rows script → Begins seen may_leave faults rows from journal
-    → RunsParts seen may_leave (setting_of rows script) script.full from (limits_of journal) (beginning rows (limits_of journal)) script.parts ended disk old new
-    → RunsFiles told files (seen from) (MayLeave seen may_leave from disk) ended old new
-files_run laws {D} seen may_leave faults told files script rows from disk journal ended old new read known begins runs =
+    → IsRead told files rows script → Known rows script → Begins seen may_leave moment left_since faults rows from journal
+    → RunsParts seen may_leave moment left_since (setting_of rows script) script.full from (limits_of journal) (beginning rows (limits_of journal)) script.parts ended disk old new
+    → RunsFiles told files (seen from) (MayLeave seen may_leave from disk) (MayHaveLeft seen may_leave moment left_since from disk) ended old new
+files_run laws {D} seen may_leave moment left_since faults told files script rows from disk journal ended old new read known begins runs =
     with_limits (limits_in rows begins.found)
-    (subst (λ (reserved : List ℕ). RunsParts seen may_leave (setting_of rows script) script.full from reserved (beginning rows reserved) script.parts ended disk old new) begins.limits runs) refl
+    (subst (λ (reserved : List ℕ). RunsParts seen may_leave moment left_since (setting_of rows script) script.full from reserved (beginning rows reserved) script.parts ended disk old new) begins.limits runs) refl
   where
-    with_limits : (reserved : List ℕ) → RunsParts seen may_leave (setting_of rows script) script.full from reserved (beginning rows reserved) script.parts ended disk old new
-        → reserved ≡ limits_in rows begins.found → RunsFiles told files (seen from) (MayLeave seen may_leave from disk) ended old new
+    with_limits : (reserved : List ℕ) → RunsParts seen may_leave moment left_since (setting_of rows script) script.full from reserved (beginning rows reserved) script.parts ended disk old new
+        → reserved ≡ limits_in rows begins.found → RunsFiles told files (seen from) (MayLeave seen may_leave from disk) (MayHaveLeft seen may_leave moment left_since from disk) ended old new
     with_limits reserved runs is = record {
       first = read.first;
       text = read.text;
@@ -140,15 +143,17 @@ files_run laws {D} seen may_leave faults told files script rows from disk journa
           (is_output laws rows script reserved runs.stop runs.served runs.records runs.end (front_fits rows script runs.served runs.left known runs.cut) runs.fits runs.leads);
       written = runs.written;
       kept = subst (λ (limits : List ℕ). (image : List ℕ) → MayLeave seen may_leave from disk image → IsKept ended rows limits runs.end image) is runs.kept;
+      always = any_time seen may_leave moment left_since ended rows from disk (limits_in rows begins.found) runs.end
+          (subst (λ (limits : List ℕ). (told : IsTold seen may_leave from) → LeavesOnly moment left_since from disk (IsLeftInRun told.0 ended rows limits runs.end)) is runs.always);
     }
 
 -- it was run until its journal was full
-pub files_full : {D : Type 0} (seen : D → Option (List ℕ)) (may_leave : D → List ℕ → Type 0) (faults : D → ℕ) (told : Option (List File)) (files : Files) (script : Script) (rows : List Row)
+pub files_full : {D : Type 0} (seen : D → Option (List ℕ)) (may_leave : D → List ℕ → Type 0) (moment : D → ℕ) (left_since : D → ℕ → List ℕ → Type 0) (faults : D → ℕ) (told : Option (List File)) (files : Files) (script : Script) (rows : List Row)
     (from disk : D) (journal : JournalState D) (ended : Status) (old new : Option (List ℕ))
-    → IsRead told files rows script → Begins seen may_leave faults rows from journal
-    → RunsParts seen may_leave (setting_of rows script) script.full from (limits_of journal) (beginning rows (limits_of journal)) script.parts ended disk old new
+    → IsRead told files rows script → Begins seen may_leave moment left_since faults rows from journal
+    → RunsParts seen may_leave moment left_since (setting_of rows script) script.full from (limits_of journal) (beginning rows (limits_of journal)) script.parts ended disk old new
     → ended ≡ StoreFull → RunsFull seen may_leave told files from disk old new
-files_full seen may_leave faults told files script rows from disk journal ended old new read begins runs is =
+files_full seen may_leave moment left_since faults told files script rows from disk journal ended old new read begins runs is =
     let full : runs.stop ≡ Some Full = subst (λ (e : Status). IsStopOf e runs.stop) is runs.stopped in
     record {
       first = read.first;

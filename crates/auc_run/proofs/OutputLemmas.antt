@@ -25,6 +25,7 @@ use Rattle.auc_run.specs.declared.refusal.Refusal.{Refusal}
 use Rattle.auc_run.specs.declared.refusal.Refusal.TheVariants as refused
 use Rattle.auc_run.specs.declared.status.Status.{Status}
 use Rattle.auc_run.specs.declared.status.Status.TheVariants as status
+use Rattle.auc_run.proofs.AlwaysLemmas.{always_covers, always_reserves, since_opening}
 use Rattle.auc_run.proofs.RememberLemmas.{durable_keeps}
 use Rattle.auc_run.proofs.StandLemmas.{kept_covers, kept_reserves}
 
@@ -109,7 +110,7 @@ fits_join records waits made fits waits_fit one =
 
 -- some parts are left; the records so far are a lawful transcript of the parts before them, and the text of all but the
 -- last restarts among them was written
-pub record Serving {D : Type 0} (seen : D → Option (List ℕ)) (may_leave : D → List ℕ → Type 0) (set : Setting) (full : Bool) (from : D) (reserved : List ℕ) (begin : Course)
+pub record Serving {D : Type 0} (seen : D → Option (List ℕ)) (may_leave : D → List ℕ → Type 0) (moment : D → ℕ) (left_since : D → ℕ → List ℕ → Type 0) (set : Setting) (full : Bool) (from : D) (reserved : List ℕ) (begin : Course)
     (number : ℕ) (state : Standing) (journal : JournalState D) (text : List ℕ) (left parts : List Part) (old new : Option (List ℕ)) : Type 0 where
   pub served : List Part
   pub waiting : List Part
@@ -121,17 +122,17 @@ pub record Serving {D : Type 0} (seen : D → Option (List ℕ)) (may_leave : D 
   pub mid : Course
   pub goes_on : Leads set None begin (served ++ waiting) (records ++ waits) mid
   pub early : mid.early ≡ course.early
-  pub on : StandsOn seen may_leave set from reserved mid number state journal
+  pub on : StandsOn seen may_leave moment left_since set from reserved mid number state journal
   pub fits : All PartFits records
   pub waits_fit : All PartFits waits
   pub waits_text : text ≡ transcript_text set full waits
   pub written : Appends old new (transcript_text set full records)
 
 -- no part is served yet
-pub Serving-none : {D : Type 0} (seen : D → Option (List ℕ)) (may_leave : D → List ℕ → Type 0) (set : Setting) (full : Bool) (from : D) (reserved : List ℕ) (begin : Course)
+pub Serving-none : {D : Type 0} (seen : D → Option (List ℕ)) (may_leave : D → List ℕ → Type 0) (moment : D → ℕ) (left_since : D → ℕ → List ℕ → Type 0) (set : Setting) (full : Bool) (from : D) (reserved : List ℕ) (begin : Course)
     (number : ℕ) (state : Standing) (journal : JournalState D) (text : List ℕ) (parts : List Part) (old : Option (List ℕ))
-    → StandsOn seen may_leave set from reserved begin number state journal → text ≡ [] → Serving seen may_leave set full from reserved begin number state journal text parts parts old old
-Serving-none seen may_leave set full from reserved begin number state journal text parts old on none = record {
+    → StandsOn seen may_leave moment left_since set from reserved begin number state journal → text ≡ [] → Serving seen may_leave moment left_since set full from reserved begin number state journal text parts parts old old
+Serving-none seen may_leave moment left_since set full from reserved begin number state journal text parts old on none = record {
   served = [];
   waiting = [];
   cut = refl;
@@ -154,12 +155,12 @@ cut_more : (parts before left behind : List Part) (part : Part) → parts ≡ be
 cut_more parts before left behind part cut is = cut ∙ ap (λ (ps : List Part). before ++ ps) is ∙ sym (append_assoc before (part ∷ []) behind)
 
 -- a part is served
-pub Serving-part : {D : Type 0} (seen : D → Option (List ℕ)) (may_leave : D → List ℕ → Type 0) (set : Setting) (full : Bool) (from : D) (reserved : List ℕ) (begin : Course)
+pub Serving-part : {D : Type 0} (seen : D → Option (List ℕ)) (may_leave : D → List ℕ → Type 0) (moment : D → ℕ) (left_since : D → ℕ → List ℕ → Type 0) (set : Setting) (full : Bool) (from : D) (reserved : List ℕ) (begin : Course)
     (number after : ℕ) (state next : Standing) (journal later : JournalState D) (text waits : List ℕ) (part : Part) (left behind parts : List Part) (old mid new : Option (List ℕ))
-    → left ≡ part ∷ behind → (serving : Serving seen may_leave set full from reserved begin number state journal text left parts old mid)
-    → GoesOn seen may_leave set full from reserved serving.mid part after next later text waits mid new
-    → Serving seen may_leave set full from reserved begin after next later waits behind parts old new
-Serving-part {D} seen may_leave set full from reserved begin number after state next journal later text waits (Round jobs) left behind parts old mid new is serving goes =
+    → left ≡ part ∷ behind → (serving : Serving seen may_leave moment left_since set full from reserved begin number state journal text left parts old mid)
+    → GoesOn seen may_leave moment left_since set full from reserved serving.mid part after next later text waits mid new
+    → Serving seen may_leave moment left_since set full from reserved begin after next later waits behind parts old new
+Serving-part {D} seen may_leave moment left_since set full from reserved begin number after state next journal later text waits (Round jobs) left behind parts old mid new is serving goes =
     let all = leads_more set None begin (serving.served ++ serving.waiting) (serving.records ++ serving.waits) serving.mid (Round jobs) goes.made goes.next serving.goes_on goes.served in
     record {
       served = (serving.served ++ serving.waiting) ++ Round jobs ∷ [];
@@ -185,11 +186,11 @@ Serving-part {D} seen may_leave set full from reserved begin number after state 
           ∙ sym (texts_join set full serving.records serving.waits goes.made))
           (Appends-more old mid new (transcript_text set full serving.records) (text ++ part_text set full goes.made) serving.written goes.put.0);
     }
-Serving-part {D} seen may_leave set full from reserved begin number after state next journal later text waits Restart left behind parts old mid new is serving goes =
+Serving-part {D} seen may_leave moment left_since set full from reserved begin number after state next journal later text waits Restart left behind parts old mid new is serving goes =
     restarted goes.made goes.served goes.put
   where
     restarted : (made : PartRecord) → ServesPart set None serving.mid Restart made goes.next → IsPut Restart (part_text set full made) text waits mid new
-        → Serving seen may_leave set full from reserved begin after next later waits behind parts old new
+        → Serving seen may_leave moment left_since set full from reserved begin after next later waits behind parts old new
     restarted (record_of.Round round) served put = absurd served
     restarted record_of.Restart served put =
         let all = leads_more set None begin (serving.served ++ serving.waiting) (serving.records ++ serving.waits) serving.mid Restart record_of.Restart goes.next serving.goes_on served in
@@ -220,11 +221,11 @@ Serving-part {D} seen may_leave set full from reserved begin number after state 
 -- ---- the end
 
 -- all parts are served, and what waits is written, or its first bytes
-pub Serving-all : {D : Type 0} (seen : D → Option (List ℕ)) (may_leave : D → List ℕ → Type 0) (set : Setting) (full : Bool) (from : D) (reserved : List ℕ) (begin : Course)
+pub Serving-all : {D : Type 0} (seen : D → Option (List ℕ)) (may_leave : D → List ℕ → Type 0) (moment : D → ℕ) (left_since : D → ℕ → List ℕ → Type 0) (set : Setting) (full : Bool) (from : D) (reserved : List ℕ) (begin : Course)
     (number : ℕ) (state : Standing) (journal : JournalState D) (text : List ℕ) (left parts : List Part) (ended : Status) (disk : D) (old mid new : Option (List ℕ))
-    → left ≡ [] → Serving seen may_leave set full from reserved begin number state journal text left parts old mid → IsWritten ended mid new text → IsStopOf ended None
-    → ended ≢ status.StoreFull → disk ≡ journal.disk → RunsParts seen may_leave set full from reserved begin parts ended disk old new
-Serving-all seen may_leave set full from reserved begin number state journal text left parts ended disk old mid new none serving writes stopped not_full same = record {
+    → left ≡ [] → Serving seen may_leave moment left_since set full from reserved begin number state journal text left parts old mid → IsWritten ended mid new text → IsStopOf ended None
+    → ended ≢ status.StoreFull → disk ≡ journal.disk → RunsParts seen may_leave moment left_since set full from reserved begin parts ended disk old new
+Serving-all seen may_leave moment left_since set full from reserved begin number state journal text left parts ended disk old mid new none serving writes stopped not_full same = record {
   served = serving.served ++ serving.waiting;
   left = [];
   cut = serving.cut ∙ ap (λ (ps : List Part). (serving.served ++ serving.waiting) ++ ps) none;
@@ -238,8 +239,9 @@ Serving-all seen may_leave set full from reserved begin number state journal tex
   written = subst (IsWritten ended old new)
       (ap (λ (t : List ℕ). transcript_text set full serving.records ++ t) serving.waits_text ∙ sym (flat_map-append (part_text set full) serving.records serving.waits))
       (IsWritten-more ended old mid new (transcript_text set full serving.records) text serving.written writes);
-  kept = kept_reserves seen may_leave ended set.rows from disk reserved serving.mid journal serving.on.reserves same;
+  kept = kept_reserves seen may_leave moment left_since ended set.rows from disk reserved serving.mid journal serving.on.reserves same;
   keeps = durable_keeps seen may_leave from disk (most_at reserved serving.mid) journal serving.on.reserves.durable same;
+  always = always_reserves seen may_leave moment left_since ended set.rows from disk reserved serving.mid journal serving.on.reserves same;
   full_at = λ is told. absurd (not_full is);
   ends_full = λ is. absurd (not_full is);
 }
@@ -256,12 +258,12 @@ full_behind {D} seen may_leave rows from disk later records last same ends = sub
 })
 
 -- a run ends in a part that was served
-stops_served : {D : Type 0} (seen : D → Option (List ℕ)) (may_leave : D → List ℕ → Type 0) (set : Setting) (full : Bool) (from : D) (reserved : List ℕ) (begin : Course)
+stops_served : {D : Type 0} (seen : D → Option (List ℕ)) (may_leave : D → List ℕ → Type 0) (moment : D → ℕ) (left_since : D → ℕ → List ℕ → Type 0) (set : Setting) (full : Bool) (from : D) (reserved : List ℕ) (begin : Course)
     (number : ℕ) (state : Standing) (journal later : JournalState D) (text : List ℕ) (part : Part) (left behind parts : List Part) (ended : Status) (disk : D) (old mid new : Option (List ℕ))
-    → left ≡ part ∷ behind → (serving : Serving seen may_leave set full from reserved begin number state journal text left parts old mid) → ended ≢ status.Done
-    → ServesLast seen may_leave set full from reserved serving.mid part ended later text mid new → disk ≡ later.disk
-    → RunsParts seen may_leave set full from reserved begin parts ended disk old new
-stops_served {D} seen may_leave set full from reserved begin number state journal later text part left behind parts ended disk old mid new is serving not_done last same = record {
+    → left ≡ part ∷ behind → (serving : Serving seen may_leave moment left_since set full from reserved begin number state journal text left parts old mid) → ended ≢ status.Done
+    → ServesLast seen may_leave moment left_since set full from reserved serving.mid part ended later text mid new → disk ≡ later.disk
+    → RunsParts seen may_leave moment left_since set full from reserved begin parts ended disk old new
+stops_served {D} seen may_leave moment left_since set full from reserved begin number state journal later text part left behind parts ended disk old mid new is serving not_done last same = record {
   served = (serving.served ++ serving.waiting) ++ part ∷ [];
   left = behind;
   cut = cut_more parts (serving.served ++ serving.waiting) left behind part serving.cut is;
@@ -276,18 +278,19 @@ stops_served {D} seen may_leave set full from reserved begin number state journa
       (ap (λ (t : List ℕ). transcript_text set full serving.records ++ (t ++ part_text set full last.made)) serving.waits_text
       ∙ sym (texts_join set full serving.records serving.waits last.made))
       (IsWritten-more ended old mid new (transcript_text set full serving.records) (text ++ part_text set full last.made) serving.written last.written);
-  kept = kept_reserves seen may_leave ended set.rows from disk reserved last.next later last.reserves same;
+  kept = kept_reserves seen may_leave moment left_since ended set.rows from disk reserved last.next later last.reserves same;
   keeps = durable_keeps seen may_leave from disk (most_at reserved last.next) later last.reserves.durable same;
+  always = always_reserves seen may_leave moment left_since ended set.rows from disk reserved last.next later last.reserves same;
   full_at = λ is told. subst (λ (d : D). IsFull (seen d)) (sym same) (last.full_at is told);
   ends_full = λ is. full_behind seen may_leave set.rows from disk later.disk (serving.records ++ serving.waits) (last.made ∷ []) same (last.ends_full is);
 }
 
 -- a run ends in a part that memory was wanting for
-stops_unserved : {D : Type 0} (seen : D → Option (List ℕ)) (may_leave : D → List ℕ → Type 0) (set : Setting) (full : Bool) (from : D) (reserved : List ℕ) (begin : Course)
+stops_unserved : {D : Type 0} (seen : D → Option (List ℕ)) (may_leave : D → List ℕ → Type 0) (moment : D → ℕ) (left_since : D → ℕ → List ℕ → Type 0) (set : Setting) (full : Bool) (from : D) (reserved : List ℕ) (begin : Course)
     (number : ℕ) (state : Standing) (journal later : JournalState D) (text : List ℕ) (left parts : List Part) (disk : D) (old mid new : Option (List ℕ))
-    → (serving : Serving seen may_leave set full from reserved begin number state journal text left parts old mid)
-    → Covers seen may_leave set.rows from serving.mid.early later → new ≡ mid → disk ≡ later.disk → RunsParts seen may_leave set full from reserved begin parts status.NoMemory disk old new
-stops_unserved {D} seen may_leave set full from reserved begin number state journal later text left parts disk old mid new serving covers still same = record {
+    → (serving : Serving seen may_leave moment left_since set full from reserved begin number state journal text left parts old mid)
+    → Covers seen may_leave moment left_since set.rows from reserved serving.mid.early later → new ≡ mid → disk ≡ later.disk → RunsParts seen may_leave moment left_since set full from reserved begin parts status.NoMemory disk old new
+stops_unserved {D} seen may_leave moment left_since set full from reserved begin number state journal later text left parts disk old mid new serving covers still same = record {
   served = serving.served;
   left = serving.waiting ++ left;
   cut = serving.cut ∙ append_assoc serving.served serving.waiting left;
@@ -299,9 +302,11 @@ stops_unserved {D} seen may_leave set full from reserved begin number state jour
   leads = serving.leads;
   fits = serving.fits;
   written = subst (λ (o : Option (List ℕ)). Appends old o (transcript_text set full serving.records)) (sym still) serving.written;
-  kept = kept_covers seen may_leave set.rows from disk reserved serving.course later
-      (subst (λ early. Covers seen may_leave set.rows from early later) serving.early covers) same;
+  kept = kept_covers seen may_leave moment left_since set.rows from disk reserved serving.course later
+      (subst (λ early. Covers seen may_leave moment left_since set.rows from reserved early later) serving.early covers) same;
   keeps = durable_keeps seen may_leave from disk covers.most later covers.durable same;
+  always = always_covers seen may_leave moment left_since set.rows from disk reserved serving.course later
+      (subst (λ early. Covers seen may_leave moment left_since set.rows from reserved early later) serving.early covers) same;
   full_at = λ is told. absurd (not_full is);
   ends_full = λ is. absurd (not_full is);
 }
@@ -313,33 +318,40 @@ stops_unserved {D} seen may_leave set full from reserved begin number state jour
     not_full same = cc
 
 -- a run ends in a part
-pub Serving-stops : {D : Type 0} (seen : D → Option (List ℕ)) (may_leave : D → List ℕ → Type 0) (set : Setting) (full : Bool) (from : D) (reserved : List ℕ) (begin : Course)
+pub Serving-stops : {D : Type 0} (seen : D → Option (List ℕ)) (may_leave : D → List ℕ → Type 0) (moment : D → ℕ) (left_since : D → ℕ → List ℕ → Type 0) (set : Setting) (full : Bool) (from : D) (reserved : List ℕ) (begin : Course)
     (number : ℕ) (state : Standing) (journal later : JournalState D) (text : List ℕ) (part : Part) (left behind parts : List Part) (ended : Status) (disk : D) (old mid new : Option (List ℕ))
-    → left ≡ part ∷ behind → (serving : Serving seen may_leave set full from reserved begin number state journal text left parts old mid) → ended ≢ status.Done
-    → EndsIn seen may_leave set full from reserved serving.mid part ended later text mid new → disk ≡ later.disk
-    → RunsParts seen may_leave set full from reserved begin parts ended disk old new
-Serving-stops seen may_leave set full from reserved begin number state journal later text part left behind parts status.NoMemory disk old mid new is serving not_done ends same =
-    stops_unserved seen may_leave set full from reserved begin number state journal later text left parts disk old mid new serving ends.0 ends.1 same
-Serving-stops seen may_leave set full from reserved begin number state journal later text part left behind parts status.WriteFault disk old mid new is serving not_done ends same =
-    stops_served seen may_leave set full from reserved begin number state journal later text part left behind parts status.WriteFault disk old mid new is serving not_done ends same
-Serving-stops seen may_leave set full from reserved begin number state journal later text part left behind parts status.StoreFault disk old mid new is serving not_done ends same =
-    stops_served seen may_leave set full from reserved begin number state journal later text part left behind parts status.StoreFault disk old mid new is serving not_done ends same
-Serving-stops seen may_leave set full from reserved begin number state journal later text part left behind parts status.StoreFull disk old mid new is serving not_done ends same =
-    stops_served seen may_leave set full from reserved begin number state journal later text part left behind parts status.StoreFull disk old mid new is serving not_done ends same
-Serving-stops seen may_leave set full from reserved begin number state journal later text part left behind parts status.Done disk old mid new is serving not_done ends same = absurd (not_done refl)
-Serving-stops seen may_leave set full from reserved begin number state journal later text part left behind parts status.Usage disk old mid new is serving not_done ends same = absurd ends.stopped
-Serving-stops seen may_leave set full from reserved begin number state journal later text part left behind parts status.SubscribersRefused disk old mid new is serving not_done ends same = absurd ends.stopped
-Serving-stops seen may_leave set full from reserved begin number state journal later text part left behind parts status.ScenarioRefused disk old mid new is serving not_done ends same = absurd ends.stopped
-Serving-stops seen may_leave set full from reserved begin number state journal later text part left behind parts status.ReadFault disk old mid new is serving not_done ends same = absurd ends.stopped
-Serving-stops seen may_leave set full from reserved begin number state journal later text part left behind parts status.NotJournal disk old mid new is serving not_done ends same = absurd ends.stopped
-Serving-stops seen may_leave set full from reserved begin number state journal later text part left behind parts status.TooLong disk old mid new is serving not_done ends same = absurd ends.stopped
+    → left ≡ part ∷ behind → (serving : Serving seen may_leave moment left_since set full from reserved begin number state journal text left parts old mid) → ended ≢ status.Done
+    → EndsIn seen may_leave moment left_since set full from reserved serving.mid part ended later text mid new → disk ≡ later.disk
+    → RunsParts seen may_leave moment left_since set full from reserved begin parts ended disk old new
+Serving-stops seen may_leave moment left_since set full from reserved begin number state journal later text part left behind parts status.NoMemory disk old mid new is serving not_done ends same =
+    stops_unserved seen may_leave moment left_since set full from reserved begin number state journal later text left parts disk old mid new serving ends.0 ends.1 same
+Serving-stops seen may_leave moment left_since set full from reserved begin number state journal later text part left behind parts status.WriteFault disk old mid new is serving not_done ends same =
+    stops_served seen may_leave moment left_since set full from reserved begin number state journal later text part left behind parts status.WriteFault disk old mid new is serving not_done ends same
+Serving-stops seen may_leave moment left_since set full from reserved begin number state journal later text part left behind parts status.StoreFault disk old mid new is serving not_done ends same =
+    stops_served seen may_leave moment left_since set full from reserved begin number state journal later text part left behind parts status.StoreFault disk old mid new is serving not_done ends same
+Serving-stops seen may_leave moment left_since set full from reserved begin number state journal later text part left behind parts status.StoreFull disk old mid new is serving not_done ends same =
+    stops_served seen may_leave moment left_since set full from reserved begin number state journal later text part left behind parts status.StoreFull disk old mid new is serving not_done ends same
+Serving-stops seen may_leave moment left_since set full from reserved begin number state journal later text part left behind parts status.Done disk old mid new is serving not_done ends same = absurd (not_done refl)
+Serving-stops seen may_leave moment left_since set full from reserved begin number state journal later text part left behind parts status.Usage disk old mid new is serving not_done ends same = absurd ends.stopped
+Serving-stops seen may_leave moment left_since set full from reserved begin number state journal later text part left behind parts status.SubscribersRefused disk old mid new is serving not_done ends same = absurd ends.stopped
+Serving-stops seen may_leave moment left_since set full from reserved begin number state journal later text part left behind parts status.ScenarioRefused disk old mid new is serving not_done ends same = absurd ends.stopped
+Serving-stops seen may_leave moment left_since set full from reserved begin number state journal later text part left behind parts status.ReadFault disk old mid new is serving not_done ends same = absurd ends.stopped
+Serving-stops seen may_leave moment left_since set full from reserved begin number state journal later text part left behind parts status.NotJournal disk old mid new is serving not_done ends same = absurd ends.stopped
+Serving-stops seen may_leave moment left_since set full from reserved begin number state journal later text part left behind parts status.TooLong disk old mid new is serving not_done ends same = absurd ends.stopped
 
 -- no part was served, since memory ran out
-pub Serving-nothing : {D : Type 0} (seen : D → Option (List ℕ)) (may_leave : D → List ℕ → Type 0) (faults : D → ℕ) (set : Setting) (full : Bool) (from : D) (journal : JournalState D) (parts : List Part)
-    (disk : D) (old : Option (List ℕ)) → Begins seen may_leave faults set.rows from journal → disk ≡ journal.disk
-    → RunsParts seen may_leave set full from (limits_of journal) (beginning set.rows (limits_of journal)) parts status.NoMemory disk old old
-Serving-nothing seen may_leave faults set full from journal parts disk old begins same =
+pub Serving-nothing : {D : Type 0} (seen : D → Option (List ℕ)) (may_leave : D → List ℕ → Type 0) (moment : D → ℕ) (left_since : D → ℕ → List ℕ → Type 0) (faults : D → ℕ) (set : Setting) (full : Bool) (from : D) (journal : JournalState D) (parts : List Part)
+    (disk : D) (old : Option (List ℕ)) → Begins seen may_leave moment left_since faults set.rows from journal → disk ≡ journal.disk
+    → RunsParts seen may_leave moment left_since set full from (limits_of journal) (beginning set.rows (limits_of journal)) parts status.NoMemory disk old old
+Serving-nothing seen may_leave moment left_since faults set full from journal parts disk old begins same =
     let begin = beginning set.rows (limits_of journal) in
+    let covers : Covers seen may_leave moment left_since set.rows from (limits_of journal) [] journal = record {
+      subscribers = begins.subscribers;
+      released = λ sub inside. All-nil (λ n. n ≤ slice_index (limits_of journal) sub);
+      most = λ sub. reserved_at journal sub;
+      durable = begins.durable;
+      always = λ told. (λ sub. 0, since_opening seen may_leave moment left_since set.rows from journal.disk (limits_of journal) (λ sub. 0) begins.always told);
+    } in
     record {
       served = [];
       left = parts;
@@ -352,9 +364,9 @@ Serving-nothing seen may_leave faults set full from journal parts disk old begin
       leads = (refl, refl);
       fits = All-nil PartFits;
       written = Appends-none old;
-      kept = kept_covers seen may_leave set.rows from disk (limits_of journal) begin journal
-          (record { subscribers = begins.subscribers; released = λ sub inside. All-nil (λ n. n ≤ slice_index (limits_of journal) sub); most = λ sub. reserved_at journal sub; durable = begins.durable }) same;
+      kept = kept_covers seen may_leave moment left_since set.rows from disk (limits_of journal) begin journal covers same;
       keeps = durable_keeps seen may_leave from disk (λ sub. reserved_at journal sub) journal begins.durable same;
+      always = always_covers seen may_leave moment left_since set.rows from disk (limits_of journal) begin journal covers same;
       full_at = λ is told. absurd (not_full is);
       ends_full = λ is. absurd (not_full is);
     }

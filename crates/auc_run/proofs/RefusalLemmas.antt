@@ -95,36 +95,36 @@ right_read told files rows script read =
 -- ---- what a run leaves
 
 -- its rounds were served so far
-pub leave_runs : (told : Option (List File)) (files : Files) (seen : Option (List ℕ)) (leaves : List ℕ → Type 0) (ended : Status) (old new : Option (List ℕ))
-    → RunsFiles told files seen leaves ended old new → FilesLeave told files seen leaves ended old new
-leave_runs told files seen leaves status.Done old new runs = runs
-leave_runs told files seen leaves status.StoreFull old new runs = runs
-leave_runs told files seen leaves status.Usage old new runs = inl runs
-leave_runs told files seen leaves status.SubscribersRefused old new runs = inl runs
-leave_runs told files seen leaves status.ScenarioRefused old new runs = inl runs
-leave_runs told files seen leaves status.ReadFault old new runs = inl runs
-leave_runs told files seen leaves status.WriteFault old new runs = runs
-leave_runs told files seen leaves status.StoreFault old new runs = inl runs
-leave_runs told files seen leaves status.NotJournal old new runs = inl runs
-leave_runs told files seen leaves status.TooLong old new runs = inl runs
-leave_runs told files seen leaves status.NoMemory old new runs = inl runs
+pub leave_runs : (told : Option (List File)) (files : Files) (seen : Option (List ℕ)) (leaves : List ℕ → Type 0) (ever : List ℕ → Type 0) (ended : Status) (old new : Option (List ℕ))
+    → RunsFiles told files seen leaves ever ended old new → FilesLeave told files seen leaves ever ended old new
+leave_runs told files seen leaves ever status.Done old new runs = runs
+leave_runs told files seen leaves ever status.StoreFull old new runs = runs
+leave_runs told files seen leaves ever status.Usage old new runs = inl runs
+leave_runs told files seen leaves ever status.SubscribersRefused old new runs = inl runs
+leave_runs told files seen leaves ever status.ScenarioRefused old new runs = inl runs
+leave_runs told files seen leaves ever status.ReadFault old new runs = inl runs
+leave_runs told files seen leaves ever status.WriteFault old new runs = runs
+leave_runs told files seen leaves ever status.StoreFault old new runs = inl runs
+leave_runs told files seen leaves ever status.NotJournal old new runs = inl runs
+leave_runs told files seen leaves ever status.TooLong old new runs = inl runs
+leave_runs told files seen leaves ever status.NoMemory old new runs = inl runs
 
 -- its files weren't read, or its journal wasn't opened
-pub leave_unread : (told : Option (List File)) (files : Files) (seen : Option (List ℕ)) (leaves : List ℕ → Type 0) (refusal : Refusal) (old : Option (List ℕ))
-    → ReadingStops told files refusal → FilesLeave told files seen leaves (status_of refusal) old old
-leave_unread told files seen leaves refused.StoreFull old stop = absurd stop
-leave_unread told files seen leaves refused.Usage old stop = inr refl
-leave_unread told files seen leaves (refused.Subscribers row fault) old stop = inr refl
-leave_unread told files seen leaves (refused.Scenario line fault) old stop = inr refl
-leave_unread told files seen leaves refused.ReadFault old stop = inr refl
-leave_unread told files seen leaves refused.WriteFault old stop = absurd stop
-leave_unread told files seen leaves refused.StoreFault old stop = inr refl
-leave_unread told files seen leaves (refused.NotJournal place) old stop = inr refl
-leave_unread told files seen leaves refused.TooLong old stop = inr refl
-leave_unread told files seen leaves refused.NoMemory old stop = inr refl
+pub leave_unread : (told : Option (List File)) (files : Files) (seen : Option (List ℕ)) (leaves : List ℕ → Type 0) (ever : List ℕ → Type 0) (refusal : Refusal) (old : Option (List ℕ))
+    → ReadingStops told files refusal → FilesLeave told files seen leaves ever (status_of refusal) old old
+leave_unread told files seen leaves ever refused.StoreFull old stop = absurd stop
+leave_unread told files seen leaves ever refused.Usage old stop = inr refl
+leave_unread told files seen leaves ever (refused.Subscribers row fault) old stop = inr refl
+leave_unread told files seen leaves ever (refused.Scenario line fault) old stop = inr refl
+leave_unread told files seen leaves ever refused.ReadFault old stop = inr refl
+leave_unread told files seen leaves ever refused.WriteFault old stop = absurd stop
+leave_unread told files seen leaves ever refused.StoreFault old stop = inr refl
+leave_unread told files seen leaves ever (refused.NotJournal place) old stop = inr refl
+leave_unread told files seen leaves ever refused.TooLong old stop = inr refl
+leave_unread told files seen leaves ever refused.NoMemory old stop = inr refl
 
-pub leave_unopened : (told : Option (List File)) (files : Files) (seen : Option (List ℕ)) (leaves : List ℕ → Type 0) (why : OpenWhy) (old : Option (List ℕ))
-    → FilesLeave told files seen leaves (status_of (open_refusal why)) old old
-leave_unopened told files seen leaves unopened.StoreFault old = inr refl
-leave_unopened told files seen leaves (unopened.NotJournal place) old = inr refl
-leave_unopened told files seen leaves unopened.NoMemory old = inr refl
+pub leave_unopened : (told : Option (List File)) (files : Files) (seen : Option (List ℕ)) (leaves : List ℕ → Type 0) (ever : List ℕ → Type 0) (why : OpenWhy) (old : Option (List ℕ))
+    → FilesLeave told files seen leaves ever (status_of (open_refusal why)) old old
+leave_unopened told files seen leaves ever unopened.StoreFault old = inr refl
+leave_unopened told files seen leaves ever (unopened.NotJournal place) old = inr refl
+leave_unopened told files seen leaves ever unopened.NoMemory old = inr refl

@@ -1,5 +1,5 @@
 -- For the journal: no run lowers what it found reserved, for any identity.
-use Rattle.std.proofs.Common.{◌≡◌, ℕ, List, Option, Result, Ok, Err, IfErr, inl, inr, refl, sym, ◌∙◌, subst}
+use Rattle.std.proofs.Common.{◌≡◌, ℕ, List, Option, inl, inr, refl, sym, ◌∙◌, subst}
 use Rattle.auc_journal.specs.Durable.{IsDurable, IsTold}
 use Rattle.auc_journal.specs.Image.{Keeps}
 use Rattle.auc_journal.specs.Journal.{JournalState}
@@ -13,7 +13,7 @@ use Rattle.auc_world.specs.Setting.{Setting}
 use Rattle.auc_world.specs.Transcript.{Course}
 use Rattle.std.specs.Prelude.{Bool}
 use Rattle.auc_run.specs.Crash.{Remembers}
-use Rattle.auc_run.specs.Inner.{OutputStops, RunsParts, Tells, open_refusal, status_in}
+use Rattle.auc_run.specs.Inner.{RunsParts, Tells, open_refusal}
 use Rattle.auc_run.specs.Outcome.{IsStopOf}
 use Rattle.auc_run.specs.Refusal.{status_of}
 use Rattle.auc_run.specs.declared.refusal.Refusal.{Refusal}
@@ -77,35 +77,12 @@ remembers_unopened seen may_leave unopened.NoMemory old new found =
     other same = cc
 
 -- the rounds were served so far
-pub remembers_parts : {D : Type 0} (seen : D → Option (List ℕ)) (may_leave : D → List ℕ → Type 0) (set : Setting) (full : Bool) (from : D) (reserved : List ℕ) (at : Course) (parts : List Part)
-    (ended : Status) (disk : D) (old new : Option (List ℕ)) → RunsParts seen may_leave set full from reserved at parts ended disk old new → Remembers seen may_leave ended from disk
-remembers_parts seen may_leave set full from reserved at parts ended disk old new runs = record {
+pub remembers_parts : {D : Type 0} (seen : D → Option (List ℕ)) (may_leave : D → List ℕ → Type 0) (moment : D → ℕ) (left_since : D → ℕ → List ℕ → Type 0) (set : Setting) (full : Bool) (from : D) (reserved : List ℕ) (at : Course) (parts : List Part)
+    (ended : Status) (disk : D) (old new : Option (List ℕ)) → RunsParts seen may_leave moment left_since set full from reserved at parts ended disk old new → Remembers seen may_leave ended from disk
+remembers_parts seen may_leave moment left_since set full from reserved at parts ended disk old new runs = record {
   keeps = λ told premise image leaves. let both = runs.keeps told image leaves in both.0;
   closable = λ told is image leaves. let both = runs.keeps told image leaves in both.1;
   stays = λ is. absurd (subst (λ (s : Status). IsStopOf s runs.stop) is runs.stopped);
-}
-
--- a text isn't written for no other reason
-output_no_journal : (result : Result (Unit {0}) Refusal) → IfErr result OutputStops → status_in result ≡ status.NotJournal → ⊥
-output_no_journal (Ok done) stops is = cc is
-output_no_journal (Err refused.WriteFault) stops is = cc is
-output_no_journal (Err refused.NoMemory) stops is = cc is
-output_no_journal (Err refused.Usage) stops is = absurd stops
-output_no_journal (Err (refused.Subscribers row fault)) stops is = absurd stops
-output_no_journal (Err (refused.Scenario line fault)) stops is = absurd stops
-output_no_journal (Err refused.ReadFault) stops is = absurd stops
-output_no_journal (Err refused.StoreFault) stops is = absurd stops
-output_no_journal (Err (refused.NotJournal place)) stops is = absurd stops
-output_no_journal (Err refused.StoreFull) stops is = absurd stops
-output_no_journal (Err refused.TooLong) stops is = absurd stops
-
--- its limits were written, or weren't
-pub remembers_limits : {D : Type 0} (seen : D → Option (List ℕ)) (may_leave : D → List ℕ → Type 0) (from disk : D) (most : ℕ → ℕ) (journal : JournalState D) (result : Result (Unit {0}) Refusal)
-    → IsDurable seen may_leave from most journal → disk ≡ journal.disk → IfErr result OutputStops → Remembers seen may_leave (status_in result) from disk
-remembers_limits seen may_leave from disk most journal result durable same stops = record {
-  keeps = λ told premise image leaves. let both = durable_keeps seen may_leave from disk most journal durable same told image leaves in both.0;
-  closable = λ told is image leaves. let both = durable_keeps seen may_leave from disk most journal durable same told image leaves in both.1;
-  stays = λ is. absurd (output_no_journal result stops is);
 }
 
 -- ---- how the refusal was told

@@ -16,7 +16,7 @@ use Rattle.auc_jobs.specs.State.{Standing}
 use Rattle.auc_journal.specs.Durable.{IsTold}
 use Rattle.auc_journal.specs.Image.{Keeps}
 use Rattle.auc_journal.specs.Journal.{JournalState}
-use Rattle.auc_journal.specs.Settled.{IsClosable}
+use Rattle.auc_journal.specs.Settled.{IsClosable, LeavesOnly}
 use Rattle.auc_lines.specs.declared.part.Line.{Line}
 use Rattle.auc_lines.specs.declared.part.Part.{Part}
 use Rattle.auc_lines.specs.declared.part.Part.TheVariants.{Round}
@@ -34,7 +34,7 @@ use Rattle.auc_world.specs.Transcript.{Course, Leads, beginning}
 use Rattle.auc_world.specs.declared.record.PartRecord.{PartRecord}
 use Rattle.auc_world.specs.declared.record.PartRecord.TheVariants as record_of
 use Rattle.auc_run.specs.Crash.{IsFull, IsKept, MayLeave}
-use Rattle.auc_run.specs.Inner.{Covers, IsKnownPart, MakesRound, Reserves, RoundsStop, StandsOn, most_at}
+use Rattle.auc_run.specs.Inner.{Covers, IsKnownPart, IsLeftInRun, MakesRound, Reserves, RoundsStop, StandsAfter, most_at}
 use Rattle.auc_run.specs.InnerService.{AreTaken, EndsServing, GoesOnServing, IsSaidUpTo, IsServing, IsServingAny, IsTurned, RunsBlocks, round_answer, trouble_refusal, turned_by}
 use Rattle.auc_run.specs.Output.{setting_of}
 use Rattle.auc_run.specs.Refusal.{status_of}
@@ -44,41 +44,46 @@ use Rattle.auc_run.specs.declared.refusal.Refusal.{Refusal}
 use Rattle.auc_run.specs.declared.refusal.Refusal.TheVariants as refused
 use Rattle.auc_run.specs.declared.status.Status.{Status}
 use Rattle.auc_run.specs.declared.status.Status.TheVariants as status
+use Rattle.auc_run.proofs.AlwaysLemmas.{always_covers, always_reserves}
+use Rattle.auc_run.proofs.BlockLemmas.{asked_quiet}
 use Rattle.auc_run.proofs.RememberLemmas.{durable_keeps}
-use Rattle.auc_run.proofs.ServiceLemmas.{blocks_more, concat_append, heard_behind, hears, parts_round, parts_same, records_round, records_same, replied_append, replied_more, replied_said, replies_more, replies_nothing, replies_round, said_behind, takes, takes_count, turns_more, turns_none}
+use Rattle.auc_run.proofs.ServiceLemmas.{Forgets, blocks_more, concat_append, heard_behind, hears, parts_round, parts_same, records_round, records_same, replied_append, replied_more, replied_said, replies_more, replies_nothing, replies_round, said_behind, takes, takes_count, turns_more, turns_none}
 use Rattle.auc_run.proofs.StandLemmas.{covers_before, covers_of, kept_covers, kept_reserves}
 use Rattle.auc_run.proofs.StepLemmas.{full_journal, ready_if}
 
 -- ---- what a crash leaves
 
 -- a disk that a service leaves
-pub record IsLeft {D : Type 0} (seen : D → Option (List ℕ)) (may_leave : D → List ℕ → Type 0) (rows : List Row) (from : D) (reserved : List ℕ) (end : Course) (ended : Status) (disk : D) : Type 0 where
+pub record IsLeft {D : Type 0} (seen : D → Option (List ℕ)) (may_leave : D → List ℕ → Type 0) (moment : D → ℕ) (left_since : D → ℕ → List ℕ → Type 0) (rows : List Row) (from : D) (reserved : List ℕ) (end : Course) (ended : Status) (disk : D) : Type 0 where
   pub kept : (image : List ℕ) → MayLeave seen may_leave from disk image → IsKept ended rows reserved end image
   pub keeps : (told : IsTold seen may_leave from) → (image : List ℕ) → may_leave disk image → Keeps told.0 image × IsClosable image
+  pub always : (told : IsTold seen may_leave from) → LeavesOnly moment left_since from disk (IsLeftInRun told.0 ended rows reserved end)
   pub full_at : ended ≡ status.StoreFull → IsTold seen may_leave from → IsFull (seen disk)
 
 -- after rounds whose limits are such as a restart may have
-left_reserves : {D : Type 0} (seen : D → Option (List ℕ)) (may_leave : D → List ℕ → Type 0) (rows : List Row) (from : D) (reserved : List ℕ) (end : Course) (ended : Status) (journal : JournalState D)
-    → Reserves seen may_leave rows from reserved end journal → (ended ≡ status.StoreFull → IsTold seen may_leave from → IsFull (seen journal.disk))
-    → IsLeft seen may_leave rows from reserved end ended journal.disk
-left_reserves seen may_leave rows from reserved end ended journal reserves full = record {
-  kept = kept_reserves seen may_leave ended rows from journal.disk reserved end journal reserves refl;
+left_reserves : {D : Type 0} (seen : D → Option (List ℕ)) (may_leave : D → List ℕ → Type 0) (moment : D → ℕ) (left_since : D → ℕ → List ℕ → Type 0) (rows : List Row) (from : D) (reserved : List ℕ) (end : Course) (ended : Status) (journal : JournalState D)
+    → Reserves seen may_leave moment left_since rows from reserved end journal → (ended ≡ status.StoreFull → IsTold seen may_leave from → IsFull (seen journal.disk))
+    → IsLeft seen may_leave moment left_since rows from reserved end ended journal.disk
+left_reserves seen may_leave moment left_since rows from reserved end ended journal reserves full = record {
+  kept = kept_reserves seen may_leave moment left_since ended rows from journal.disk reserved end journal reserves refl;
   keeps = durable_keeps seen may_leave from journal.disk (most_at reserved end) journal reserves.durable refl;
+  always = always_reserves seen may_leave moment left_since ended rows from journal.disk reserved end journal reserves refl;
   full_at = full;
 }
 
 -- where a service stands, nothing is full
-pub left_at : {D : Type 0} (seen : D → Option (List ℕ)) (may_leave : D → List ℕ → Type 0) (rows : List Row) (from : D) (reserved : List ℕ) (end : Course) (ended : Status) (journal : JournalState D)
-    → Reserves seen may_leave rows from reserved end journal → ended ≢ status.StoreFull → IsLeft seen may_leave rows from reserved end ended journal.disk
-left_at seen may_leave rows from reserved end ended journal reserves other =
-    left_reserves seen may_leave rows from reserved end ended journal reserves (λ is told. absurd (other is))
+pub left_at : {D : Type 0} (seen : D → Option (List ℕ)) (may_leave : D → List ℕ → Type 0) (moment : D → ℕ) (left_since : D → ℕ → List ℕ → Type 0) (rows : List Row) (from : D) (reserved : List ℕ) (end : Course) (ended : Status) (journal : JournalState D)
+    → Reserves seen may_leave moment left_since rows from reserved end journal → ended ≢ status.StoreFull → IsLeft seen may_leave moment left_since rows from reserved end ended journal.disk
+left_at seen may_leave moment left_since rows from reserved end ended journal reserves other =
+    left_reserves seen may_leave moment left_since rows from reserved end ended journal reserves (λ is told. absurd (other is))
 
 -- if memory ran out
-left_covers : {D : Type 0} (seen : D → Option (List ℕ)) (may_leave : D → List ℕ → Type 0) (rows : List Row) (from : D) (reserved : List ℕ) (end : Course) (journal : JournalState D)
-    → Covers seen may_leave rows from end.early journal → IsLeft seen may_leave rows from reserved end status.NoMemory journal.disk
-left_covers seen may_leave rows from reserved end journal covers = record {
-  kept = kept_covers seen may_leave rows from journal.disk reserved end journal covers refl;
+left_covers : {D : Type 0} (seen : D → Option (List ℕ)) (may_leave : D → List ℕ → Type 0) (moment : D → ℕ) (left_since : D → ℕ → List ℕ → Type 0) (rows : List Row) (from : D) (reserved : List ℕ) (end : Course) (journal : JournalState D)
+    → Covers seen may_leave moment left_since rows from reserved end.early journal → IsLeft seen may_leave moment left_since rows from reserved end status.NoMemory journal.disk
+left_covers seen may_leave moment left_since rows from reserved end journal covers = record {
+  kept = kept_covers seen may_leave moment left_since rows from journal.disk reserved end journal covers refl;
   keeps = durable_keeps seen may_leave from journal.disk covers.most journal covers.durable refl;
+  always = always_covers seen may_leave moment left_since rows from journal.disk reserved end journal covers refl;
   full_at = λ is told. absurd (apart is);
 }
   where
@@ -117,13 +122,13 @@ heard_said turns pieces first answered taken waiting are =
     )
 
 -- no further block is answered
-ends_still : {D : Type 0} (seen : D → Option (List ℕ)) (may_leave : D → List ℕ → Type 0) (rows : List Row) (header : Script) (from : D) (reserved first : List ℕ) (taken : List (List ℕ)) (waiting : List ℕ)
+ends_still : {D : Type 0} (seen : D → Option (List ℕ)) (may_leave : D → List ℕ → Type 0) (moment : D → ℕ) (left_since : D → ℕ → List ℕ → Type 0) (rows : List Row) (header : Script) (from : D) (reserved first : List ℕ) (taken : List (List ℕ)) (waiting : List ℕ)
     (number : ℕ) (state : Standing) (journal : JournalState D) (turns : List Turn) (pieces : List (List ℕ)) (ended : Status) (disk : D) (last : List ℕ)
-    → (serving : IsServing seen may_leave rows header from reserved first taken waiting number state journal turns)
+    → (serving : IsServing seen may_leave moment left_since rows header from reserved first taken waiting number state journal turns)
     → LeavesNone ended (taken ++ (blocks_in waiting).whole) → IsServiceStop ended None → IsLastReply ended (blocks_in waiting).left last → IsSaid ended (concat pieces) last
-    → IsLeft seen may_leave rows from reserved serving.at ended disk → (ended ≡ status.TooLong → IsLate (length serving.answers) (blocks_in waiting).left)
-    → RunsBlocks seen may_leave rows header from reserved first ended disk (turns ++ map Said pieces)
-ends_still seen may_leave rows header from reserved first taken waiting number state journal turns pieces ended disk last serving none stopped is_last said left late =
+    → IsLeft seen may_leave moment left_since rows from reserved serving.at ended disk → (ended ≡ status.TooLong → IsLate (length serving.answers) (blocks_in waiting).left)
+    → RunsBlocks seen may_leave moment left_since rows header from reserved first ended disk (turns ++ map Said pieces)
+ends_still seen may_leave moment left_since rows header from reserved first taken waiting number state journal turns pieces ended disk last serving none stopped is_last said left late =
     let heard = heard_said turns pieces first (blocks_of serving.answers) taken waiting serving.heard in
     record {
       answers = serving.answers;
@@ -147,19 +152,20 @@ ends_still seen may_leave rows header from reserved first taken waiting number s
       late = λ is. subst (IsLate (length serving.answers)) (sym heard.1) (late is);
       kept = left.kept;
       keeps = left.keeps;
+      always = left.always;
       full_at = left.full_at;
     }
 
 -- one more block is answered, and its reply is said or begun
-ends_answer : {D : Type 0} (seen : D → Option (List ℕ)) (may_leave : D → List ℕ → Type 0) (rows : List Row) (header : Script) (from : D) (reserved first waiting : List ℕ) (a : Answer)
+ends_answer : {D : Type 0} (seen : D → Option (List ℕ)) (may_leave : D → List ℕ → Type 0) (moment : D → ℕ) (left_since : D → ℕ → List ℕ → Type 0) (rows : List Row) (header : Script) (from : D) (reserved first waiting : List ℕ) (a : Answer)
     (number : ℕ) (state : Standing) (journal : JournalState D) (turns : List Turn) (pieces : List (List ℕ)) (ended : Status) (disk : D) (stop : Option Stop) (end : Course)
-    → (serving : IsServing seen may_leave rows header from reserved first (a.block ∷ []) waiting number state journal turns) → IsAnswer rows header a
+    → (serving : IsServing seen may_leave moment left_since rows header from reserved first (a.block ∷ []) waiting number state journal turns) → IsAnswer rows header a
     → LeavesNone ended (blocks_in waiting).whole → IsServiceStop ended stop → IsLastReply ended (blocks_in waiting).left [] → IsSaid ended (concat pieces) a.reply
     → Leads (setting_of rows header) stop (beginning rows reserved) (parts_in (serving.answers ++ a ∷ [])) (records_in (serving.answers ++ a ∷ [])) end
     → All PartFits (records_in (serving.answers ++ a ∷ [])) → All (IsKnownPart rows) (parts_in (serving.answers ++ a ∷ []))
-    → IsLeft seen may_leave rows from reserved end ended disk → ended ≢ status.TooLong
-    → RunsBlocks seen may_leave rows header from reserved first ended disk (turns ++ map Said pieces)
-ends_answer seen may_leave rows header from reserved first waiting a number state journal turns pieces ended disk stop end serving is none stopped is_last said leads fits known left in_time =
+    → IsLeft seen may_leave moment left_since rows from reserved end ended disk → ended ≢ status.TooLong
+    → RunsBlocks seen may_leave moment left_since rows header from reserved first ended disk (turns ++ map Said pieces)
+ends_answer seen may_leave moment left_since rows header from reserved first waiting a number state journal turns pieces ended disk stop end serving is none stopped is_last said leads fits known left in_time =
     let heard = heard_said turns pieces first (blocks_of serving.answers) (a.block ∷ []) waiting serving.heard in
     let replies = replies_in serving.answers in
     let whole : concat (replies_in (serving.answers ++ a ∷ [])) ++ [] ≡ concat replies ++ a.reply =
@@ -189,6 +195,7 @@ ends_answer seen may_leave rows header from reserved first waiting a number stat
       late = λ is. absurd (in_time is);
       kept = left.kept;
       keeps = left.keeps;
+      always = left.always;
       full_at = left.full_at;
     }
 
@@ -228,37 +235,37 @@ full_in_time : status.StoreFull ≢ status.TooLong
 full_in_time same = cc
 
 -- memory runs out before anything is said
-pub ends_memory : {D : Type 0} (seen : D → Option (List ℕ)) (may_leave : D → List ℕ → Type 0) (rows : List Row) (header : Script) (taken : List (List ℕ)) (waiting : List ℕ)
+pub ends_memory : {D : Type 0} (seen : D → Option (List ℕ)) (may_leave : D → List ℕ → Type 0) (moment : D → ℕ) (left_since : D → ℕ → List ℕ → Type 0) (rows : List Row) (header : Script) (taken : List (List ℕ)) (waiting : List ℕ)
     (number : ℕ) (state : Standing) (journal after : JournalState D) (old new : Option (List Turn)) → new ≡ old
-    → ((from : D) (reserved : List ℕ) (at : Course) → StandsOn seen may_leave (setting_of rows header) from reserved at number state journal → Covers seen may_leave rows from at.early after)
-    → EndsServing seen may_leave rows header taken waiting number state journal status.NoMemory after.disk old new
-ends_memory seen may_leave rows header taken waiting number state journal after old new same covers = λ from reserved first start turns took serving. (
+    → ((from : D) (reserved : List ℕ) (at : Course) → StandsAfter seen may_leave moment left_since (setting_of rows header) from reserved at [] number state journal → Covers seen may_leave moment left_since rows from reserved at.early after)
+    → EndsServing seen may_leave moment left_since rows header taken waiting number state journal status.NoMemory after.disk old new
+ends_memory seen may_leave moment left_since rows header taken waiting number state journal after old new same covers = λ from reserved first start turns took serving. (
   turns ++ map Said [],
   turns_more start old new turns [] took (turns_none old new same),
-  ends_still seen may_leave rows header from reserved first taken waiting number state journal turns [] status.NoMemory after.disk [] serving tt refl refl refl
-      (left_covers seen may_leave rows from reserved serving.at after (covers from reserved serving.at serving.on)) (λ is. absurd (memory_in_time is)),
+  ends_still seen may_leave moment left_since rows header from reserved first taken waiting number state journal turns [] status.NoMemory after.disk [] serving tt refl refl refl
+      (left_covers seen may_leave moment left_since rows from reserved serving.at after (covers from reserved serving.at serving.on)) (λ is. absurd (memory_in_time is)),
 )
 
 -- what a journal reserves covers what was released
-pub own_covers : {D : Type 0} (seen : D → Option (List ℕ)) (may_leave : D → List ℕ → Type 0) (rows : List Row) (header : Script) (number : ℕ) (state : Standing) (journal : JournalState D)
-    (from : D) (reserved : List ℕ) (at : Course) → StandsOn seen may_leave (setting_of rows header) from reserved at number state journal → Covers seen may_leave rows from at.early journal
-own_covers seen may_leave rows header number state journal from reserved at on = covers_of seen may_leave rows from reserved at journal on.reserves
+pub own_covers : {D : Type 0} (seen : D → Option (List ℕ)) (may_leave : D → List ℕ → Type 0) (moment : D → ℕ) (left_since : D → ℕ → List ℕ → Type 0) (rows : List Row) (header : Script) (number : ℕ) (state : Standing) (journal : JournalState D)
+    (from : D) (reserved : List ℕ) (at : Course) → StandsAfter seen may_leave moment left_since (setting_of rows header) from reserved at [] number state journal → Covers seen may_leave moment left_since rows from reserved at.early journal
+own_covers seen may_leave moment left_since rows header number state journal from reserved at on = covers_of seen may_leave moment left_since rows from reserved at journal on.reserves
 
 -- the reply to a block that served nothing fails
-ends_refused : {D : Type 0} (seen : D → Option (List ℕ)) (may_leave : D → List ℕ → Type 0) (rows : List Row) (header : Script) (waiting : List ℕ) (a : Answer)
+ends_refused : {D : Type 0} (seen : D → Option (List ℕ)) (may_leave : D → List ℕ → Type 0) (moment : D → ℕ) (left_since : D → ℕ → List ℕ → Type 0) (rows : List Row) (header : Script) (waiting : List ℕ) (a : Answer)
     (number : ℕ) (state : Standing) (journal : JournalState D) (old new : Option (List Turn)) → IsAnswer rows header a → a.parts ≡ [] → a.records ≡ [] → SaysFront old new a.reply
-    → EndsServing seen may_leave rows header (a.block ∷ []) waiting number state journal status.WriteFault journal.disk old new
-ends_refused seen may_leave rows header waiting a number state journal old new is no_parts no_records says = λ from reserved first start turns took serving.
+    → EndsServing seen may_leave moment left_since rows header (a.block ∷ []) waiting number state journal status.WriteFault journal.disk old new
+ends_refused seen may_leave moment left_since rows header waiting a number state journal old new is no_parts no_records says = λ from reserved first start turns took serving.
     let set = setting_of rows header in
     let pieces = says.said.pieces in (
       turns ++ map Said pieces,
       turns_more start old new turns (map Said pieces) took says.said.turns,
-      ends_answer seen may_leave rows header from reserved first waiting a number state journal turns pieces status.WriteFault journal.disk None serving.at serving is tt tt (inl refl) (said_front old new a.reply says)
+      ends_answer seen may_leave moment left_since rows header from reserved first waiting a number state journal turns pieces status.WriteFault journal.disk None serving.at serving is tt tt (inl refl) (said_front old new a.reply says)
           (subst (λ (rs : List PartRecord). Leads set None (beginning rows reserved) (parts_in (serving.answers ++ a ∷ [])) rs serving.at) (sym (records_same serving.answers a no_records))
           (subst (λ (ps : List Part). Leads set None (beginning rows reserved) ps (records_in serving.answers) serving.at) (sym (parts_same serving.answers a no_parts)) serving.leads))
           (subst (All PartFits) (sym (records_same serving.answers a no_records)) serving.fits)
           (subst (All (IsKnownPart rows)) (sym (parts_same serving.answers a no_parts)) serving.known)
-          (left_at seen may_leave rows from reserved serving.at status.WriteFault journal serving.on.reserves write_full) write_in_time,
+          (left_at seen may_leave moment left_since rows from reserved serving.at status.WriteFault journal serving.on.reserves write_full) write_in_time,
     )
 
 -- ---- answers
@@ -291,50 +298,50 @@ long_answer rows header block long = refused_answer rows header block 0 why.Limi
 -- ---- a block turns it
 
 -- a block that serves nothing has its reply
-pub answered : {D : Type 0} (seen : D → Option (List ℕ)) (may_leave : D → List ℕ → Type 0) (rows : List Row) (header : Script) (waiting : List ℕ) (a : Answer)
+pub answered : {D : Type 0} (seen : D → Option (List ℕ)) (may_leave : D → List ℕ → Type 0) (moment : D → ℕ) (left_since : D → ℕ → List ℕ → Type 0) (rows : List Row) (header : Script) (waiting : List ℕ) (a : Answer)
     (number : ℕ) (state : Standing) (journal : JournalState D) (said : Result (Unit {0}) Refusal) (old new : Option (List Turn)) → IsAnswer rows header a → a.parts ≡ [] → a.records ≡ []
     → OnOk said (Says old new a.reply) → IfErr said (IsSaidUpTo a.reply old new)
-    → IsTurned seen may_leave rows header (a.block ∷ []) waiting waiting number number state state journal journal (turned_by said true) old new
-answered seen may_leave rows header waiting a number state journal (Ok done) old new is no_parts no_records says upto = λ from reserved first start turns took serving.
-    replies_nothing seen may_leave rows header from reserved first waiting a number state journal start old new turns took serving is no_parts no_records says
-answered seen may_leave rows header waiting a number state journal (Err refused.WriteFault) old new is no_parts no_records says upto =
-    ends_refused seen may_leave rows header waiting a number state journal old new is no_parts no_records upto
-answered seen may_leave rows header waiting a number state journal (Err refused.NoMemory) old new is no_parts no_records says upto =
-    ends_memory seen may_leave rows header (a.block ∷ []) waiting number state journal journal old new upto (own_covers seen may_leave rows header number state journal)
-answered seen may_leave rows header waiting a number state journal (Err refused.Usage) old new is no_parts no_records says upto = absurd upto
-answered seen may_leave rows header waiting a number state journal (Err (refused.Subscribers row fault)) old new is no_parts no_records says upto = absurd upto
-answered seen may_leave rows header waiting a number state journal (Err (refused.Scenario line fault)) old new is no_parts no_records says upto = absurd upto
-answered seen may_leave rows header waiting a number state journal (Err refused.ReadFault) old new is no_parts no_records says upto = absurd upto
-answered seen may_leave rows header waiting a number state journal (Err refused.StoreFault) old new is no_parts no_records says upto = absurd upto
-answered seen may_leave rows header waiting a number state journal (Err (refused.NotJournal place)) old new is no_parts no_records says upto = absurd upto
-answered seen may_leave rows header waiting a number state journal (Err refused.StoreFull) old new is no_parts no_records says upto = absurd upto
-answered seen may_leave rows header waiting a number state journal (Err refused.TooLong) old new is no_parts no_records says upto = absurd upto
+    → IsTurned seen may_leave moment left_since rows header (a.block ∷ []) waiting waiting number number state state journal journal (turned_by said true) old new
+answered seen may_leave moment left_since rows header waiting a number state journal (Ok done) old new is no_parts no_records says upto = λ from reserved first start turns took serving.
+    replies_nothing seen may_leave moment left_since rows header from reserved first waiting a number state journal start old new turns took serving is no_parts no_records says
+answered seen may_leave moment left_since rows header waiting a number state journal (Err refused.WriteFault) old new is no_parts no_records says upto =
+    ends_refused seen may_leave moment left_since rows header waiting a number state journal old new is no_parts no_records upto
+answered seen may_leave moment left_since rows header waiting a number state journal (Err refused.NoMemory) old new is no_parts no_records says upto =
+    ends_memory seen may_leave moment left_since rows header (a.block ∷ []) waiting number state journal journal old new upto (own_covers seen may_leave moment left_since rows header number state journal)
+answered seen may_leave moment left_since rows header waiting a number state journal (Err refused.Usage) old new is no_parts no_records says upto = absurd upto
+answered seen may_leave moment left_since rows header waiting a number state journal (Err (refused.Subscribers row fault)) old new is no_parts no_records says upto = absurd upto
+answered seen may_leave moment left_since rows header waiting a number state journal (Err (refused.Scenario line fault)) old new is no_parts no_records says upto = absurd upto
+answered seen may_leave moment left_since rows header waiting a number state journal (Err refused.ReadFault) old new is no_parts no_records says upto = absurd upto
+answered seen may_leave moment left_since rows header waiting a number state journal (Err refused.StoreFault) old new is no_parts no_records says upto = absurd upto
+answered seen may_leave moment left_since rows header waiting a number state journal (Err (refused.NotJournal place)) old new is no_parts no_records says upto = absurd upto
+answered seen may_leave moment left_since rows header waiting a number state journal (Err refused.StoreFull) old new is no_parts no_records says upto = absurd upto
+answered seen may_leave moment left_since rows header waiting a number state journal (Err refused.TooLong) old new is no_parts no_records says upto = absurd upto
 
 -- a service ends in a round that was served
-ends_round : {D : Type 0} (seen : D → Option (List ℕ)) (may_leave : D → List ℕ → Type 0) (rows : List Row) (header : Script) (waiting block text : List ℕ) (jobs : List (List Line))
+ends_round : {D : Type 0} (seen : D → Option (List ℕ)) (may_leave : D → List ℕ → Type 0) (moment : D → ℕ) (left_since : D → ℕ → List ℕ → Type 0) (rows : List Row) (header : Script) (waiting block text : List ℕ) (jobs : List (List Line))
     (number : ℕ) (state next : Standing) (journal after : JournalState D) (stop : Option Stop) (ended : Status) (pieces : List (List ℕ)) (old new : Option (List Turn))
-    → asked_of rows block ≡ Ok (Some jobs) → IsKnownPart rows (Round jobs) → MakesRound seen may_leave (setting_of rows header) header.full number state journal jobs stop next after [] text
+    → asked_of rows block ≡ Ok (Some jobs) → IsKnownPart rows (Round jobs) → MakesRound seen may_leave moment left_since (setting_of rows header) header.full number state journal jobs stop next after [] text
     → Turns old new (map Said pieces) → IsSaid ended (concat pieces) (text ++ end_line)
     → ((left : List (List ℕ)) → LeavesNone ended left) → IsServiceStop ended stop → ((left : List ℕ) → IsLastReply ended left []) → (ended ≡ status.StoreFull → stop ≡ Some Full) → ended ≢ status.TooLong
-    → EndsServing seen may_leave rows header (block ∷ []) waiting number state journal ended after.disk old new
-ends_round {D} seen may_leave rows header waiting block text jobs number state next journal after stop ended pieces old new asked known makes said is_said none stopped last full in_time = λ from reserved first start turns took serving.
+    → EndsServing seen may_leave moment left_since rows header (block ∷ []) waiting number state journal ended after.disk old new
+ends_round {D} seen may_leave moment left_since rows header waiting block text jobs number state next journal after stop ended pieces old new asked known makes said is_said none stopped last full in_time = λ from reserved first start turns took serving.
     let set = setting_of rows header in
     let round = makes.round in
     let made = record_of.Round round in
-    let leads = makes.leads from reserved serving.at serving.on in
+    let leads = makes.leads from reserved serving.at [] serving.on (inr (asked_quiet rows block jobs asked)) in
     let a : Answer = record { block = block; parts = Round jobs ∷ []; records = made ∷ []; reply = round_text set header.full round ++ end_line } in
     let is : IsAnswer rows header a = rw asked (round, refl, refl, refl) in
     let all = leads_more set stop (beginning rows reserved) (parts_in serving.answers) (records_in serving.answers) serving.at (Round jobs) made leads.next serving.leads leads.served in (
       turns ++ map Said pieces,
       turns_more start old new turns (map Said pieces) took said,
-      ends_answer seen may_leave rows header from reserved first waiting a number state journal turns pieces ended after.disk stop leads.next serving is (none (blocks_in waiting).whole) stopped (last (blocks_in waiting).left)
+      ends_answer seen may_leave moment left_since rows header from reserved first waiting a number state journal turns pieces ended after.disk stop leads.next serving is (none (blocks_in waiting).whole) stopped (last (blocks_in waiting).left)
           (subst (λ (t : List ℕ). IsSaid ended (concat pieces) (t ++ end_line)) makes.is_text is_said)
           (subst (λ (rs : List PartRecord). Leads set stop (beginning rows reserved) (parts_in (serving.answers ++ a ∷ [])) rs leads.next) (sym (records_round serving.answers a made refl))
           (subst (λ (ps : List Part). Leads set stop (beginning rows reserved) ps (records_in serving.answers ++ made ∷ []) leads.next) (sym (parts_round serving.answers a (Round jobs) refl)) all))
           (subst (All PartFits) (sym (records_round serving.answers a made refl)) (All-push PartFits (records_in serving.answers) made serving.fits makes.fits))
           (subst (All (IsKnownPart rows)) (sym (parts_round serving.answers a (Round jobs) refl)) (All-push (IsKnownPart rows) (parts_in serving.answers) (Round jobs) serving.known known))
-          (left_reserves seen may_leave rows from reserved leads.next ended after leads.reserves
-          (λ is_full. let is_stop = full is_full in full_journal seen may_leave set from reserved leads.next after leads.reserves (ready_if after.failed stop makes.failed (full_no_fault stop is_stop)) (makes.no_room is_stop))) in_time,
+          (left_reserves seen may_leave moment left_since rows from reserved leads.next ended after leads.reserves
+          (λ is_full. let is_stop = full is_full in full_journal seen may_leave moment left_since set from reserved leads.next after leads.reserves (ready_if after.failed stop makes.failed (full_no_fault stop is_stop)) (makes.no_room is_stop))) in_time,
     )
   where
     full_no_fault : (stop : Option Stop) → stop ≡ Some Full → stop ≢ Some Fault
@@ -344,34 +351,34 @@ ends_round {D} seen may_leave rows header waiting block text jobs number state n
         apart same = cc
 
 -- a block whose round was served has its reply
-pub served : {D : Type 0} (seen : D → Option (List ℕ)) (may_leave : D → List ℕ → Type 0) (rows : List Row) (header : Script) (waiting block text : List ℕ) (jobs : List (List Line))
-    (number : ℕ) (state next : Standing) (journal after : JournalState D) (stop : Option Stop) (said : Result (Unit {0}) Refusal) (old new : Option (List Turn))
-    → asked_of rows block ≡ Ok (Some jobs) → IsKnownPart rows (Round jobs) → MakesRound seen may_leave (setting_of rows header) header.full number state journal jobs stop next after [] text
+pub served : {D : Type 0} (seen : D → Option (List ℕ)) (may_leave : D → List ℕ → Type 0) (moment : D → ℕ) (left_since : D → ℕ → List ℕ → Type 0) (rows : List Row) (header : Script) (waiting block text : List ℕ) (jobs : List (List Line))
+    (number : ℕ) (state next later : Standing) (journal after : JournalState D) (stop : Option Stop) (said : Result (Unit {0}) Refusal) (old new : Option (List Turn))
+    → asked_of rows block ≡ Ok (Some jobs) → IsKnownPart rows (Round jobs) → MakesRound seen may_leave moment left_since (setting_of rows header) header.full number state journal jobs stop next after [] text → Forgets next later
     → OnOk said (Says old new (text ++ end_line)) → IfErr said (IsSaidUpTo (text ++ end_line) old new)
-    → IsTurned seen may_leave rows header (block ∷ []) waiting waiting number (number + 1) state next journal after (turned_by (round_answer said stop) true) old new
-served seen may_leave rows header waiting block text jobs number state next journal after None (Ok done) old new asked known makes says upto = λ from reserved first start turns took serving.
-    replies_round seen may_leave rows header from reserved first waiting block text jobs number state next journal after start old new turns took serving asked known makes says
-served seen may_leave rows header waiting block text jobs number state next journal after (Some Fault) (Ok done) old new asked known makes says upto =
-    ends_round seen may_leave rows header waiting block text jobs number state next journal after (Some Fault) status.StoreFault says.pieces old new asked known makes says.turns says.whole (λ left. tt) refl (λ left. refl) (λ is. absurd (apart is)) fault_in_time
+    → IsTurned seen may_leave moment left_since rows header (block ∷ []) waiting waiting number (number + 1) state later journal after (turned_by (round_answer said stop) true) old new
+served seen may_leave moment left_since rows header waiting block text jobs number state next later journal after None (Ok done) old new asked known makes forgets says upto = λ from reserved first start turns took serving.
+    replies_round seen may_leave moment left_since rows header from reserved first waiting block text jobs number state next later journal after start old new turns took serving asked known makes forgets says
+served seen may_leave moment left_since rows header waiting block text jobs number state next later journal after (Some Fault) (Ok done) old new asked known makes forgets says upto =
+    ends_round seen may_leave moment left_since rows header waiting block text jobs number state next journal after (Some Fault) status.StoreFault says.pieces old new asked known makes says.turns says.whole (λ left. tt) refl (λ left. refl) (λ is. absurd (apart is)) fault_in_time
   where
     apart : status.StoreFault ≡ status.StoreFull → ⊥
     apart same = cc
-served seen may_leave rows header waiting block text jobs number state next journal after (Some Full) (Ok done) old new asked known makes says upto =
-    ends_round seen may_leave rows header waiting block text jobs number state next journal after (Some Full) status.StoreFull says.pieces old new asked known makes says.turns says.whole (λ left. tt) refl (λ left. refl) (λ is. refl) full_in_time
-served seen may_leave rows header waiting block text jobs number state next journal after stop (Err refused.WriteFault) old new asked known makes says upto =
-    ends_round seen may_leave rows header waiting block text jobs number state next journal after stop status.WriteFault upto.said.pieces old new asked known makes upto.said.turns (said_front old new (text ++ end_line) upto)
+served seen may_leave moment left_since rows header waiting block text jobs number state next later journal after (Some Full) (Ok done) old new asked known makes forgets says upto =
+    ends_round seen may_leave moment left_since rows header waiting block text jobs number state next journal after (Some Full) status.StoreFull says.pieces old new asked known makes says.turns says.whole (λ left. tt) refl (λ left. refl) (λ is. refl) full_in_time
+served seen may_leave moment left_since rows header waiting block text jobs number state next later journal after stop (Err refused.WriteFault) old new asked known makes forgets says upto =
+    ends_round seen may_leave moment left_since rows header waiting block text jobs number state next journal after stop status.WriteFault upto.said.pieces old new asked known makes upto.said.turns (said_front old new (text ++ end_line) upto)
     (λ left. tt) tt (λ left. inl refl) (λ is. absurd (write_full is)) write_in_time
-served {D} seen may_leave rows header waiting block text jobs number state next journal after stop (Err refused.NoMemory) old new asked known makes says upto =
-    ends_memory seen may_leave rows header (block ∷ []) waiting number state journal after old new upto
-    (λ from reserved at on. let leads = makes.leads from reserved at on in covers_before seen may_leave rows from reserved at.early (all_lines makes.round.jobs) leads.next after leads.early leads.reserves)
-served seen may_leave rows header waiting block text jobs number state next journal after stop (Err refused.Usage) old new asked known makes says upto = absurd upto
-served seen may_leave rows header waiting block text jobs number state next journal after stop (Err (refused.Subscribers row fault)) old new asked known makes says upto = absurd upto
-served seen may_leave rows header waiting block text jobs number state next journal after stop (Err (refused.Scenario line fault)) old new asked known makes says upto = absurd upto
-served seen may_leave rows header waiting block text jobs number state next journal after stop (Err refused.ReadFault) old new asked known makes says upto = absurd upto
-served seen may_leave rows header waiting block text jobs number state next journal after stop (Err refused.StoreFault) old new asked known makes says upto = absurd upto
-served seen may_leave rows header waiting block text jobs number state next journal after stop (Err (refused.NotJournal place)) old new asked known makes says upto = absurd upto
-served seen may_leave rows header waiting block text jobs number state next journal after stop (Err refused.StoreFull) old new asked known makes says upto = absurd upto
-served seen may_leave rows header waiting block text jobs number state next journal after stop (Err refused.TooLong) old new asked known makes says upto = absurd upto
+served {D} seen may_leave moment left_since rows header waiting block text jobs number state next later journal after stop (Err refused.NoMemory) old new asked known makes forgets says upto =
+    ends_memory seen may_leave moment left_since rows header (block ∷ []) waiting number state journal after old new upto
+    (λ from reserved at on. let leads = makes.leads from reserved at [] on (inr (asked_quiet rows block jobs asked)) in covers_before seen may_leave moment left_since rows from reserved at.early (all_lines makes.round.jobs) leads.next after leads.early leads.reserves)
+served seen may_leave moment left_since rows header waiting block text jobs number state next later journal after stop (Err refused.Usage) old new asked known makes forgets says upto = absurd upto
+served seen may_leave moment left_since rows header waiting block text jobs number state next later journal after stop (Err (refused.Subscribers row fault)) old new asked known makes forgets says upto = absurd upto
+served seen may_leave moment left_since rows header waiting block text jobs number state next later journal after stop (Err (refused.Scenario line fault)) old new asked known makes forgets says upto = absurd upto
+served seen may_leave moment left_since rows header waiting block text jobs number state next later journal after stop (Err refused.ReadFault) old new asked known makes forgets says upto = absurd upto
+served seen may_leave moment left_since rows header waiting block text jobs number state next later journal after stop (Err refused.StoreFault) old new asked known makes forgets says upto = absurd upto
+served seen may_leave moment left_since rows header waiting block text jobs number state next later journal after stop (Err (refused.NotJournal place)) old new asked known makes forgets says upto = absurd upto
+served seen may_leave moment left_since rows header waiting block text jobs number state next later journal after stop (Err refused.StoreFull) old new asked known makes forgets says upto = absurd upto
+served seen may_leave moment left_since rows header waiting block text jobs number state next later journal after stop (Err refused.TooLong) old new asked known makes forgets says upto = absurd upto
 
 -- ---- which refusal it was
 
@@ -444,36 +451,36 @@ pub none_waits : EachBlockIsSplitOff → (text : List ℕ) → first_block text 
 none_waits split text none = split text ∙ ap (and_those blocks_in text) none
 
 -- the reply to what is left at the end of the input
-pub ended : {D : Type 0} (seen : D → Option (List ℕ)) (may_leave : D → List ℕ → Type 0) (rows : List Row) (header : Script) (text waits : List ℕ)
+pub ended : {D : Type 0} (seen : D → Option (List ℕ)) (may_leave : D → List ℕ → Type 0) (moment : D → ℕ) (left_since : D → ℕ → List ℕ → Type 0) (rows : List Row) (header : Script) (text waits : List ℕ)
     (number : ℕ) (state : Standing) (journal : JournalState D) (said : Result (Unit {0}) Refusal) (old new : Option (List Turn)) → EachBlockIsSplitOff → first_block text ≡ None
     → OnOk said (Says old new (reply_to_rest text)) → IfErr said (IsSaidUpTo (reply_to_rest text) old new)
-    → IsTurned seen may_leave rows header [] text waits number number state state journal journal (turned_by said false) old new
-ended seen may_leave rows header text waits number state journal (Ok done) old new split none says upto = λ from reserved first start turns took serving.
+    → IsTurned seen may_leave moment left_since rows header [] text waits number number state state journal journal (turned_by said false) old new
+ended seen may_leave moment left_since rows header text waits number state journal (Ok done) old new split none says upto = λ from reserved first start turns took serving.
     let all = none_waits split text none in (
       turns ++ map Said says.pieces,
       turns_more start old new turns (map Said says.pieces) took says.turns,
-      ends_still seen may_leave rows header from reserved first [] text number state journal turns says.pieces status.Done journal.disk (reply_to_rest text) serving
+      ends_still seen may_leave moment left_since rows header from reserved first [] text number state journal turns says.pieces status.Done journal.disk (reply_to_rest text) serving
           (ap (λ (b : Blocks). b.whole) all) refl (ap (λ (b : Blocks). reply_to_rest b.left) (sym all)) says.whole
-          (left_at seen may_leave rows from reserved serving.at status.Done journal serving.on.reserves done_full) (λ is. absurd (done_in_time is)),
+          (left_at seen may_leave moment left_since rows from reserved serving.at status.Done journal serving.on.reserves done_full) (λ is. absurd (done_in_time is)),
     )
-ended seen may_leave rows header text waits number state journal (Err refused.WriteFault) old new split none says upto = λ from reserved first start turns took serving.
+ended seen may_leave moment left_since rows header text waits number state journal (Err refused.WriteFault) old new split none says upto = λ from reserved first start turns took serving.
     let all = none_waits split text none in (
       turns ++ map Said upto.said.pieces,
       turns_more start old new turns (map Said upto.said.pieces) took upto.said.turns,
-      ends_still seen may_leave rows header from reserved first [] text number state journal turns upto.said.pieces status.WriteFault journal.disk (reply_to_rest text) serving
+      ends_still seen may_leave moment left_since rows header from reserved first [] text number state journal turns upto.said.pieces status.WriteFault journal.disk (reply_to_rest text) serving
           tt tt (inr (ap (λ (b : Blocks). reply_to_rest b.left) (sym all))) (said_front old new (reply_to_rest text) upto)
-          (left_at seen may_leave rows from reserved serving.at status.WriteFault journal serving.on.reserves write_full) (λ is. absurd (write_in_time is)),
+          (left_at seen may_leave moment left_since rows from reserved serving.at status.WriteFault journal serving.on.reserves write_full) (λ is. absurd (write_in_time is)),
     )
-ended seen may_leave rows header text waits number state journal (Err refused.NoMemory) old new split none says upto =
-    ends_memory seen may_leave rows header [] text number state journal journal old new upto (own_covers seen may_leave rows header number state journal)
-ended seen may_leave rows header text waits number state journal (Err refused.Usage) old new split none says upto = absurd upto
-ended seen may_leave rows header text waits number state journal (Err (refused.Subscribers row fault)) old new split none says upto = absurd upto
-ended seen may_leave rows header text waits number state journal (Err (refused.Scenario line fault)) old new split none says upto = absurd upto
-ended seen may_leave rows header text waits number state journal (Err refused.ReadFault) old new split none says upto = absurd upto
-ended seen may_leave rows header text waits number state journal (Err refused.StoreFault) old new split none says upto = absurd upto
-ended seen may_leave rows header text waits number state journal (Err (refused.NotJournal place)) old new split none says upto = absurd upto
-ended seen may_leave rows header text waits number state journal (Err refused.StoreFull) old new split none says upto = absurd upto
-ended seen may_leave rows header text waits number state journal (Err refused.TooLong) old new split none says upto = absurd upto
+ended seen may_leave moment left_since rows header text waits number state journal (Err refused.NoMemory) old new split none says upto =
+    ends_memory seen may_leave moment left_since rows header [] text number state journal journal old new upto (own_covers seen may_leave moment left_since rows header number state journal)
+ended seen may_leave moment left_since rows header text waits number state journal (Err refused.Usage) old new split none says upto = absurd upto
+ended seen may_leave moment left_since rows header text waits number state journal (Err (refused.Subscribers row fault)) old new split none says upto = absurd upto
+ended seen may_leave moment left_since rows header text waits number state journal (Err (refused.Scenario line fault)) old new split none says upto = absurd upto
+ended seen may_leave moment left_since rows header text waits number state journal (Err refused.ReadFault) old new split none says upto = absurd upto
+ended seen may_leave moment left_since rows header text waits number state journal (Err refused.StoreFault) old new split none says upto = absurd upto
+ended seen may_leave moment left_since rows header text waits number state journal (Err (refused.NotJournal place)) old new split none says upto = absurd upto
+ended seen may_leave moment left_since rows header text waits number state journal (Err refused.StoreFull) old new split none says upto = absurd upto
+ended seen may_leave moment left_since rows header text waits number state journal (Err refused.TooLong) old new split none says upto = absurd upto
 
 -- what is left of a block that is too long has the reply of its line 0
 pub long_rest : (text : List ℕ) → most_block < length text → reply_to_rest text ≡ refusal_reply 0 why.Limit
@@ -484,75 +491,75 @@ long_rest (byte ∷ more) long = rw above refl
     above = grind (arith, nat_tests, long)
 
 -- nothing is said
-ends_silent : {D : Type 0} (seen : D → Option (List ℕ)) (may_leave : D → List ℕ → Type 0) (rows : List Row) (header : Script) (waiting : List ℕ)
+ends_silent : {D : Type 0} (seen : D → Option (List ℕ)) (may_leave : D → List ℕ → Type 0) (moment : D → ℕ) (left_since : D → ℕ → List ℕ → Type 0) (rows : List Row) (header : Script) (waiting : List ℕ)
     (number : ℕ) (state : Standing) (journal : JournalState D) (now : Option (List Turn)) (ended : Status) → LeavesNone ended (blocks_in waiting).whole → IsServiceStop ended None
     → IsLastReply ended (blocks_in waiting).left [] → IsSaid ended [] [] → ended ≢ status.StoreFull
     → ((count : ℕ) → ended ≡ status.TooLong → IsLate count (blocks_in waiting).left)
-    → EndsServing seen may_leave rows header [] waiting number state journal ended journal.disk now now
-ends_silent seen may_leave rows header waiting number state journal now ended none stopped last said other late = λ from reserved first start turns took serving. (
+    → EndsServing seen may_leave moment left_since rows header [] waiting number state journal ended journal.disk now now
+ends_silent seen may_leave moment left_since rows header waiting number state journal now ended none stopped last said other late = λ from reserved first start turns took serving. (
   turns ++ map Said [],
   turns_more start now now turns [] took (turns_none now now refl),
-  ends_still seen may_leave rows header from reserved first [] waiting number state journal turns [] ended journal.disk [] serving none stopped last said
-      (left_at seen may_leave rows from reserved serving.at ended journal serving.on.reserves other) (late (length serving.answers)),
+  ends_still seen may_leave moment left_since rows header from reserved first [] waiting number state journal turns [] ended journal.disk [] serving none stopped last said
+      (left_at seen may_leave moment left_since rows from reserved serving.at ended journal serving.on.reserves other) (late (length serving.answers)),
 )
 
 -- a block isn't heard
-pub troubled : {D : Type 0} (seen : D → Option (List ℕ)) (may_leave : D → List ℕ → Type 0) (rows : List Row) (header : Script) (text waits : List ℕ)
+pub troubled : {D : Type 0} (seen : D → Option (List ℕ)) (may_leave : D → List ℕ → Type 0) (moment : D → ℕ) (left_since : D → ℕ → List ℕ → Type 0) (rows : List Row) (header : Script) (text waits : List ℕ)
     (number : ℕ) (state : Standing) (journal : JournalState D) (why : Trouble) (now : Option (List Turn)) → EachBlockIsSplitOff → (before later : ℕ) → IsTrouble why text before later → HasNoBlock why text
-    → IsTurned seen may_leave rows header [] text waits number number state state journal journal (turned_by (Err (trouble_refusal why)) false) now now
-troubled seen may_leave rows header text waits number state journal trouble.Failed now split before later is none =
-    ends_silent seen may_leave rows header text number state journal now status.ReadFault (ap (λ (b : Blocks). b.whole) (none_waits split text none)) refl refl refl read_full (λ count is. absurd (read_in_time is))
-troubled seen may_leave rows header text waits number state journal trouble.NoMemory now split before later is none =
-    ends_silent seen may_leave rows header text number state journal now status.NoMemory tt refl refl refl memory_full (λ count is. absurd (memory_in_time is))
-troubled seen may_leave rows header text waits number state journal trouble.Endless now split before later is none =
-    ends_silent seen may_leave rows header text number state journal now status.TooLong tt refl refl refl long_full
+    → IsTurned seen may_leave moment left_since rows header [] text waits number number state state journal journal (turned_by (Err (trouble_refusal why)) false) now now
+troubled seen may_leave moment left_since rows header text waits number state journal trouble.Failed now split before later is none =
+    ends_silent seen may_leave moment left_since rows header text number state journal now status.ReadFault (ap (λ (b : Blocks). b.whole) (none_waits split text none)) refl refl refl read_full (λ count is. absurd (read_in_time is))
+troubled seen may_leave moment left_since rows header text waits number state journal trouble.NoMemory now split before later is none =
+    ends_silent seen may_leave moment left_since rows header text number state journal now status.NoMemory tt refl refl refl memory_full (λ count is. absurd (memory_in_time is))
+troubled seen may_leave moment left_since rows header text waits number state journal trouble.Endless now split before later is none =
+    ends_silent seen may_leave moment left_since rows header text number state journal now status.TooLong tt refl refl refl long_full
     (λ count late. inr (subst (λ (rest : List ℕ). 2 ^ 64 - 1 ≤ length rest) (sym (ap (λ (b : Blocks). b.left) (none_waits split text none))) is.1))
 
 -- ---- what was heard before
 
 -- pieces were heard
-pub turned_heard : {D : Type 0} (seen : D → Option (List ℕ)) (may_leave : D → List ℕ → Type 0) (rows : List Row) (header : Script) (waiting text waits : List ℕ)
+pub turned_heard : {D : Type 0} (seen : D → Option (List ℕ)) (may_leave : D → List ℕ → Type 0) (moment : D → ℕ) (left_since : D → ℕ → List ℕ → Type 0) (rows : List Row) (header : Script) (waiting text waits : List ℕ)
     (number later : ℕ) (state next : Standing) (journal after : JournalState D) (result : Result Bool Refusal) (old mid new : Option (List Turn)) → EachBlockIsSplitOff → EarlierBlocksStand
-    → IsHeard old mid waiting text → IsTurned seen may_leave rows header [] text waits number later state next journal after result mid new
-    → IsTurned seen may_leave rows header [] waiting waits number later state next journal after result old new
-turned_heard seen may_leave rows header waiting text waits number later state next journal after (Ok true) old mid new split stand is turned = λ from reserved first start turns took serving.
-    let heard = hears seen may_leave rows header from reserved first waiting text number state journal start old mid turns split stand took serving is in
+    → IsHeard old mid waiting text → IsTurned seen may_leave moment left_since rows header [] text waits number later state next journal after result mid new
+    → IsTurned seen may_leave moment left_since rows header [] waiting waits number later state next journal after result old new
+turned_heard seen may_leave moment left_since rows header waiting text waits number later state next journal after (Ok true) old mid new split stand is turned = λ from reserved first start turns took serving.
+    let heard = hears seen may_leave moment left_since rows header from reserved first waiting text number state journal start old mid turns split stand took serving is in
     let goes = turned from reserved first start heard.0 heard.1 heard.2 in
     (goes.0, goes.1, goes.2, goes.3 ∙ ap (λ (n : ℕ). 1 + n) heard.3)
-turned_heard seen may_leave rows header waiting text waits number later state next journal after (Ok false) old mid new split stand is turned = λ from reserved first start turns took serving.
-    let heard = hears seen may_leave rows header from reserved first waiting text number state journal start old mid turns split stand took serving is in
+turned_heard seen may_leave moment left_since rows header waiting text waits number later state next journal after (Ok false) old mid new split stand is turned = λ from reserved first start turns took serving.
+    let heard = hears seen may_leave moment left_since rows header from reserved first waiting text number state journal start old mid turns split stand took serving is in
     turned from reserved first start heard.0 heard.1 heard.2
-turned_heard seen may_leave rows header waiting text waits number later state next journal after (Err refusal) old mid new split stand is turned = λ from reserved first start turns took serving.
-    let heard = hears seen may_leave rows header from reserved first waiting text number state journal start old mid turns split stand took serving is in
+turned_heard seen may_leave moment left_since rows header waiting text waits number later state next journal after (Err refusal) old mid new split stand is turned = λ from reserved first start turns took serving.
+    let heard = hears seen may_leave moment left_since rows header from reserved first waiting text number state journal start old mid turns split stand took serving is in
     turned from reserved first start heard.0 heard.1 heard.2
 
 -- and the first whole block was taken
-pub turned_taken : {D : Type 0} (seen : D → Option (List ℕ)) (may_leave : D → List ℕ → Type 0) (rows : List Row) (header : Script) (text block waits : List ℕ)
+pub turned_taken : {D : Type 0} (seen : D → Option (List ℕ)) (may_leave : D → List ℕ → Type 0) (moment : D → ℕ) (left_since : D → ℕ → List ℕ → Type 0) (rows : List Row) (header : Script) (text block waits : List ℕ)
     (number later : ℕ) (state next : Standing) (journal after : JournalState D) (result : Result Bool Refusal) (old new : Option (List Turn)) → EachBlockIsSplitOff
-    → first_block text ≡ Some (block, waits) → IsTurned seen may_leave rows header (block ∷ []) waits waits number later state next journal after result old new
-    → IsTurned seen may_leave rows header [] text waits number later state next journal after result old new
-turned_taken seen may_leave rows header text block waits number later state next journal after (Ok true) old new split found turned = λ from reserved first start turns took serving.
-    let goes = turned from reserved first start turns took (takes seen may_leave rows header from reserved first text block waits number state journal turns split serving found) in
-    (goes.0, goes.1, goes.2, goes.3 ∙ ap (λ (n : ℕ). 1 + n) (takes_count seen may_leave rows header from reserved first text block waits number state journal turns split serving found))
-turned_taken seen may_leave rows header text block waits number later state next journal after (Ok false) old new split found turned = λ from reserved first start turns took serving.
-    turned from reserved first start turns took (takes seen may_leave rows header from reserved first text block waits number state journal turns split serving found)
-turned_taken seen may_leave rows header text block waits number later state next journal after (Err refusal) old new split found turned = λ from reserved first start turns took serving.
-    turned from reserved first start turns took (takes seen may_leave rows header from reserved first text block waits number state journal turns split serving found)
+    → first_block text ≡ Some (block, waits) → IsTurned seen may_leave moment left_since rows header (block ∷ []) waits waits number later state next journal after result old new
+    → IsTurned seen may_leave moment left_since rows header [] text waits number later state next journal after result old new
+turned_taken seen may_leave moment left_since rows header text block waits number later state next journal after (Ok true) old new split found turned = λ from reserved first start turns took serving.
+    let goes = turned from reserved first start turns took (takes seen may_leave moment left_since rows header from reserved first text block waits number state journal turns split serving found) in
+    (goes.0, goes.1, goes.2, goes.3 ∙ ap (λ (n : ℕ). 1 + n) (takes_count seen may_leave moment left_since rows header from reserved first text block waits number state journal turns split serving found))
+turned_taken seen may_leave moment left_since rows header text block waits number later state next journal after (Ok false) old new split found turned = λ from reserved first start turns took serving.
+    turned from reserved first start turns took (takes seen may_leave moment left_since rows header from reserved first text block waits number state journal turns split serving found)
+turned_taken seen may_leave moment left_since rows header text block waits number later state next journal after (Err refusal) old new split found turned = λ from reserved first start turns took serving.
+    turned from reserved first start turns took (takes seen may_leave moment left_since rows header from reserved first text block waits number state journal turns split serving found)
 
 -- ---- block after block
 
 -- where a service begins
-pub goes_same : {D : Type 0} (seen : D → Option (List ℕ)) (may_leave : D → List ℕ → Type 0) (rows : List Row) (header : Script) (waiting : List ℕ) (number : ℕ) (state : Standing) (journal : JournalState D)
-    (now : Option (List Turn)) → GoesOnServing seen may_leave rows header [] waiting waiting number number state state journal journal 0 now now
-goes_same seen may_leave rows header waiting number state journal now = λ from reserved first start turns took serving. (turns, took, serving, omega arith)
+pub goes_same : {D : Type 0} (seen : D → Option (List ℕ)) (may_leave : D → List ℕ → Type 0) (moment : D → ℕ) (left_since : D → ℕ → List ℕ → Type 0) (rows : List Row) (header : Script) (waiting : List ℕ) (number : ℕ) (state : Standing) (journal : JournalState D)
+    (now : Option (List Turn)) → GoesOnServing seen may_leave moment left_since rows header [] waiting waiting number number state state journal journal 0 now now
+goes_same seen may_leave moment left_since rows header waiting number state journal now = λ from reserved first start turns took serving. (turns, took, serving, omega arith)
 
 -- and one block more
-pub goes_more : {D : Type 0} (seen : D → Option (List ℕ)) (may_leave : D → List ℕ → Type 0) (rows : List Row) (header : Script) (waiting mid waits : List ℕ) (number middle later : ℕ) (state between next : Standing)
+pub goes_more : {D : Type 0} (seen : D → Option (List ℕ)) (may_leave : D → List ℕ → Type 0) (moment : D → ℕ) (left_since : D → ℕ → List ℕ → Type 0) (rows : List Row) (header : Script) (waiting mid waits : List ℕ) (number middle later : ℕ) (state between next : Standing)
     (journal present after : JournalState D) (count : ℕ) (old now new : Option (List Turn))
-    → GoesOnServing seen may_leave rows header [] waiting mid number middle state between journal present count old now
-    → GoesOnServing seen may_leave rows header [] mid waits middle later between next present after 1 now new
-    → GoesOnServing seen may_leave rows header [] waiting waits number later state next journal after (count + 1) old new
-goes_more seen may_leave rows header waiting mid waits number middle later state between next journal present after count old now new first second = λ from reserved block start turns took serving.
+    → GoesOnServing seen may_leave moment left_since rows header [] waiting mid number middle state between journal present count old now
+    → GoesOnServing seen may_leave moment left_since rows header [] mid waits middle later between next present after 1 now new
+    → GoesOnServing seen may_leave moment left_since rows header [] waiting waits number later state next journal after (count + 1) old new
+goes_more seen may_leave moment left_since rows header waiting mid waits number middle later state between next journal present after count old now new first second = λ from reserved block start turns took serving.
     let one = first from reserved block start turns took serving in
     let two = second from reserved block start one.0 one.1 one.2 in
     let earlier = one.3 in
@@ -560,66 +567,66 @@ goes_more seen may_leave rows header waiting mid waits number middle later state
     (two.0, two.1, two.2, omega (arith, earlier, further))
 
 -- and it ends
-pub ends_more : {D : Type 0} (seen : D → Option (List ℕ)) (may_leave : D → List ℕ → Type 0) (rows : List Row) (header : Script) (waiting mid : List ℕ) (number middle : ℕ) (state between : Standing)
+pub ends_more : {D : Type 0} (seen : D → Option (List ℕ)) (may_leave : D → List ℕ → Type 0) (moment : D → ℕ) (left_since : D → ℕ → List ℕ → Type 0) (rows : List Row) (header : Script) (waiting mid : List ℕ) (number middle : ℕ) (state between : Standing)
     (journal present : JournalState D) (ended : Status) (disk : D) (count : ℕ) (old now new : Option (List Turn))
-    → GoesOnServing seen may_leave rows header [] waiting mid number middle state between journal present count old now
-    → EndsServing seen may_leave rows header [] mid middle between present ended disk now new
-    → EndsServing seen may_leave rows header [] waiting number state journal ended disk old new
-ends_more seen may_leave rows header waiting mid number middle state between journal present ended disk count old now new first second = λ from reserved block start turns took serving.
+    → GoesOnServing seen may_leave moment left_since rows header [] waiting mid number middle state between journal present count old now
+    → EndsServing seen may_leave moment left_since rows header [] mid middle between present ended disk now new
+    → EndsServing seen may_leave moment left_since rows header [] waiting number state journal ended disk old new
+ends_more seen may_leave moment left_since rows header waiting mid number middle state between journal present ended disk count old now new first second = λ from reserved block start turns took serving.
     let one = first from reserved block start turns took serving in
     second from reserved block start one.0 one.1 one.2
 
 -- it serves at each block
-pub serves_any : {D : Type 0} (seen : D → Option (List ℕ)) (may_leave : D → List ℕ → Type 0) (rows : List Row) (header : Script) (waiting mid : List ℕ) (number middle : ℕ) (state between : Standing)
+pub serves_any : {D : Type 0} (seen : D → Option (List ℕ)) (may_leave : D → List ℕ → Type 0) (moment : D → ℕ) (left_since : D → ℕ → List ℕ → Type 0) (rows : List Row) (header : Script) (waiting mid : List ℕ) (number middle : ℕ) (state between : Standing)
     (journal present : JournalState D) (count : ℕ) (old now : Option (List Turn))
-    → IsServingAny seen may_leave rows header [] waiting number state journal old
-    → GoesOnServing seen may_leave rows header [] waiting mid number middle state between journal present count old now
-    → IsServingAny seen may_leave rows header [] mid middle between present now
-serves_any seen may_leave rows header waiting mid number middle state between journal present count old now (from, reserved, block, start, turns, took, serving) goes =
+    → IsServingAny seen may_leave moment left_since rows header [] waiting number state journal old
+    → GoesOnServing seen may_leave moment left_since rows header [] waiting mid number middle state between journal present count old now
+    → IsServingAny seen may_leave moment left_since rows header [] mid middle between present now
+serves_any seen may_leave moment left_since rows header waiting mid number middle state between journal present count old now (from, reserved, block, start, turns, took, serving) goes =
     let one = goes from reserved block start turns took serving in
     (from, reserved, block, start, one.0, one.1, one.2)
 
 -- it hears no more after so many blocks
-pub ends_late : {D : Type 0} (seen : D → Option (List ℕ)) (may_leave : D → List ℕ → Type 0) (rows : List Row) (header : Script) (waiting mid : List ℕ) (number middle : ℕ) (state between : Standing)
+pub ends_late : {D : Type 0} (seen : D → Option (List ℕ)) (may_leave : D → List ℕ → Type 0) (moment : D → ℕ) (left_since : D → ℕ → List ℕ → Type 0) (rows : List Row) (header : Script) (waiting mid : List ℕ) (number middle : ℕ) (state between : Standing)
     (journal present : JournalState D) (count : ℕ) (old now : Option (List Turn)) → most_blocks ≤ count
-    → GoesOnServing seen may_leave rows header [] waiting mid number middle state between journal present count old now
-    → EndsServing seen may_leave rows header [] waiting number state journal status.TooLong present.disk old now
-ends_late seen may_leave rows header waiting mid number middle state between journal present count old now many goes = λ from reserved block start turns took serving.
+    → GoesOnServing seen may_leave moment left_since rows header [] waiting mid number middle state between journal present count old now
+    → EndsServing seen may_leave moment left_since rows header [] waiting number state journal status.TooLong present.disk old now
+ends_late seen may_leave moment left_since rows header waiting mid number middle state between journal present count old now many goes = λ from reserved block start turns took serving.
     let one = goes from reserved block start turns took serving in
     let counted = one.3 in (
       one.0 ++ map Said [],
       turns_more start now now one.0 [] one.1 (turns_none now now refl),
-      ends_still seen may_leave rows header from reserved block [] mid middle between present one.0 [] status.TooLong present.disk [] one.2 tt refl refl refl
-          (left_at seen may_leave rows from reserved one.2.at status.TooLong present one.2.on.reserves long_full) (λ is. inl (omega (arith, many, counted))),
+      ends_still seen may_leave moment left_since rows header from reserved block [] mid middle between present one.0 [] status.TooLong present.disk [] one.2 tt refl refl refl
+          (left_at seen may_leave moment left_since rows from reserved one.2.at status.TooLong present one.2.on.reserves long_full) (λ is. inl (omega (arith, many, counted))),
     )
 
 -- and takes a block that was heard
-pub serves_block : {D : Type 0} (seen : D → Option (List ℕ)) (may_leave : D → List ℕ → Type 0) (rows : List Row) (header : Script) (waiting text block rest : List ℕ) (number : ℕ) (state : Standing) (journal : JournalState D)
-    (old now : Option (List Turn)) → EachBlockIsSplitOff → EarlierBlocksStand → IsServingAny seen may_leave rows header [] waiting number state journal old → IsHeard old now waiting text
-    → first_block text ≡ Some (block, rest) → IsServingAny seen may_leave rows header (block ∷ []) rest number state journal now
-serves_block seen may_leave rows header waiting text block rest number state journal old now split stand (from, reserved, first, start, turns, took, serving) is found =
-    let heard = hears seen may_leave rows header from reserved first waiting text number state journal start old now turns split stand took serving is in
-    (from, reserved, first, start, heard.0, heard.1, takes seen may_leave rows header from reserved first text block rest number state journal heard.0 split heard.2 found)
+pub serves_block : {D : Type 0} (seen : D → Option (List ℕ)) (may_leave : D → List ℕ → Type 0) (moment : D → ℕ) (left_since : D → ℕ → List ℕ → Type 0) (rows : List Row) (header : Script) (waiting text block rest : List ℕ) (number : ℕ) (state : Standing) (journal : JournalState D)
+    (old now : Option (List Turn)) → EachBlockIsSplitOff → EarlierBlocksStand → IsServingAny seen may_leave moment left_since rows header [] waiting number state journal old → IsHeard old now waiting text
+    → first_block text ≡ Some (block, rest) → IsServingAny seen may_leave moment left_since rows header (block ∷ []) rest number state journal now
+serves_block seen may_leave moment left_since rows header waiting text block rest number state journal old now split stand (from, reserved, first, start, turns, took, serving) is found =
+    let heard = hears seen may_leave moment left_since rows header from reserved first waiting text number state journal start old now turns split stand took serving is in
+    (from, reserved, first, start, heard.0, heard.1, takes seen may_leave moment left_since rows header from reserved first text block rest number state journal heard.0 split heard.2 found)
 
 -- ---- by the answer of a block
 
 -- the next one is heard
-pub turned_goes : {D : Type 0} (seen : D → Option (List ℕ)) (may_leave : D → List ℕ → Type 0) (rows : List Row) (header : Script) (taken : List (List ℕ)) (waiting waits : List ℕ) (number later : ℕ) (state next : Standing)
-    (journal after : JournalState D) (result : Result Bool Refusal) (old new : Option (List Turn)) → result ≡ Ok true → IsTurned seen may_leave rows header taken waiting waits number later state next journal after result old new
-    → GoesOnServing seen may_leave rows header taken waiting waits number later state next journal after 1 old new
-turned_goes seen may_leave rows header taken waiting waits number later state next journal after result old new is turned =
-    subst (λ (r : Result Bool Refusal). IsTurned seen may_leave rows header taken waiting waits number later state next journal after r old new) is turned
+pub turned_goes : {D : Type 0} (seen : D → Option (List ℕ)) (may_leave : D → List ℕ → Type 0) (moment : D → ℕ) (left_since : D → ℕ → List ℕ → Type 0) (rows : List Row) (header : Script) (taken : List (List ℕ)) (waiting waits : List ℕ) (number later : ℕ) (state next : Standing)
+    (journal after : JournalState D) (result : Result Bool Refusal) (old new : Option (List Turn)) → result ≡ Ok true → IsTurned seen may_leave moment left_since rows header taken waiting waits number later state next journal after result old new
+    → GoesOnServing seen may_leave moment left_since rows header taken waiting waits number later state next journal after 1 old new
+turned_goes seen may_leave moment left_since rows header taken waiting waits number later state next journal after result old new is turned =
+    subst (λ (r : Result Bool Refusal). IsTurned seen may_leave moment left_since rows header taken waiting waits number later state next journal after r old new) is turned
 
 -- the input ended
-pub turned_stops : {D : Type 0} (seen : D → Option (List ℕ)) (may_leave : D → List ℕ → Type 0) (rows : List Row) (header : Script) (taken : List (List ℕ)) (waiting waits : List ℕ) (number later : ℕ) (state next : Standing)
-    (journal after : JournalState D) (result : Result Bool Refusal) (old new : Option (List Turn)) → result ≡ Ok false → IsTurned seen may_leave rows header taken waiting waits number later state next journal after result old new
-    → EndsServing seen may_leave rows header taken waiting number state journal status.Done after.disk old new
-turned_stops seen may_leave rows header taken waiting waits number later state next journal after result old new is turned =
-    subst (λ (r : Result Bool Refusal). IsTurned seen may_leave rows header taken waiting waits number later state next journal after r old new) is turned
+pub turned_stops : {D : Type 0} (seen : D → Option (List ℕ)) (may_leave : D → List ℕ → Type 0) (moment : D → ℕ) (left_since : D → ℕ → List ℕ → Type 0) (rows : List Row) (header : Script) (taken : List (List ℕ)) (waiting waits : List ℕ) (number later : ℕ) (state next : Standing)
+    (journal after : JournalState D) (result : Result Bool Refusal) (old new : Option (List Turn)) → result ≡ Ok false → IsTurned seen may_leave moment left_since rows header taken waiting waits number later state next journal after result old new
+    → EndsServing seen may_leave moment left_since rows header taken waiting number state journal status.Done after.disk old new
+turned_stops seen may_leave moment left_since rows header taken waiting waits number later state next journal after result old new is turned =
+    subst (λ (r : Result Bool Refusal). IsTurned seen may_leave moment left_since rows header taken waiting waits number later state next journal after r old new) is turned
 
 -- it is refused
-pub turned_refused : {D : Type 0} (seen : D → Option (List ℕ)) (may_leave : D → List ℕ → Type 0) (rows : List Row) (header : Script) (taken : List (List ℕ)) (waiting waits : List ℕ) (number later : ℕ) (state next : Standing)
-    (journal after : JournalState D) (result : Result Bool Refusal) (refusal : Refusal) (old new : Option (List Turn)) → result ≡ Err refusal → IsTurned seen may_leave rows header taken waiting waits number later state next journal after result old new
-    → EndsServing seen may_leave rows header taken waiting number state journal (status_of refusal) after.disk old new
-turned_refused seen may_leave rows header taken waiting waits number later state next journal after result refusal old new is turned =
-    subst (λ (r : Result Bool Refusal). IsTurned seen may_leave rows header taken waiting waits number later state next journal after r old new) is turned
+pub turned_refused : {D : Type 0} (seen : D → Option (List ℕ)) (may_leave : D → List ℕ → Type 0) (moment : D → ℕ) (left_since : D → ℕ → List ℕ → Type 0) (rows : List Row) (header : Script) (taken : List (List ℕ)) (waiting waits : List ℕ) (number later : ℕ) (state next : Standing)
+    (journal after : JournalState D) (result : Result Bool Refusal) (refusal : Refusal) (old new : Option (List Turn)) → result ≡ Err refusal → IsTurned seen may_leave moment left_since rows header taken waiting waits number later state next journal after result old new
+    → EndsServing seen may_leave moment left_since rows header taken waiting number state journal (status_of refusal) after.disk old new
+turned_refused seen may_leave moment left_since rows header taken waiting waits number later state next journal after result refusal old new is turned =
+    subst (λ (r : Result Bool Refusal). IsTurned seen may_leave moment left_since rows header taken waiting waits number later state next journal after r old new) is turned

@@ -1,5 +1,5 @@
 -- For a service: block after block is taken, answered, and its reply said.
-use Rattle.std.proofs.Common.{◌≡◌, ℕ, ◌+◌, ◌<◌, ◌≤◌, zero, suc, All, List, [], ◌∷◌, ◌++◌, length, map, take, Option, Some, None, Ok, refl, sym, ◌∙◌, ap, subst, arith, append-nil, append_assoc, length-append}
+use Rattle.std.proofs.Common.{◌≡◌, ℕ, ◌+◌, ◌<◌, ◌≤◌, zero, suc, All, List, [], ◌∷◌, ◌++◌, length, map, take, Option, Some, None, Ok, inr, refl, sym, ◌∙◌, ap, subst, arith, append-nil, append_assoc, length-append}
 use Rattle.std.specs.List.{concat}
 use Rattle.std.proofs.lemmas.Grind.{flat_map-append}
 use Rattle.std.proofs.lemmas.List.Elements.{All-push}
@@ -9,7 +9,7 @@ use Rattle.auc_block.specs.Turns.{Says, Turns}
 use Rattle.auc_block.specs.declared.turn.Turn.{Turn}
 use Rattle.auc_block.specs.declared.turn.Turn.TheVariants.{Heard, Said}
 use Rattle.auc_edge.specs.declared.stop.Stop.TheVariants.{Fault}
-use Rattle.auc_jobs.specs.State.{Standing}
+use Rattle.auc_jobs.specs.State.{AcceptNothing, Standing, StandsAt}
 use Rattle.auc_journal.specs.Journal.{JournalState}
 use Rattle.auc_lines.specs.declared.part.Line.{Line}
 use Rattle.auc_lines.specs.declared.part.Part.{Part}
@@ -19,15 +19,18 @@ use Rattle.auc_print.specs.Text.{round_text}
 use Rattle.auc_script.specs.declared.script.Script.{Script}
 use Rattle.auc_subs.specs.declared.row.Row.{Row}
 use Rattle.auc_transcript.proofs.Facts.{leads_more}
+use Rattle.auc_world.specs.Setting.{Setting}
 use Rattle.auc_world.specs.Transcript.{Course, Leads, beginning}
+use Rattle.auc_world.specs.declared.record.LineRecord.{LineRecord}
 use Rattle.auc_world.specs.declared.record.PartRecord.{PartRecord}
 use Rattle.auc_world.specs.declared.record.PartRecord.TheVariants as record_of
-use Rattle.auc_run.specs.Inner.{IsKnownPart, MakesRound, StandsOn}
+use Rattle.auc_run.specs.Inner.{IsKnownPart, MakesRound, StandsAfter}
 use Rattle.auc_run.specs.InnerService.{AreTaken, HasRepliedEach, IsServing}
 use Rattle.auc_run.specs.Output.{setting_of}
 use Rattle.auc_run.specs.Service.{Answer, HasReplied, IsAnswer, IsPrompt, asked_of, blocks_of, end_line, parts_in, ready_reply, records_in, replies_in}
 use Rattle.auc_run.specs.Turns.{heard_in, said_in}
-use Rattle.auc_run.proofs.StepLemmas.{goes_on}
+use Rattle.auc_run.proofs.BlockLemmas.{asked_quiet}
+use Rattle.auc_run.proofs.StepLemmas.{goes_quietly}
 
 -- ---- lists
 
@@ -188,12 +191,12 @@ pub said_behind : (turns : List Turn) (pieces : List (List ℕ)) → said_in (tu
 said_behind turns pieces = said_append turns (map Said pieces) ∙ ap (λ (r : List ℕ). said_in turns ++ r) (said_said pieces)
 
 -- pieces were heard because no block was whole: all that is known of a service stands, and what was heard waits
-pub hears : {D : Type 0} (seen : D → Option (List ℕ)) (may_leave : D → List ℕ → Type 0) (rows : List Row) (header : Script) (from : D) (reserved first waiting text : List ℕ)
+pub hears : {D : Type 0} (seen : D → Option (List ℕ)) (may_leave : D → List ℕ → Type 0) (moment : D → ℕ) (left_since : D → ℕ → List ℕ → Type 0) (rows : List Row) (header : Script) (from : D) (reserved first waiting text : List ℕ)
     (number : ℕ) (state : Standing) (journal : JournalState D) (start old new : Option (List Turn)) (turns : List Turn)
     → EachBlockIsSplitOff → EarlierBlocksStand → Turns start old turns
-    → (serving : IsServing seen may_leave rows header from reserved first [] waiting number state journal turns) → IsHeard old new waiting text
-    → (more : List Turn) × Turns start new more × (goes : IsServing seen may_leave rows header from reserved first [] text number state journal more) × (length goes.answers ≡ length serving.answers)
-hears seen may_leave rows header from reserved first waiting text number state journal start old new turns split stand took serving is_heard =
+    → (serving : IsServing seen may_leave moment left_since rows header from reserved first [] waiting number state journal turns) → IsHeard old new waiting text
+    → (more : List Turn) × Turns start new more × (goes : IsServing seen may_leave moment left_since rows header from reserved first [] text number state journal more) × (length goes.answers ≡ length serving.answers)
+hears seen may_leave moment left_since rows header from reserved first waiting text number state journal start old new turns split stand took serving is_heard =
     let pieces = is_heard.pieces in
     let front = first ∷ blocks_of serving.answers in
     let taken : AreTaken (heard_in turns) front waiting = rw (append-nil (blocks_of serving.answers)) at serving.heard in (
@@ -218,11 +221,11 @@ hears seen may_leave rows header from reserved first waiting text number state j
     )
 
 -- the first whole block of what waits is taken
-pub takes : {D : Type 0} (seen : D → Option (List ℕ)) (may_leave : D → List ℕ → Type 0) (rows : List Row) (header : Script) (from : D) (reserved first text block rest : List ℕ)
+pub takes : {D : Type 0} (seen : D → Option (List ℕ)) (may_leave : D → List ℕ → Type 0) (moment : D → ℕ) (left_since : D → ℕ → List ℕ → Type 0) (rows : List Row) (header : Script) (from : D) (reserved first text block rest : List ℕ)
     (number : ℕ) (state : Standing) (journal : JournalState D) (turns : List Turn) → EachBlockIsSplitOff
-    → IsServing seen may_leave rows header from reserved first [] text number state journal turns → first_block text ≡ Some (block, rest)
-    → IsServing seen may_leave rows header from reserved first (block ∷ []) rest number state journal turns
-takes seen may_leave rows header from reserved first text block rest number state journal turns split serving found =
+    → IsServing seen may_leave moment left_since rows header from reserved first [] text number state journal turns → first_block text ≡ Some (block, rest)
+    → IsServing seen may_leave moment left_since rows header from reserved first (block ∷ []) rest number state journal turns
+takes seen may_leave moment left_since rows header from reserved first text block rest number state journal turns split serving found =
     let front = first ∷ blocks_of serving.answers in
     let taken : AreTaken (heard_in turns) front text = rw (append-nil (blocks_of serving.answers)) at serving.heard in
     record {
@@ -239,12 +242,12 @@ takes seen may_leave rows header from reserved first text block rest number stat
     }
 
 -- no further one was answered
-pub takes_count : {D : Type 0} (seen : D → Option (List ℕ)) (may_leave : D → List ℕ → Type 0) (rows : List Row) (header : Script) (from : D) (reserved first text block rest : List ℕ)
+pub takes_count : {D : Type 0} (seen : D → Option (List ℕ)) (may_leave : D → List ℕ → Type 0) (moment : D → ℕ) (left_since : D → ℕ → List ℕ → Type 0) (rows : List Row) (header : Script) (from : D) (reserved first text block rest : List ℕ)
     (number : ℕ) (state : Standing) (journal : JournalState D) (turns : List Turn) (split : EachBlockIsSplitOff)
-    (serving : IsServing seen may_leave rows header from reserved first [] text number state journal turns) (found : first_block text ≡ Some (block, rest))
-    → length (takes seen may_leave rows header from reserved first text block rest number state journal turns split serving found).answers ≡ length serving.answers
+    (serving : IsServing seen may_leave moment left_since rows header from reserved first [] text number state journal turns) (found : first_block text ≡ Some (block, rest))
+    → length (takes seen may_leave moment left_since rows header from reserved first text block rest number state journal turns split serving found).answers ≡ length serving.answers
 unfolding takes
-takes_count seen may_leave rows header from reserved first text block rest number state journal turns split serving found = refl
+takes_count seen may_leave moment left_since rows header from reserved first text block rest number state journal turns split serving found = refl
 
 -- the replies and the blocks with one more
 pub replies_more : (answers : List Answer) (a : Answer) → replies_in (answers ++ a ∷ []) ≡ replies_in answers ++ a.reply ∷ []
@@ -254,14 +257,14 @@ pub blocks_more : (answers : List Answer) (a : Answer) → blocks_of (answers ++
 blocks_more answers a = map_append (λ (a : Answer). a.block) answers (a ∷ [])
 
 -- a reply was said: the service goes on from where the block led
-pub replies : {D : Type 0} (seen : D → Option (List ℕ)) (may_leave : D → List ℕ → Type 0) (rows : List Row) (header : Script) (from : D) (reserved first waiting : List ℕ) (a : Answer)
+pub replies : {D : Type 0} (seen : D → Option (List ℕ)) (may_leave : D → List ℕ → Type 0) (moment : D → ℕ) (left_since : D → ℕ → List ℕ → Type 0) (rows : List Row) (header : Script) (from : D) (reserved first waiting : List ℕ) (a : Answer)
     (number later : ℕ) (state next : Standing) (journal after : JournalState D) (start old new : Option (List Turn)) (turns : List Turn) → Turns start old turns
-    → (serving : IsServing seen may_leave rows header from reserved first (a.block ∷ []) waiting number state journal turns) → IsAnswer rows header a → Says old new a.reply
+    → (serving : IsServing seen may_leave moment left_since rows header from reserved first (a.block ∷ []) waiting number state journal turns) → IsAnswer rows header a → Says old new a.reply
     → (at : Course) → Leads (setting_of rows header) None (beginning rows reserved) (parts_in (serving.answers ++ a ∷ [])) (records_in (serving.answers ++ a ∷ [])) at
     → All PartFits (records_in (serving.answers ++ a ∷ [])) → All (IsKnownPart rows) (parts_in (serving.answers ++ a ∷ []))
-    → StandsOn seen may_leave (setting_of rows header) from reserved at later next after
-    → (more : List Turn) × Turns start new more × (goes : IsServing seen may_leave rows header from reserved first [] waiting later next after more) × (length goes.answers ≡ 1 + length serving.answers)
-replies seen may_leave rows header from reserved first waiting a number later state next journal after start old new turns took serving is says at leads fits known on =
+    → StandsAfter seen may_leave moment left_since (setting_of rows header) from reserved at [] later next after
+    → (more : List Turn) × Turns start new more × (goes : IsServing seen may_leave moment left_since rows header from reserved first [] waiting later next after more) × (length goes.answers ≡ 1 + length serving.answers)
+replies seen may_leave moment left_since rows header from reserved first waiting a number later state next journal after start old new turns took serving is says at leads fits known on =
     let pieces = says.pieces in (
       turns ++ map Said pieces,
       turns_more start old new turns (map Said pieces) took says.turns,
@@ -292,13 +295,13 @@ pub records_same : (answers : List Answer) (a : Answer) → a.records ≡ [] →
 records_same answers a none = flat_map-append (λ (a : Answer). a.records) answers (a ∷ []) ∙ ap (λ (rs : List PartRecord). records_in answers ++ (rs ++ [])) none ∙ append-nil (records_in answers)
 
 -- so the service goes on from where it stood
-pub replies_nothing : {D : Type 0} (seen : D → Option (List ℕ)) (may_leave : D → List ℕ → Type 0) (rows : List Row) (header : Script) (from : D) (reserved first waiting : List ℕ) (a : Answer)
+pub replies_nothing : {D : Type 0} (seen : D → Option (List ℕ)) (may_leave : D → List ℕ → Type 0) (moment : D → ℕ) (left_since : D → ℕ → List ℕ → Type 0) (rows : List Row) (header : Script) (from : D) (reserved first waiting : List ℕ) (a : Answer)
     (number : ℕ) (state : Standing) (journal : JournalState D) (start old new : Option (List Turn)) (turns : List Turn) → Turns start old turns
-    → (serving : IsServing seen may_leave rows header from reserved first (a.block ∷ []) waiting number state journal turns) → IsAnswer rows header a → a.parts ≡ [] → a.records ≡ [] → Says old new a.reply
-    → (more : List Turn) × Turns start new more × (goes : IsServing seen may_leave rows header from reserved first [] waiting number state journal more) × (length goes.answers ≡ 1 + length serving.answers)
-replies_nothing seen may_leave rows header from reserved first waiting a number state journal start old new turns took serving is no_parts no_records says =
+    → (serving : IsServing seen may_leave moment left_since rows header from reserved first (a.block ∷ []) waiting number state journal turns) → IsAnswer rows header a → a.parts ≡ [] → a.records ≡ [] → Says old new a.reply
+    → (more : List Turn) × Turns start new more × (goes : IsServing seen may_leave moment left_since rows header from reserved first [] waiting number state journal more) × (length goes.answers ≡ 1 + length serving.answers)
+replies_nothing seen may_leave moment left_since rows header from reserved first waiting a number state journal start old new turns took serving is no_parts no_records says =
     let set = setting_of rows header in
-    replies seen may_leave rows header from reserved first waiting a number number state state journal journal start old new turns took serving is says serving.at
+    replies seen may_leave moment left_since rows header from reserved first waiting a number number state state journal journal start old new turns took serving is says serving.at
     (subst (λ (rs : List PartRecord). Leads set None (beginning rows reserved) (parts_in (serving.answers ++ a ∷ [])) rs serving.at) (sym (records_same serving.answers a no_records))
     (subst (λ (ps : List Part). Leads set None (beginning rows reserved) ps (records_in serving.answers) serving.at) (sym (parts_same serving.answers a no_parts)) serving.leads))
     (subst (All PartFits) (sym (records_same serving.answers a no_records)) serving.fits)
@@ -312,27 +315,32 @@ parts_round answers a part one = flat_map-append (λ (a : Answer). a.parts) answ
 pub records_round : (answers : List Answer) (a : Answer) (made : PartRecord) → a.records ≡ made ∷ [] → records_in (answers ++ a ∷ []) ≡ records_in answers ++ made ∷ []
 records_round answers a made one = flat_map-append (λ (a : Answer). a.records) answers (a ∷ []) ∙ ap (λ (rs : List PartRecord). records_in answers ++ (rs ++ [])) one
 
+-- a state has forgotten which vectors were released
+abbrev pub Forgets : Standing → Standing → Type 0
+Forgets next later = (later ≡ record next { released = [] }) × ((set : Setting) (early : List LineRecord) → AcceptNothing early → StandsAt set early next → StandsAt set [] later)
+
 -- the service goes on from where the round led, if reservations didn't end in it
-pub replies_round : {D : Type 0} (seen : D → Option (List ℕ)) (may_leave : D → List ℕ → Type 0) (rows : List Row) (header : Script) (from : D) (reserved first waiting block text : List ℕ) (jobs : List (List Line))
-    (number : ℕ) (state next : Standing) (journal after : JournalState D) (start old new : Option (List Turn)) (turns : List Turn) → Turns start old turns
-    → (serving : IsServing seen may_leave rows header from reserved first (block ∷ []) waiting number state journal turns) → asked_of rows block ≡ Ok (Some jobs) → IsKnownPart rows (Round jobs)
-    → MakesRound seen may_leave (setting_of rows header) header.full number state journal jobs None next after [] text → Says old new (text ++ end_line)
-    → (more : List Turn) × Turns start new more × (goes : IsServing seen may_leave rows header from reserved first [] waiting (number + 1) next after more) × (length goes.answers ≡ 1 + length serving.answers)
-replies_round {D} seen may_leave rows header from reserved first waiting block text jobs number state next journal after start old new turns took serving asked known makes says =
+pub replies_round : {D : Type 0} (seen : D → Option (List ℕ)) (may_leave : D → List ℕ → Type 0) (moment : D → ℕ) (left_since : D → ℕ → List ℕ → Type 0) (rows : List Row) (header : Script) (from : D) (reserved first waiting block text : List ℕ) (jobs : List (List Line))
+    (number : ℕ) (state next later : Standing) (journal after : JournalState D) (start old new : Option (List Turn)) (turns : List Turn) → Turns start old turns
+    → (serving : IsServing seen may_leave moment left_since rows header from reserved first (block ∷ []) waiting number state journal turns) → asked_of rows block ≡ Ok (Some jobs) → IsKnownPart rows (Round jobs)
+    → MakesRound seen may_leave moment left_since (setting_of rows header) header.full number state journal jobs None next after [] text → Forgets next later → Says old new (text ++ end_line)
+    → (more : List Turn) × Turns start new more × (goes : IsServing seen may_leave moment left_since rows header from reserved first [] waiting (number + 1) later after more) × (length goes.answers ≡ 1 + length serving.answers)
+replies_round {D} seen may_leave moment left_since rows header from reserved first waiting block text jobs number state next later journal after start old new turns took serving asked known makes forgets says =
     let set = setting_of rows header in
     let round = makes.round in
     let made = record_of.Round round in
-    let leads = makes.leads from reserved serving.at serving.on in
+    let quiet = asked_quiet rows block jobs asked in
+    let leads = makes.leads from reserved serving.at [] serving.on (inr quiet) in
     let a : Answer = record { block = block; parts = Round jobs ∷ []; records = made ∷ []; reply = round_text set header.full round ++ end_line } in
     let is : IsAnswer rows header a = rw asked (round, refl, refl, refl) in
     let all = leads_more set None (beginning rows reserved) (parts_in serving.answers) (records_in serving.answers) serving.at (Round jobs) made leads.next serving.leads leads.served in
-    replies seen may_leave rows header from reserved first waiting a number (number + 1) state next journal after start old new turns took serving is
+    replies seen may_leave moment left_since rows header from reserved first waiting a number (number + 1) state later journal after start old new turns took serving is
     (subst (λ (t : List ℕ). Says old new (t ++ end_line)) makes.is_text says) leads.next
     (subst (λ (rs : List PartRecord). Leads set None (beginning rows reserved) (parts_in (serving.answers ++ a ∷ [])) rs leads.next) (sym (records_round serving.answers a made refl))
     (subst (λ (ps : List Part). Leads set None (beginning rows reserved) ps (records_in serving.answers ++ made ∷ []) leads.next) (sym (parts_round serving.answers a (Round jobs) refl)) all))
     (subst (All PartFits) (sym (records_round serving.answers a made refl)) (All-push PartFits (records_in serving.answers) made serving.fits makes.fits))
     (subst (All (IsKnownPart rows)) (sym (parts_round serving.answers a (Round jobs) refl)) (All-push (IsKnownPart rows) (parts_in serving.answers) (Round jobs) serving.known known))
-    (goes_on seen may_leave set header.full number state next journal after jobs None [] text makes (λ same. absurd (none_fault same)) from reserved serving.at serving.on)
+    (goes_quietly seen may_leave moment left_since set header.full number state next later journal after jobs None [] text makes (λ same. absurd (none_fault same)) quiet forgets.0 forgets.1 from reserved serving.at serving.on)
   where
     none_fault : None ≡ Some Fault → ⊥
     none_fault same = cc

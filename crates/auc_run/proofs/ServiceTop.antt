@@ -29,7 +29,7 @@ use Rattle.auc_world.specs.Limits.{opened}
 use Rattle.auc_world.specs.Start.{fresh_kept}
 use Rattle.auc_world.specs.Transcript.{beginning}
 use Rattle.std.specs.Prelude.{slice_index}
-use Rattle.auc_run.specs.Crash.{MayLeave, Remembers, limits_in}
+use Rattle.auc_run.specs.Crash.{MayHaveLeft, MayLeave, Remembers, limits_in}
 use Rattle.auc_run.specs.Inner.{Begins, IsKnownPart, JournalStops, Laws, SubscribersStop, Tells, script_refusal, status_in}
 use Rattle.auc_run.specs.InnerService.{EndsReady, EndsServing, HearsHeader, IsEarly, IsHeaderStop, IsServing, RunsBlocks, SaysTold, ServesOr, TookHeader, trouble_refusal}
 use Rattle.auc_run.specs.Outcome.{BeginsWith}
@@ -41,6 +41,7 @@ use Rattle.auc_run.specs.declared.refusal.Refusal.{Refusal}
 use Rattle.auc_run.specs.declared.refusal.Refusal.TheVariants as refused
 use Rattle.auc_run.specs.declared.status.Status.{Status}
 use Rattle.auc_run.specs.declared.status.Status.TheVariants as status
+use Rattle.auc_run.proofs.AlwaysLemmas.{any_time}
 use Rattle.auc_run.proofs.KnownLemmas.{Known}
 use Rattle.auc_run.proofs.OutcomeLemmas.{is_output, output_told}
 use Rattle.auc_run.proofs.ServiceEnds.{left_at, none_waits, said_front}
@@ -220,12 +221,12 @@ early_journal told subscribers seen rows header waiting refused.TooLong old new 
 -- ---- blocks are served
 
 -- the header was answered
-pub ready_serves : {D : Type 0} (seen : D → Option (List ℕ)) (may_leave : D → List ℕ → Type 0) (faults : D → ℕ) (rows : List Row) (header : Script) (from : D) (first waiting : List ℕ) (state : Standing) (journal : JournalState D)
-    (start old new : Option (List Turn)) → Begins seen may_leave faults rows from journal → state.words ≡ opened rows (limits_of journal) → state.kept ≡ map (λ row. fresh_kept) rows
+pub ready_serves : {D : Type 0} (seen : D → Option (List ℕ)) (may_leave : D → List ℕ → Type 0) (moment : D → ℕ) (left_since : D → ℕ → List ℕ → Type 0) (faults : D → ℕ) (rows : List Row) (header : Script) (from : D) (first waiting : List ℕ) (state : Standing) (journal : JournalState D)
+    (start old new : Option (List Turn)) → Begins seen may_leave moment left_since faults rows from journal → state.words ≡ opened rows (limits_of journal) → state.kept ≡ map (λ row. fresh_kept) rows
     → StandsAt (setting_of rows header) [] state → ((sub : ℕ) → sub < length rows → slice_index (limits_of journal) sub ≤ max_seq)
     → TookHeader first waiting start old → Says old new ready_reply
-    → (turns : List Turn) × Turns start new turns × IsServing seen may_leave rows header from (limits_of journal) first [] waiting 1 state journal turns
-ready_serves seen may_leave faults rows header from first waiting state journal start old new begins opens kept stands within took says =
+    → (turns : List Turn) × Turns start new turns × IsServing seen may_leave moment left_since rows header from (limits_of journal) first [] waiting 1 state journal turns
+ready_serves seen may_leave moment left_since faults rows header from first waiting state journal start old new begins opens kept stands within took says =
     let pieces = says.pieces in (
       took.turns ++ map Said pieces,
       turns_more start old new took.turns (map Said pieces) took.took says.turns,
@@ -239,31 +240,31 @@ ready_serves seen may_leave faults rows header from first waiting state journal 
         leads = (refl, refl);
         fits = All-nil PartFits;
         known = All-nil (IsKnownPart rows);
-        on = begins_stand seen may_leave faults (setting_of rows header) from state journal begins opens kept stands within;
+        on = begins_stand seen may_leave moment left_since faults (setting_of rows header) from state journal begins opens kept stands within;
       },
     )
 
 -- and the service ended
-pub ready_runs : {D : Type 0} (seen : D → Option (List ℕ)) (may_leave : D → List ℕ → Type 0) (faults : D → ℕ) (rows : List Row) (header : Script) (from : D) (first waiting : List ℕ) (state : Standing) (journal : JournalState D)
-    (ended : Status) (disk : D) (start old mid new : Option (List Turn)) → Begins seen may_leave faults rows from journal → state.words ≡ opened rows (limits_of journal) → state.kept ≡ map (λ row. fresh_kept) rows
+pub ready_runs : {D : Type 0} (seen : D → Option (List ℕ)) (may_leave : D → List ℕ → Type 0) (moment : D → ℕ) (left_since : D → ℕ → List ℕ → Type 0) (faults : D → ℕ) (rows : List Row) (header : Script) (from : D) (first waiting : List ℕ) (state : Standing) (journal : JournalState D)
+    (ended : Status) (disk : D) (start old mid new : Option (List Turn)) → Begins seen may_leave moment left_since faults rows from journal → state.words ≡ opened rows (limits_of journal) → state.kept ≡ map (λ row. fresh_kept) rows
     → StandsAt (setting_of rows header) [] state → ((sub : ℕ) → sub < length rows → slice_index (limits_of journal) sub ≤ max_seq)
-    → TookHeader first waiting start old → Says old mid ready_reply → EndsServing seen may_leave rows header [] waiting 1 state journal ended disk mid new
-    → (turns : List Turn) × Turns start new turns × RunsBlocks seen may_leave rows header from (limits_of journal) first ended disk turns
-ready_runs {D} seen may_leave faults rows header from first waiting state journal ended disk start old mid new begins opens kept stands within took says ends =
-    let serving = ready_serves seen may_leave faults rows header from first waiting state journal start old mid begins opens kept stands within took says in
+    → TookHeader first waiting start old → Says old mid ready_reply → EndsServing seen may_leave moment left_since rows header [] waiting 1 state journal ended disk mid new
+    → (turns : List Turn) × Turns start new turns × RunsBlocks seen may_leave moment left_since rows header from (limits_of journal) first ended disk turns
+ready_runs {D} seen may_leave moment left_since faults rows header from first waiting state journal ended disk start old mid new begins opens kept stands within took says ends =
+    let serving = ready_serves seen may_leave moment left_since faults rows header from first waiting state journal start old mid begins opens kept stands within took says in
     ends from (limits_of journal) first start serving.0 serving.1 serving.2
 
 -- the answer to it failed
-pub ready_fails : {D : Type 0} (seen : D → Option (List ℕ)) (may_leave : D → List ℕ → Type 0) (faults : D → ℕ) (rows : List Row) (header : Script) (from : D) (first waiting : List ℕ) (state : Standing) (journal : JournalState D)
-    (disk : D) (start old new : Option (List Turn)) → Begins seen may_leave faults rows from journal → state.words ≡ opened rows (limits_of journal) → state.kept ≡ map (λ row. fresh_kept) rows
+pub ready_fails : {D : Type 0} (seen : D → Option (List ℕ)) (may_leave : D → List ℕ → Type 0) (moment : D → ℕ) (left_since : D → ℕ → List ℕ → Type 0) (faults : D → ℕ) (rows : List Row) (header : Script) (from : D) (first waiting : List ℕ) (state : Standing) (journal : JournalState D)
+    (disk : D) (start old new : Option (List Turn)) → Begins seen may_leave moment left_since faults rows from journal → state.words ≡ opened rows (limits_of journal) → state.kept ≡ map (λ row. fresh_kept) rows
     → StandsAt (setting_of rows header) [] state → ((sub : ℕ) → sub < length rows → slice_index (limits_of journal) sub ≤ max_seq)
     → TookHeader first waiting start old → SaysFront old new ready_reply → disk ≡ journal.disk
-    → EndsReady seen may_leave rows header from (limits_of journal) first status.WriteFault disk start old new
-ready_fails {D} seen may_leave faults rows header from first waiting state journal disk start old new begins opens kept stands within took says same =
+    → EndsReady seen may_leave moment left_since rows header from (limits_of journal) first status.WriteFault disk start old new
+ready_fails {D} seen may_leave moment left_since faults rows header from first waiting state journal disk start old new begins opens kept stands within took says same =
     let pieces = says.said.pieces in
-    let on = begins_stand seen may_leave faults (setting_of rows header) from state journal begins opens kept stands within in
-    let left = left_at seen may_leave rows from (limits_of journal) (beginning rows (limits_of journal)) status.WriteFault journal on.reserves apart in
-    subst (λ (d : D). EndsReady seen may_leave rows header from (limits_of journal) first status.WriteFault d start old new) (sym same)
+    let on = begins_stand seen may_leave moment left_since faults (setting_of rows header) from state journal begins opens kept stands within in
+    let left = left_at seen may_leave moment left_since rows from (limits_of journal) (beginning rows (limits_of journal)) status.WriteFault journal on.reserves apart in
+    subst (λ (d : D). EndsReady seen may_leave moment left_since rows header from (limits_of journal) first status.WriteFault d start old new) (sym same)
     (inl (
       took.turns ++ map Said pieces,
       turns_more start old new took.turns (map Said pieces) took.took says.said.turns,
@@ -286,6 +287,7 @@ ready_fails {D} seen may_leave faults rows header from first waiting state journ
         prompt = replied_append (ready_reply ∷ []) [] [] took.turns (map Said pieces) took.prompt (replied_said (ready_reply ∷ []) (heard_in took.turns) (said_in took.turns) pieces);
         kept = left.kept;
         keeps = left.keeps;
+        always = left.always;
         full_at = left.full_at;
         late = λ is. absurd (in_time is);
       },
@@ -298,15 +300,15 @@ ready_fails {D} seen may_leave faults rows header from first waiting state journ
     in_time same = cc
 
 -- blocks were served after a header: all that is promised of a run's output holds
-serves_blocks : Laws → {D : Type 0} (seen : D → Option (List ℕ)) (may_leave : D → List ℕ → Type 0) (faults : D → ℕ) (told : Option (List File)) (subscribers : Option (List ℕ)) (rows : List Row) (header : Script) (waiting : List ℕ)
-    (from disk : D) (journal : JournalState D) (ended : Status) (start old new : Option (List Turn)) (turns : List Turn) → Known rows header → Begins seen may_leave faults rows from journal
-    → (hears : HearsHeader told subscribers rows header waiting start old) → Turns start new turns → RunsBlocks seen may_leave rows header from (limits_of journal) hears.hears.first ended disk turns
-    → Serves told subscribers (seen from) (MayLeave seen may_leave from disk) ended start new
-serves_blocks laws {D} seen may_leave faults told subscribers rows header waiting from disk journal ended start old new turns known begins hears took runs =
-    with_limits (limits_in rows begins.found) (subst (λ (reserved : List ℕ). RunsBlocks seen may_leave rows header from reserved hears.hears.first ended disk turns) begins.limits runs)
+serves_blocks : Laws → {D : Type 0} (seen : D → Option (List ℕ)) (may_leave : D → List ℕ → Type 0) (moment : D → ℕ) (left_since : D → ℕ → List ℕ → Type 0) (faults : D → ℕ) (told : Option (List File)) (subscribers : Option (List ℕ)) (rows : List Row) (header : Script) (waiting : List ℕ)
+    (from disk : D) (journal : JournalState D) (ended : Status) (start old new : Option (List Turn)) (turns : List Turn) → Known rows header → Begins seen may_leave moment left_since faults rows from journal
+    → (hears : HearsHeader told subscribers rows header waiting start old) → Turns start new turns → RunsBlocks seen may_leave moment left_since rows header from (limits_of journal) hears.hears.first ended disk turns
+    → Serves told subscribers (seen from) (MayLeave seen may_leave from disk) (MayHaveLeft seen may_leave moment left_since from disk) ended start new
+serves_blocks laws {D} seen may_leave moment left_since faults told subscribers rows header waiting from disk journal ended start old new turns known begins hears took runs =
+    with_limits (limits_in rows begins.found) (subst (λ (reserved : List ℕ). RunsBlocks seen may_leave moment left_since rows header from reserved hears.hears.first ended disk turns) begins.limits runs)
   where
-    with_limits : (reserved : List ℕ) → RunsBlocks seen may_leave rows header from (limits_in rows begins.found) hears.hears.first ended disk turns
-        → Serves told subscribers (seen from) (MayLeave seen may_leave from disk) ended start new
+    with_limits : (reserved : List ℕ) → RunsBlocks seen may_leave moment left_since rows header from (limits_in rows begins.found) hears.hears.first ended disk turns
+        → Serves told subscribers (seen from) (MayLeave seen may_leave from disk) (MayHaveLeft seen may_leave moment left_since from disk) ended start new
     with_limits reserved runs = record {
       before = hears.before;
       begins = hears.begins;
@@ -340,6 +342,7 @@ serves_blocks laws {D} seen may_leave faults told subscribers rows header waitin
         kept = runs.kept;
         late = runs.late;
       };
+      always = any_time seen may_leave moment left_since ended rows from disk (limits_in rows begins.found) runs.end runs.always;
     }
 
 -- a refusal for want of memory
@@ -356,20 +359,20 @@ memory_refusal refused.StoreFull is = cc
 memory_refusal refused.TooLong is = cc
 
 -- or nothing was
-pub serves_ready : Laws → {D : Type 0} (seen : D → Option (List ℕ)) (may_leave : D → List ℕ → Type 0) (faults : D → ℕ) (told : Option (List File)) (subscribers : Option (List ℕ)) (rows : List Row) (header : Script) (waiting : List ℕ)
-    (from disk : D) (journal : JournalState D) (result : Result (Unit {0}) Refusal) (start old new : Option (List Turn)) → Known rows header → Begins seen may_leave faults rows from journal
+pub serves_ready : Laws → {D : Type 0} (seen : D → Option (List ℕ)) (may_leave : D → List ℕ → Type 0) (moment : D → ℕ) (left_since : D → ℕ → List ℕ → Type 0) (faults : D → ℕ) (told : Option (List File)) (subscribers : Option (List ℕ)) (rows : List Row) (header : Script) (waiting : List ℕ)
+    (from disk : D) (journal : JournalState D) (result : Result (Unit {0}) Refusal) (start old new : Option (List Turn)) → Known rows header → Begins seen may_leave moment left_since faults rows from journal
     → (hears : HearsHeader told subscribers rows header waiting start old)
-    → EndsReady seen may_leave rows header from (limits_of journal) hears.hears.first (status_in result) disk start old new
-    → ServesOr (λ refusal. IsEarly told subscribers (seen from) refusal start new) told subscribers (seen from) (MayLeave seen may_leave from disk) result start new
-serves_ready laws seen may_leave faults told subscribers rows header waiting from disk journal (Ok done) start old new known begins hears (inl (turns, took, runs)) =
-    serves_blocks laws seen may_leave faults told subscribers rows header waiting from disk journal status.Done start old new turns known begins hears took runs
-serves_ready laws seen may_leave faults told subscribers rows header waiting from disk journal (Ok done) start old new known begins hears (inr (is, same)) = absurd (apart is)
+    → EndsReady seen may_leave moment left_since rows header from (limits_of journal) hears.hears.first (status_in result) disk start old new
+    → ServesOr (λ refusal. IsEarly told subscribers (seen from) refusal start new) told subscribers (seen from) (MayLeave seen may_leave from disk) (MayHaveLeft seen may_leave moment left_since from disk) result start new
+serves_ready laws seen may_leave moment left_since faults told subscribers rows header waiting from disk journal (Ok done) start old new known begins hears (inl (turns, took, runs)) =
+    serves_blocks laws seen may_leave moment left_since faults told subscribers rows header waiting from disk journal status.Done start old new turns known begins hears took runs
+serves_ready laws seen may_leave moment left_since faults told subscribers rows header waiting from disk journal (Ok done) start old new known begins hears (inr (is, same)) = absurd (apart is)
   where
     apart : status.Done ≡ status.NoMemory → ⊥
     apart same = cc
-serves_ready laws seen may_leave faults told subscribers rows header waiting from disk journal (Err refusal) start old new known begins hears (inl (turns, took, runs)) =
-    inl (serves_blocks laws seen may_leave faults told subscribers rows header waiting from disk journal (status_of refusal) start old new turns known begins hears took runs)
-serves_ready laws seen may_leave faults told subscribers rows header waiting from disk journal (Err refusal) start old new known begins hears (inr (is, same)) =
+serves_ready laws seen may_leave moment left_since faults told subscribers rows header waiting from disk journal (Err refusal) start old new known begins hears (inl (turns, took, runs)) =
+    inl (serves_blocks laws seen may_leave moment left_since faults told subscribers rows header waiting from disk journal (status_of refusal) start old new turns known begins hears took runs)
+serves_ready laws seen may_leave moment left_since faults told subscribers rows header waiting from disk journal (Err refusal) start old new known begins hears (inr (is, same)) =
     let heard = hears.hears.took in
     inr (record {
       turns = heard.turns;
@@ -379,9 +382,9 @@ serves_ready laws seen may_leave faults told subscribers rows header waiting fro
     })
 
 -- no journal is lowered
-pub remembers_blocks : {D : Type 0} (seen : D → Option (List ℕ)) (may_leave : D → List ℕ → Type 0) (rows : List Row) (header : Script) (from : D) (reserved first : List ℕ) (ended : Status) (disk : D) (turns : List Turn)
-    → RunsBlocks seen may_leave rows header from reserved first ended disk turns → Remembers seen may_leave ended from disk
-remembers_blocks seen may_leave rows header from reserved first ended disk turns runs = record {
+pub remembers_blocks : {D : Type 0} (seen : D → Option (List ℕ)) (may_leave : D → List ℕ → Type 0) (moment : D → ℕ) (left_since : D → ℕ → List ℕ → Type 0) (rows : List Row) (header : Script) (from : D) (reserved first : List ℕ) (ended : Status) (disk : D) (turns : List Turn)
+    → RunsBlocks seen may_leave moment left_since rows header from reserved first ended disk turns → Remembers seen may_leave ended from disk
+remembers_blocks seen may_leave moment left_since rows header from reserved first ended disk turns runs = record {
   keeps = λ told premise image leaves. (runs.keeps told image leaves).0;
   closable = λ told is image leaves. (runs.keeps told image leaves).1;
   stays = λ is. absurd (subst (λ (s : Status). IsServiceStop s runs.stop) is runs.stopped);
@@ -390,30 +393,30 @@ remembers_blocks seen may_leave rows header from reserved first ended disk turns
 -- ---- how the refusal was told
 
 -- one that has no line
-still_serves : (told : Option (List File)) (subscribers seen : Option (List ℕ)) (leaves : List ℕ → Type 0) (s ended : Status) (old mid new : Option (List Turn)) → ended ≡ s → new ≡ mid
-    → Serves told subscribers seen leaves s old mid → Serves told subscribers seen leaves ended old new
-still_serves told subscribers seen leaves s ended old mid new is same serves =
-    subst (λ (e : Status). Serves told subscribers seen leaves e old new) (sym is) (subst (λ (o : Option (List Turn)). Serves told subscribers seen leaves s old o) (sym same) serves)
+still_serves : (told : Option (List File)) (subscribers seen : Option (List ℕ)) (leaves : List ℕ → Type 0) (ever : List ℕ → Type 0) (s ended : Status) (old mid new : Option (List Turn)) → ended ≡ s → new ≡ mid
+    → Serves told subscribers seen leaves ever s old mid → Serves told subscribers seen leaves ever ended old new
+still_serves told subscribers seen leaves ever s ended old mid new is same serves =
+    subst (λ (e : Status). Serves told subscribers seen leaves ever e old new) (sym is) (subst (λ (o : Option (List Turn)). Serves told subscribers seen leaves ever s old o) (sym same) serves)
 
 -- a service that served blocks has no line
-serves_told : (told : Option (List File)) (subscribers seen : Option (List ℕ)) (leaves : List ℕ → Type 0) (refusal : Refusal) (ended : Status) (old mid new : Option (List Turn))
-    → Serves told subscribers seen leaves (status_of refusal) old mid → Tells refusal ended None None → (line_of refusal ≡ [] → new ≡ mid) → Serves told subscribers seen leaves ended old new
-serves_told told subscribers seen leaves refused.ReadFault ended old mid new serves (inl (is, line)) same = still_serves told subscribers seen leaves status.ReadFault ended old mid new is (same refl) serves
-serves_told told subscribers seen leaves refused.WriteFault ended old mid new serves (inl (is, line)) same = still_serves told subscribers seen leaves status.WriteFault ended old mid new is (same refl) serves
-serves_told told subscribers seen leaves refused.StoreFault ended old mid new serves (inl (is, line)) same = still_serves told subscribers seen leaves status.StoreFault ended old mid new is (same refl) serves
-serves_told told subscribers seen leaves refused.StoreFull ended old mid new serves (inl (is, line)) same = still_serves told subscribers seen leaves status.StoreFull ended old mid new is (same refl) serves
-serves_told told subscribers seen leaves refused.TooLong ended old mid new serves (inl (is, line)) same = still_serves told subscribers seen leaves status.TooLong ended old mid new is (same refl) serves
-serves_told told subscribers seen leaves refused.NoMemory ended old mid new serves (inl (is, line)) same = still_serves told subscribers seen leaves status.NoMemory ended old mid new is (same refl) serves
-serves_told told subscribers seen leaves refused.ReadFault ended old mid new serves (inr untold) same = absurd untold
-serves_told told subscribers seen leaves refused.WriteFault ended old mid new serves (inr untold) same = absurd untold
-serves_told told subscribers seen leaves refused.StoreFault ended old mid new serves (inr untold) same = absurd untold
-serves_told told subscribers seen leaves refused.StoreFull ended old mid new serves (inr untold) same = absurd untold
-serves_told told subscribers seen leaves refused.TooLong ended old mid new serves (inr untold) same = absurd untold
-serves_told told subscribers seen leaves refused.NoMemory ended old mid new serves (inr untold) same = absurd untold
-serves_told told subscribers seen leaves refused.Usage ended old mid new serves tells same = absurd serves.service.stopped
-serves_told told subscribers seen leaves (refused.Subscribers row fault) ended old mid new serves tells same = absurd serves.service.stopped
-serves_told told subscribers seen leaves (refused.Scenario line fault) ended old mid new serves tells same = absurd serves.service.stopped
-serves_told told subscribers seen leaves (refused.NotJournal place) ended old mid new serves tells same = absurd serves.service.stopped
+serves_told : (told : Option (List File)) (subscribers seen : Option (List ℕ)) (leaves : List ℕ → Type 0) (ever : List ℕ → Type 0) (refusal : Refusal) (ended : Status) (old mid new : Option (List Turn))
+    → Serves told subscribers seen leaves ever (status_of refusal) old mid → Tells refusal ended None None → (line_of refusal ≡ [] → new ≡ mid) → Serves told subscribers seen leaves ever ended old new
+serves_told told subscribers seen leaves ever refused.ReadFault ended old mid new serves (inl (is, line)) same = still_serves told subscribers seen leaves ever status.ReadFault ended old mid new is (same refl) serves
+serves_told told subscribers seen leaves ever refused.WriteFault ended old mid new serves (inl (is, line)) same = still_serves told subscribers seen leaves ever status.WriteFault ended old mid new is (same refl) serves
+serves_told told subscribers seen leaves ever refused.StoreFault ended old mid new serves (inl (is, line)) same = still_serves told subscribers seen leaves ever status.StoreFault ended old mid new is (same refl) serves
+serves_told told subscribers seen leaves ever refused.StoreFull ended old mid new serves (inl (is, line)) same = still_serves told subscribers seen leaves ever status.StoreFull ended old mid new is (same refl) serves
+serves_told told subscribers seen leaves ever refused.TooLong ended old mid new serves (inl (is, line)) same = still_serves told subscribers seen leaves ever status.TooLong ended old mid new is (same refl) serves
+serves_told told subscribers seen leaves ever refused.NoMemory ended old mid new serves (inl (is, line)) same = still_serves told subscribers seen leaves ever status.NoMemory ended old mid new is (same refl) serves
+serves_told told subscribers seen leaves ever refused.ReadFault ended old mid new serves (inr untold) same = absurd untold
+serves_told told subscribers seen leaves ever refused.WriteFault ended old mid new serves (inr untold) same = absurd untold
+serves_told told subscribers seen leaves ever refused.StoreFault ended old mid new serves (inr untold) same = absurd untold
+serves_told told subscribers seen leaves ever refused.StoreFull ended old mid new serves (inr untold) same = absurd untold
+serves_told told subscribers seen leaves ever refused.TooLong ended old mid new serves (inr untold) same = absurd untold
+serves_told told subscribers seen leaves ever refused.NoMemory ended old mid new serves (inr untold) same = absurd untold
+serves_told told subscribers seen leaves ever refused.Usage ended old mid new serves tells same = absurd serves.service.stopped
+serves_told told subscribers seen leaves ever (refused.Subscribers row fault) ended old mid new serves tells same = absurd serves.service.stopped
+serves_told told subscribers seen leaves ever (refused.Scenario line fault) ended old mid new serves tells same = absurd serves.service.stopped
+serves_told told subscribers seen leaves ever (refused.NotJournal place) ended old mid new serves tells same = absurd serves.service.stopped
 
 -- one that comes before
 early_told : (told : Option (List File)) (subscribers seen : Option (List ℕ)) (refusal : Refusal) (ended : Status) (old mid new : Option (List Turn)) → IsEarly told subscribers seen refusal old mid → SaysTold refusal ended mid new
@@ -426,8 +429,8 @@ early_told told subscribers seen refusal ended old mid new early (said, says, is
   is_told = subst (IsTold refusal ended) (sym (said_behind early.turns says.pieces ∙ ap (λ (r : List ℕ). r ++ concat says.pieces) early.silent ∙ says.whole)) is_told;
 }
 
-pub service_told : (told : Option (List File)) (subscribers seen : Option (List ℕ)) (leaves : List ℕ → Type 0) (refusal : Refusal) (ended : Status) (old mid new : Option (List Turn))
-    → Serves told subscribers seen leaves (status_of refusal) old mid ⊎ IsEarly told subscribers seen refusal old mid → Tells refusal ended None None → (line_of refusal ≡ [] → new ≡ mid) → SaysTold refusal ended mid new
-    → Serves told subscribers seen leaves ended old new ⊎ EndsUnserved told subscribers seen ended old new
-service_told told subscribers seen leaves refusal ended old mid new (inl serves) tells same says = inl (serves_told told subscribers seen leaves refusal ended old mid new serves tells same)
-service_told told subscribers seen leaves refusal ended old mid new (inr early) tells same says = inr (early_told told subscribers seen refusal ended old mid new early says)
+pub service_told : (told : Option (List File)) (subscribers seen : Option (List ℕ)) (leaves : List ℕ → Type 0) (ever : List ℕ → Type 0) (refusal : Refusal) (ended : Status) (old mid new : Option (List Turn))
+    → Serves told subscribers seen leaves ever (status_of refusal) old mid ⊎ IsEarly told subscribers seen refusal old mid → Tells refusal ended None None → (line_of refusal ≡ [] → new ≡ mid) → SaysTold refusal ended mid new
+    → Serves told subscribers seen leaves ever ended old new ⊎ EndsUnserved told subscribers seen ended old new
+service_told told subscribers seen leaves ever refusal ended old mid new (inl serves) tells same says = inl (serves_told told subscribers seen leaves ever refusal ended old mid new serves tells same)
+service_told told subscribers seen leaves ever refusal ended old mid new (inr early) tells same says = inr (early_told told subscribers seen refusal ended old mid new early says)

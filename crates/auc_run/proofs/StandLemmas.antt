@@ -1,13 +1,11 @@
 -- For a part of a scenario: where it begins, and where a round or a restart leads.
 use Rattle.std.proofs.Common.{◌≡◌, ◌≢◌, ℕ, ◌+◌, ◌<◌, ◌≤◌, max, List, [], ◌∷◌, ◌++◌, length, map, All, Option, refl, sym, ◌∙◌, ap, subst, arith}
 use Rattle.std.specs.Prelude.{slice_index}
-use Rattle.std.proofs.Math.ListN.{length-map}
 use Rattle.std.proofs.lemmas.List.Concat.{flat_map-append}
 use Rattle.std.proofs.lemmas.List.Elements.{All-nil, All-cons, All-head, All-tail, All-weaker}
 use Rattle.auc_edge.specs.declared.stop.Stop.{Stop}
 use Rattle.auc_journal.specs.Durable.{IsDurable}
-use Rattle.auc_journal.specs.Image.{Frame, reserved_in}
-use Rattle.auc_journal.specs.Journal.{JournalState, imsi_at, limits_of, reserved_at}
+use Rattle.auc_journal.specs.Journal.{JournalState, limits_of, reserved_at}
 use Rattle.auc_journal.proofs.Facts.{durable_more, limits_at}
 use Rattle.auc_jobs.specs.Round.{LeavesMore, Serves}
 use Rattle.auc_jobs.specs.State.{Standing, StandsAt}
@@ -25,9 +23,11 @@ use Rattle.auc_world.specs.Transcript.{Course, Restarts, after_restart, after_ro
 use Rattle.auc_world.specs.declared.record.LineRecord.{LineRecord}
 use Rattle.auc_world.specs.declared.record.RoundRecord.{RoundRecord}
 use Rattle.auc_run.specs.Crash.{IsKept, MayLeave, limits_in}
-use Rattle.auc_run.specs.Inner.{Begins, Covers, Reserves, RoundLeads, StandsOn, most_at}
+use Rattle.auc_run.specs.Inner.{AreEnough, Begins, Covers, Reserves, RoundLeads, StandsAfter, StandsOn, most_at}
+use Rattle.auc_run.proofs.QuietLemmas.{lawful_after}
 use Rattle.auc_run.specs.declared.status.Status.{Status}
 use Rattle.auc_run.specs.declared.status.Status.TheVariants.{NoMemory}
+use Rattle.auc_run.proofs.AlwaysLemmas.{count_of, limit_in, since_opening, since_round}
 
 -- what holds of the lines of two lists holds of the first
 front_numbers : (sub : ℕ) (P : ℕ → Type 0) (early lines : List LineRecord) → All P (numbers_of sub (early ++ lines)) → All P (numbers_of sub early)
@@ -37,18 +37,6 @@ front_numbers sub P early lines all =
     left : (xs ys : List ℕ) → All P (xs ++ ys) → All P xs
     left [] ys all = All-nil P
     left (x ∷ xs) ys all = All-cons P x xs (All-head P x (xs ++ ys) all) (left xs ys (All-tail P x (xs ++ ys) all))
-
--- there are as many identities as rows
-count_of : {D : Type 0} (rows : List Row) (journal : JournalState D) → journal.imsis ≡ map (λ row. row.imsi) rows → length journal.imsis ≡ length rows
-count_of rows journal is = ap length is ∙ length-map rows (λ (row : Row). row.imsi)
-
--- the limit of a subscriber by other frames
-limit_in : {D : Type 0} (rows : List Row) (journal : JournalState D) (frames : List Frame) (sub : ℕ) → journal.imsis ≡ map (λ row. row.imsi) rows → sub < length rows
-    → slice_index (limits_in rows frames) sub ≡ reserved_in frames (imsi_at journal.imsis sub)
-limit_in {D} rows journal frames sub is inside =
-    let other : JournalState D = record journal { limits = frames } in
-    let count = count_of rows journal is in
-    ap (λ imsis. slice_index (map (λ imsi. reserved_in frames imsi) imsis) sub) (sym is) ∙ limits_at other sub (omega (arith, count, inside))
 
 -- ---- what a crash leaves
 
@@ -78,40 +66,47 @@ kept_between {D} seen may_leave status rows from disk reserved end most journal 
     }
 
 -- after rounds whose limits are such as a restart may have
-pub kept_reserves : {D : Type 0} (seen : D → Option (List ℕ)) (may_leave : D → List ℕ → Type 0) (status : Status) (rows : List Row) (from disk : D) (reserved : List ℕ) (end : Course) (journal : JournalState D)
-    → Reserves seen may_leave rows from reserved end journal → disk ≡ journal.disk → (image : List ℕ) → MayLeave seen may_leave from disk image → IsKept status rows reserved end image
-kept_reserves seen may_leave status rows from disk reserved end journal reserves same =
+pub kept_reserves : {D : Type 0} (seen : D → Option (List ℕ)) (may_leave : D → List ℕ → Type 0) (moment : D → ℕ) (left_since : D → ℕ → List ℕ → Type 0) (status : Status) (rows : List Row) (from disk : D) (reserved : List ℕ) (end : Course) (journal : JournalState D)
+    → Reserves seen may_leave moment left_since rows from reserved end journal → disk ≡ journal.disk → (image : List ℕ) → MayLeave seen may_leave from disk image → IsKept status rows reserved end image
+kept_reserves seen may_leave moment left_since status rows from disk reserved end journal reserves same =
     kept_between seen may_leave status rows from disk reserved end (most_at reserved end) journal reserves.subscribers reserves.raises.released reserves.durable
     (λ whole sub inside. omega arith) same
 
 -- if memory ran out
-pub kept_covers : {D : Type 0} (seen : D → Option (List ℕ)) (may_leave : D → List ℕ → Type 0) (rows : List Row) (from disk : D) (reserved : List ℕ) (end : Course) (journal : JournalState D)
-    → Covers seen may_leave rows from end.early journal → disk ≡ journal.disk → (image : List ℕ) → MayLeave seen may_leave from disk image → IsKept NoMemory rows reserved end image
-kept_covers seen may_leave rows from disk reserved end journal covers same =
+pub kept_covers : {D : Type 0} (seen : D → Option (List ℕ)) (may_leave : D → List ℕ → Type 0) (moment : D → ℕ) (left_since : D → ℕ → List ℕ → Type 0) (rows : List Row) (from disk : D) (reserved : List ℕ) (end : Course) (journal : JournalState D)
+    → Covers seen may_leave moment left_since rows from reserved end.early journal → disk ≡ journal.disk → (image : List ℕ) → MayLeave seen may_leave from disk image → IsKept NoMemory rows reserved end image
+kept_covers seen may_leave moment left_since rows from disk reserved end journal covers same =
     kept_between seen may_leave NoMemory rows from disk reserved end covers.most journal covers.subscribers covers.released covers.durable
     (λ whole sub inside. absurd (whole refl)) same
 
 -- limits that a restart may have cover what was released, and what was released before its last lines
-pub covers_of : {D : Type 0} (seen : D → Option (List ℕ)) (may_leave : D → List ℕ → Type 0) (rows : List Row) (from : D) (reserved : List ℕ) (at : Course) (journal : JournalState D)
-    → Reserves seen may_leave rows from reserved at journal → Covers seen may_leave rows from at.early journal
-covers_of seen may_leave rows from reserved at journal reserves =
-    record { subscribers = reserves.subscribers; released = reserves.raises.released; most = most_at reserved at; durable = reserves.durable }
+pub covers_of : {D : Type 0} (seen : D → Option (List ℕ)) (may_leave : D → List ℕ → Type 0) (moment : D → ℕ) (left_since : D → ℕ → List ℕ → Type 0) (rows : List Row) (from : D) (reserved : List ℕ) (at : Course) (journal : JournalState D)
+    → Reserves seen may_leave moment left_since rows from reserved at journal → Covers seen may_leave moment left_since rows from reserved at.early journal
+covers_of seen may_leave moment left_since rows from reserved at journal reserves =
+    record {
+      subscribers = reserves.subscribers;
+      released = reserves.raises.released;
+      most = most_at reserved at;
+      durable = reserves.durable;
+      always = λ told. (most_at reserved at, reserves.always told);
+    }
 
-pub covers_before : {D : Type 0} (seen : D → Option (List ℕ)) (may_leave : D → List ℕ → Type 0) (rows : List Row) (from : D) (reserved : List ℕ) (early lines : List LineRecord) (at : Course) (journal : JournalState D)
-    → at.early ≡ early ++ lines → Reserves seen may_leave rows from reserved at journal → Covers seen may_leave rows from early journal
-covers_before seen may_leave rows from reserved early lines at journal is reserves = record {
+pub covers_before : {D : Type 0} (seen : D → Option (List ℕ)) (may_leave : D → List ℕ → Type 0) (moment : D → ℕ) (left_since : D → ℕ → List ℕ → Type 0) (rows : List Row) (from : D) (reserved : List ℕ) (early lines : List LineRecord) (at : Course) (journal : JournalState D)
+    → at.early ≡ early ++ lines → Reserves seen may_leave moment left_since rows from reserved at journal → Covers seen may_leave moment left_since rows from reserved early journal
+covers_before seen may_leave moment left_since rows from reserved early lines at journal is reserves = record {
   subscribers = reserves.subscribers;
   released = λ sub inside.
       front_numbers sub (λ n. n ≤ slice_index (limits_of journal) sub) early lines
       (subst (λ (ls : List LineRecord). All (λ n. n ≤ slice_index (limits_of journal) sub) (numbers_of sub ls)) is (reserves.raises.released sub inside));
   most = most_at reserved at;
   durable = reserves.durable;
+  always = λ told. (most_at reserved at, reserves.always told);
 }
 
 -- so do limits that are no lower
-pub covers_more : {D : Type 0} (seen : D → Option (List ℕ)) (may_leave : D → List ℕ → Type 0) (rows : List Row) (from : D) (reserved : List ℕ) (at : Course) (journal after : JournalState D)
-    → Reserves seen may_leave rows from reserved at journal → after.imsis ≡ journal.imsis → LeavesMore seen may_leave journal after → Covers seen may_leave rows from at.early after
-covers_more seen may_leave rows from reserved at journal after reserves same more =
+pub covers_more : {D : Type 0} (seen : D → Option (List ℕ)) (may_leave : D → List ℕ → Type 0) (moment : D → ℕ) (left_since : D → ℕ → List ℕ → Type 0) (rows : List Row) (from : D) (reserved : List ℕ) (at : Course) (journal after : JournalState D)
+    → Reserves seen may_leave moment left_since rows from reserved at journal → after.imsis ≡ journal.imsis → LeavesMore seen may_leave moment left_since journal after → Covers seen may_leave moment left_since rows from reserved at.early after
+covers_more seen may_leave moment left_since rows from reserved at journal after reserves same more =
     let leaves = more.durable from (most_at reserved at) reserves.durable in
     let count = count_of rows journal reserves.subscribers in
     let counts = ap length same in
@@ -126,16 +121,23 @@ covers_more seen may_leave rows from reserved at journal after reserves same mor
           (λ n under. omega (arith, here, there, up, under)) (numbers_of sub at.early) (reserves.raises.released sub inside);
       most = leaves.0;
       durable = leaves.1;
+      always = λ told.
+          let left = more.always from (most_at reserved at) reserves.durable told in
+          let highest : ℕ → ℕ = λ i. max (most_at reserved at i) (left.0 i) in (
+            highest,
+            since_round moment left_since told.0 rows from reserved (most_at reserved at) left.0 highest journal after reserves.subscribers reserves.above
+                (λ sub inside. (omega arith, omega arith)) (reserves.always told) left.1,
+          );
     }
 
 -- ---- from part to part
 
 -- where the first part begins
-pub begins_stand : {D : Type 0} (seen : D → Option (List ℕ)) (may_leave : D → List ℕ → Type 0) (faults : D → ℕ) (set : Setting) (from : D) (state : Standing) (journal : JournalState D)
-    → Begins seen may_leave faults set.rows from journal → state.words ≡ opened set.rows (limits_of journal) → state.kept ≡ map (λ row. fresh_kept) set.rows → StandsAt set [] state
+pub begins_stand : {D : Type 0} (seen : D → Option (List ℕ)) (may_leave : D → List ℕ → Type 0) (moment : D → ℕ) (left_since : D → ℕ → List ℕ → Type 0) (faults : D → ℕ) (set : Setting) (from : D) (state : Standing) (journal : JournalState D)
+    → Begins seen may_leave moment left_since faults set.rows from journal → state.words ≡ opened set.rows (limits_of journal) → state.kept ≡ map (λ row. fresh_kept) set.rows → StandsAt set [] state
     → ((sub : ℕ) → sub < length set.rows → slice_index (limits_of journal) sub ≤ max_seq)
-    → StandsOn seen may_leave set from (limits_of journal) (beginning set.rows (limits_of journal)) 1 state journal
-begins_stand seen may_leave faults set from state journal begins opens kept stands within =
+    → StandsOn seen may_leave moment left_since set from (limits_of journal) (beginning set.rows (limits_of journal)) 1 state journal
+begins_stand seen may_leave moment left_since faults set from state journal begins opens kept stands within =
     let reserved = limits_of journal in
     record {
       numbered = refl;
@@ -148,15 +150,17 @@ begins_stand seen may_leave faults set from state journal begins opens kept stan
         raises = raises_first set.rows reserved [] within;
         durable = durable_more seen may_leave from (λ sub. reserved_at journal sub) (most_at reserved (beginning set.rows reserved)) journal
             (λ sub inside. let here = limits_at journal sub inside in omega (arith, here)) begins.durable;
+        above = λ sub inside. omega arith;
+        always = since_opening seen may_leave moment left_since set.rows from journal.disk reserved (most_at reserved (beginning set.rows reserved)) begins.always;
       };
     }
 
 -- where a restart leads
-pub restart_stands : {D : Type 0} (seen : D → Option (List ℕ)) (may_leave : D → List ℕ → Type 0) (set : Setting) (from : D) (reserved : List ℕ) (at : Course) (number : ℕ) (state next : Standing) (journal : JournalState D)
-    → StandsOn seen may_leave set from reserved at number state journal → next.words ≡ opened set.rows (limits_of journal) → next.kept ≡ state.kept → StandsAt set at.early next
+pub restart_stands : {D : Type 0} (seen : D → Option (List ℕ)) (may_leave : D → List ℕ → Type 0) (moment : D → ℕ) (left_since : D → ℕ → List ℕ → Type 0) (set : Setting) (from : D) (reserved : List ℕ) (at : Course) (number : ℕ) (state next : Standing) (journal : JournalState D)
+    → StandsOn seen may_leave moment left_since set from reserved at number state journal → next.words ≡ opened set.rows (limits_of journal) → next.kept ≡ state.kept → StandsAt set at.early next
     → Restarts set at (after_restart set.rows at (limits_of journal))
-    × StandsOn seen may_leave set from reserved (after_restart set.rows at (limits_of journal)) number next journal
-restart_stands seen may_leave set from reserved at number state next journal on opens kept stands = (
+    × StandsOn seen may_leave moment left_since set from reserved (after_restart set.rows at (limits_of journal)) number next journal
+restart_stands seen may_leave moment left_since set from reserved at number state next journal on opens kept stands = (
   record { limits = limits_of journal; raises = on.reserves.raises; leads = refl },
   record {
     numbered = on.numbered;
@@ -168,6 +172,8 @@ restart_stands seen may_leave set from reserved at number state next journal on 
       subscribers = on.reserves.subscribers;
       raises = raises_again set.rows at.early at.limits at.highs (limits_of journal) on.reserves.raises;
       durable = on.reserves.durable;
+      above = on.reserves.above;
+      always = on.reserves.always;
     };
   },
 )
@@ -178,16 +184,18 @@ IsKeptBy set stop early kept openings jobs round words next =
     (lawful : IsLawfulRound set stop early kept openings jobs round words) × (next ≡ kept_by_jobs kept lawful.nets)
 
 -- a round that was served leads on
-pub round_leads : {D : Type 0} (seen : D → Option (List ℕ)) (may_leave : D → List ℕ → Type 0) (set : Setting) (from : D) (reserved : List ℕ) (at : Course) (number : ℕ) (state next : Standing) (journal after : JournalState D)
-    (jobs : List (List Line)) (round : RoundRecord) (stop : Option Stop)
-    → StandsOn seen may_leave set from reserved at number state journal → round.number ≡ number → after.imsis ≡ journal.imsis
-    → Serves seen may_leave set at.early state jobs round stop journal next after → RoundLeads seen may_leave set from reserved at jobs round stop next after
-round_leads seen may_leave set from reserved at number state next journal after jobs round stop on numbered same serves =
+pub round_leads : {D : Type 0} (seen : D → Option (List ℕ)) (may_leave : D → List ℕ → Type 0) (moment : D → ℕ) (left_since : D → ℕ → List ℕ → Type 0) (set : Setting) (from : D) (reserved : List ℕ) (at : Course) (number : ℕ) (state next : Standing) (journal after : JournalState D)
+    (jobs : List (List Line)) (round : RoundRecord) (stop : Option Stop) (known : List LineRecord)
+    → StandsAfter seen may_leave moment left_since set from reserved at known number state journal → AreEnough jobs at.early known → round.number ≡ number → after.imsis ≡ journal.imsis
+    → Serves seen may_leave moment left_since set known state jobs round stop journal next after → RoundLeads seen may_leave moment left_since set from reserved at jobs round stop next after
+round_leads seen may_leave moment left_since set from reserved at number state next journal after jobs round stop known on enough numbered same serves =
     let words = serves.words in
-    let begins : IsKeptBy set stop at.early state.kept at.openings jobs round words next.kept =
-    subst (λ (openings : List ℕ). IsKeptBy set stop at.early state.kept openings jobs round words next.kept) on.opens (serves.lawful, serves.keeps) in
-    let leads : IsKeptBy set stop at.early at.kept at.openings jobs round words next.kept =
-    subst (λ (kept : List Kept). IsKeptBy set stop at.early kept at.openings jobs round words next.kept) on.kept begins in
+    let begins : IsKeptBy set stop known state.kept at.openings jobs round words next.kept =
+    subst (λ (openings : List ℕ). IsKeptBy set stop known state.kept openings jobs round words next.kept) on.opens (serves.lawful, serves.keeps) in
+    let knows : IsKeptBy set stop known at.kept at.openings jobs round words next.kept =
+    subst (λ (kept : List Kept). IsKeptBy set stop known kept at.openings jobs round words next.kept) on.kept begins in
+    let (lawful, nets) = lawful_after set stop known at.early at.kept at.openings jobs round words enough knows.0 in
+    let leads : IsKeptBy set stop at.early at.kept at.openings jobs round words next.kept = (lawful, knows.1 ∙ ap (kept_by_jobs at.kept) (sym nets)) in
     let sizes = serves.lawful.sizes in
     let size = on.stands.subscribers.size in
     let count = count_of set.rows journal on.reserves.subscribers in
@@ -205,6 +213,18 @@ round_leads seen may_leave set from reserved at number state next journal after 
         durable = durable_more seen may_leave from (λ i. max (most_at reserved at i) (slice_index words i + least_step)) (most_at reserved (after_round set.rows at round words leads.0.nets)) after
             (λ i inside. let greatest = get_or-greater words at.highs i (omega (arith, inside, counts, count, sizes, size)) in omega (arith, greatest))
             (serves.durable from (most_at reserved at) on.reserves.durable);
+        above = λ sub inside.
+            let within : sub < length journal.imsis = omega (arith, count, inside) in
+            let here = limits_at journal sub within in
+            let there = limits_at after sub (omega (arith, counts, within)) in
+            let step = serves.limits.step sub inside in
+            let first = on.reserves.above sub inside in
+            omega (arith, first, here, there, step);
+        always = λ told.
+            since_round moment left_since told.0 set.rows from reserved (most_at reserved at) (λ i. max (most_at reserved at i) (slice_index words i + least_step))
+            (most_at reserved (after_round set.rows at round words leads.0.nets)) journal after on.reserves.subscribers on.reserves.above
+            (λ sub inside. let greatest = get_or-greater words at.highs sub (omega (arith, inside, sizes, size)) in (omega (arith, greatest), omega (arith, greatest)))
+            (on.reserves.always told) (serves.always from (most_at reserved at) on.reserves.durable told);
       };
       needs = serves.needs;
     }

@@ -1,18 +1,17 @@
 -- For the top call: what its clauses say of a form that ended, and of how its refusal was told.
-use Rattle.std.proofs.Common.{◌≡◌, ◌⊎◌, ℕ, List, [], Option, Some, None, Result, Ok, Err, OnOk, inl, inr, refl, sym, ◌∙◌, ap, subst, append-nil}
+use Rattle.std.proofs.Common.{◌≡◌, ◌⊎◌, ℕ, List, [], Option, Some, None, inl, inr, refl, sym, ◌∙◌, ap, subst, append-nil}
 use Rattle.auc_edge.specs.Shelf.{File}
 use Rattle.auc_edge.specs.Sink.{Appends, AppendsFront}
-use Rattle.auc_run.specs.Inner.{FilesLeave, IsSilent, JournalStops, ReservedStops, Stops, Tells, open_refusal}
+use Rattle.auc_run.specs.Inner.{FilesLeave, IsSilent, JournalStops, Stops, Tells, open_refusal}
 use Rattle.auc_load.specs.declared.words.LoadWords.{LoadWords}
 use Rattle.auc_run.specs.Outcome.{EndsLoad, IsCause, IsQuiet, IsStop, NeedsNoJournal, Refuses, RunsFiles, RunsFull, RunsScenario}
 use Rattle.auc_run.specs.Refusal.{line_of, status_of}
-use Rattle.auc_forms.specs.Reserved.{IsReservedText}
-use Rattle.auc_journal.specs.Image.{Frame, reserved_in}
-use Rattle.auc_journal.specs.Opening.{Opens}
 use Rattle.auc_journal.specs.declared.open_why.OpenWhy.{OpenWhy}
 use Rattle.auc_journal.specs.declared.open_why.OpenWhy.TheVariants as unopened
-use Rattle.auc_run.specs.Crash.{IsFound, IsNoJournal}
+use Rattle.auc_run.specs.Crash.{IsNoJournal}
+use Rattle.auc_run.specs.Telling.{IsLongTold, IsTooLong, journal_named}
 use Rattle.auc_run.specs.Words.{Files, files_named}
+use Rattle.auc_run.specs.declared.forms.JournalForm.{JournalForm}
 use Rattle.auc_run.specs.declared.refusal.Refusal.{Refusal}
 use Rattle.auc_run.specs.declared.refusal.Refusal.TheVariants as refused
 use Rattle.auc_run.specs.declared.status.Status.{Status}
@@ -35,11 +34,11 @@ front_none (Some old) new bytes same = record { front = []; rest = bytes; whole 
 
 -- ---- a run of a scenario that ended early, and whose refusal was told
 
-pub still_runs : (told : Option (List File)) (files : Files) (seen : Option (List ℕ)) (leaves : List ℕ → Type 0) (s ended : Status) (old mid new : Option (List ℕ))
-    → ended ≡ s → Appends mid new [] → RunsFiles told files seen leaves s old mid → RunsFiles told files seen leaves ended old new
-still_runs told files seen leaves s ended old mid new is none runs =
-    subst (λ (e : Status). RunsFiles told files seen leaves e old new) (sym is)
-    (subst (λ (o : Option (List ℕ)). RunsFiles told files seen leaves s old o) (sym (Appends-nothing mid new none)) runs)
+pub still_runs : (told : Option (List File)) (files : Files) (seen : Option (List ℕ)) (leaves : List ℕ → Type 0) (ever : List ℕ → Type 0) (s ended : Status) (old mid new : Option (List ℕ))
+    → ended ≡ s → Appends mid new [] → RunsFiles told files seen leaves ever s old mid → RunsFiles told files seen leaves ever ended old new
+still_runs told files seen leaves ever s ended old mid new is none runs =
+    subst (λ (e : Status). RunsFiles told files seen leaves ever e old new) (sym is)
+    (subst (λ (o : Option (List ℕ)). RunsFiles told files seen leaves ever s old o) (sym (Appends-nothing mid new none)) runs)
 
 pub from_old : (old mid new : Option (List ℕ)) (bytes : List ℕ) → mid ≡ old → AppendsFront mid new bytes → AppendsFront old new bytes
 from_old old mid new bytes same front = subst (λ (o : Option (List ℕ)). AppendsFront o new bytes) same front
@@ -99,7 +98,7 @@ untouched_told words refused.NoMemory ended mid new (inr untold) needs = absurd 
 pub full_files : (words : List (List ℕ)) (told : Option (List File)) (seen : Option (List ℕ)) → Stops words told seen refused.StoreFull → (files : Files) × (files_named words ≡ Some files)
 full_files words told seen (inl (files, named, right)) = (files, named)
 full_files words told seen (inr (inl (form, none, named, stop))) = absurd stop
-full_files words told seen (inr (inr (inl (none, no_algorithm, asks, stop)))) = absurd stop
+full_files words told seen (inr (inr (inl (form, none, no_algorithm, asks, stop)))) = absurd stop
 full_files words told seen (inr (inr (inr (none, no_algorithm, asks, inl (no_load, is))))) = absurd (apart is)
   where
     apart : refused.StoreFull ≡ refused.Usage → ⊥
@@ -155,19 +154,19 @@ fault_told refused.NoMemory ended mid new (inl (is, line)) full = cc (is, full)
 fault_told refused.NoMemory ended mid new (inr untold) full = absurd untold
 
 -- the rounds of a run whose journal is full
-pub full_runs : (words : List (List ℕ)) (told : Option (List File)) (seen : Option (List ℕ)) (leaves : List ℕ → Type 0) (refusal : Refusal) (ended : Status) (old mid new : Option (List ℕ))
-    → Stops words told seen refusal → ((files : Files) → files_named words ≡ Some files → FilesLeave told files seen leaves (status_of refusal) old mid)
-    → Tells refusal ended mid new → refusal ≡ refused.StoreFull → RunsScenario words told seen leaves status.StoreFull old new
-full_runs words told seen leaves refusal ended old mid new stops leave tells is =
+pub full_runs : (words : List (List ℕ)) (told : Option (List File)) (seen : Option (List ℕ)) (leaves : List ℕ → Type 0) (ever : List ℕ → Type 0) (refusal : Refusal) (ended : Status) (old mid new : Option (List ℕ))
+    → Stops words told seen refusal → ((files : Files) → files_named words ≡ Some files → FilesLeave told files seen leaves ever (status_of refusal) old mid)
+    → Tells refusal ended mid new → refusal ≡ refused.StoreFull → RunsScenario words told seen leaves ever status.StoreFull old new
+full_runs words told seen leaves ever refusal ended old mid new stops leave tells is =
     at_full (subst (λ (r : Refusal). Stops words told seen r) is stops)
-    (λ files named. subst (λ (r : Refusal). FilesLeave told files seen leaves (status_of r) old mid) is (leave files named))
+    (λ files named. subst (λ (r : Refusal). FilesLeave told files seen leaves ever (status_of r) old mid) is (leave files named))
     (subst (λ (r : Refusal). Tells r ended mid new) is tells)
   where
-    at_full : Stops words told seen refused.StoreFull → ((files : Files) → files_named words ≡ Some files → FilesLeave told files seen leaves status.StoreFull old mid)
-        → Tells refused.StoreFull ended mid new → RunsScenario words told seen leaves status.StoreFull old new
+    at_full : Stops words told seen refused.StoreFull → ((files : Files) → files_named words ≡ Some files → FilesLeave told files seen leaves ever status.StoreFull old mid)
+        → Tells refused.StoreFull ended mid new → RunsScenario words told seen leaves ever status.StoreFull old new
     at_full stops leave (inl (is, none)) =
         let files = full_files words told seen stops in
-        (files.0, files.1, still_runs told files.0 seen leaves status.StoreFull status.StoreFull old mid new refl none (leave files.0 files.1))
+        (files.0, files.1, still_runs told files.0 seen leaves ever status.StoreFull status.StoreFull old mid new refl none (leave files.0 files.1))
     at_full stops leave (inr untold) = absurd untold
 
 -- and the round with which they end
@@ -184,40 +183,13 @@ full_ends {D} seen may_leave words told from disk refusal ended old mid new stop
         (files.0, files.1, subst (λ (o : Option (List ℕ)). RunsFull seen may_leave told files.0 from disk old o) (sym (Appends-nothing mid new none)) (runs files.0 files.1))
     at_full stops (inr untold) = absurd untold
 
--- ---- the limits of a journal
-
--- limits in order that are those of a journal are those of the frames that were found
-pub reserved_found : {D : Type 0} (seen : D → Option (List ℕ)) (may_leave : D → List ℕ → Type 0) (from disk : D) (limits written : List Frame) (place : ℕ) (result : Result (Unit {0}) Refusal) (old new : Option (List ℕ))
-    → Opens seen may_leave from disk limits place → written ≡ limits → OnOk result ((text : List ℕ) × IsReservedText written text × Appends old new text)
-    → OnOk result ((found : List Frame) × IsFound (seen from) found × (text : List ℕ) × IsReservedText found text × Appends old new text)
-reserved_found seen may_leave from disk limits written place (Err refusal) old new opens same writes = tt
-reserved_found seen may_leave from disk limits written place (Ok done) old new opens same (text, is, appended) = (
-  opens.frames,
-  λ file told. (place, opens.read file told),
-  text,
-  record {
-    limits = is.limits;
-    listed = record {
-      ordered = is.listed.ordered;
-      each = is.listed.each;
-      same = λ imsi. is.listed.same imsi ∙ ap (λ (fs : List Frame). reserved_in fs imsi) same ∙ opens.are.same imsi;
-    };
-    is_text = is.is_text;
-  },
-  appended,
-)
+-- ---- the journal
 
 -- a journal isn't opened
 pub journal_stops : (seen : Option (List ℕ)) (why : OpenWhy) → ((place : ℕ) → why ≡ unopened.NotJournal place → IsNoJournal seen place) → JournalStops seen (open_refusal why)
 journal_stops seen unopened.StoreFault none = tt
 journal_stops seen (unopened.NotJournal place) none = none place refl
 journal_stops seen unopened.NoMemory none = tt
-
--- a journal that isn't opened ends the telling of its limits
-pub unopened_stops : (seen : Option (List ℕ)) (why : OpenWhy) → ((place : ℕ) → why ≡ unopened.NotJournal place → IsNoJournal seen place) → ReservedStops seen (open_refusal why)
-unopened_stops seen unopened.StoreFault none = tt
-unopened_stops seen (unopened.NotJournal place) none = none place refl
-unopened_stops seen unopened.NoMemory none = tt
 
 -- ---- refusals and their causes
 
@@ -226,13 +198,14 @@ pub read_told : (ended : Status) (mid new : Option (List ℕ)) → Tells refused
 read_told ended mid new (inl (is, line)) = is
 read_told ended mid new (inr untold) = absurd untold
 
--- a refusal that has a line has its cause, and one of a file that is too long
+-- a refusal that has a line has its cause, and one of what is too long: a file, or what is told of the journal
 abbrev pub HasCause : Refusal → List (List ℕ) → Option (List File) → Option (List ℕ) → Type 0
 HasCause refused.ReadFault words told seen = Unit {0}
 HasCause refused.WriteFault words told seen = Unit {0}
 HasCause refused.StoreFault words told seen = Unit {0}
 HasCause refused.StoreFull words told seen = Unit {0}
 HasCause refused.NoMemory words told seen = Unit {0}
+HasCause refused.TooLong words told seen = IsCause words told seen refused.TooLong ⊎ ((form : JournalForm) × (journal_named words ≡ Some form) × IsLongTold form seen)
 HasCause refusal words told seen = IsCause words told seen refusal
 
 pub cause_of : (words : List (List ℕ)) (told : Option (List File)) (seen : Option (List ℕ)) (refusal : Refusal) → Stops words told seen refusal → HasCause refusal words told seen
@@ -243,12 +216,12 @@ cause_of words told seen refused.StoreFull stops = tt
 cause_of words told seen refused.NoMemory stops = tt
 cause_of words told seen refused.Usage (inl (files, named, stop)) = absurd stop
 cause_of words told seen refused.Usage (inr (inl (form, none, named, stop))) = absurd stop
-cause_of words told seen refused.Usage (inr (inr (inl (none, no_algorithm, asks, stop)))) = absurd stop
+cause_of words told seen refused.Usage (inr (inr (inl (form, none, no_algorithm, asks, stop)))) = absurd stop
 cause_of words told seen refused.Usage (inr (inr (inr (none, no_algorithm, asks, inl (no_load, is))))) = (none, no_algorithm, no_load, asks)
 cause_of words told seen refused.Usage (inr (inr (inr (none, no_algorithm, asks, inr (load, named, stop))))) = absurd stop
 cause_of words told seen (refused.Subscribers row fault) (inl (files, named, stop)) = (files, named, stop)
 cause_of words told seen (refused.Subscribers row fault) (inr (inl (form, none, named, stop))) = absurd stop
-cause_of words told seen (refused.Subscribers row fault) (inr (inr (inl (none, no_algorithm, asks, stop)))) = absurd stop
+cause_of words told seen (refused.Subscribers row fault) (inr (inr (inl (form, none, no_algorithm, asks, stop)))) = absurd stop
 cause_of words told seen (refused.Subscribers row fault) (inr (inr (inr (none, no_algorithm, asks, inl (no_load, is))))) = absurd (apart is)
   where
     apart : refused.Subscribers row fault ≡ refused.Usage → ⊥
@@ -256,15 +229,15 @@ cause_of words told seen (refused.Subscribers row fault) (inr (inr (inr (none, n
 cause_of words told seen (refused.Subscribers row fault) (inr (inr (inr (none, no_algorithm, asks, inr (load, named, stop))))) = absurd stop
 cause_of words told seen (refused.Scenario row fault) (inl (files, named, stop)) = (files, named, stop)
 cause_of words told seen (refused.Scenario row fault) (inr (inl (form, none, named, stop))) = absurd stop
-cause_of words told seen (refused.Scenario row fault) (inr (inr (inl (none, no_algorithm, asks, stop)))) = absurd stop
+cause_of words told seen (refused.Scenario row fault) (inr (inr (inl (form, none, no_algorithm, asks, stop)))) = absurd stop
 cause_of words told seen (refused.Scenario row fault) (inr (inr (inr (none, no_algorithm, asks, inl (no_load, is))))) = absurd (apart is)
   where
     apart : refused.Scenario row fault ≡ refused.Usage → ⊥
     apart same = cc
 cause_of words told seen (refused.Scenario row fault) (inr (inr (inr (none, no_algorithm, asks, inr (load, named, stop))))) = absurd stop
-cause_of words told seen refused.TooLong (inl (files, named, stop)) = (files, named, stop)
+cause_of words told seen refused.TooLong (inl (files, named, stop)) = inl (files, named, stop)
 cause_of words told seen refused.TooLong (inr (inl (form, none, named, stop))) = absurd stop
-cause_of words told seen refused.TooLong (inr (inr (inl (none, no_algorithm, asks, stop)))) = absurd stop
+cause_of words told seen refused.TooLong (inr (inr (inl (form, none, no_algorithm, asks, stop)))) = inr (form, asks, stop)
 cause_of words told seen refused.TooLong (inr (inr (inr (none, no_algorithm, asks, inl (no_load, is))))) = absurd (apart is)
   where
     apart : refused.TooLong ≡ refused.Usage → ⊥
@@ -272,7 +245,7 @@ cause_of words told seen refused.TooLong (inr (inr (inr (none, no_algorithm, ask
 cause_of words told seen refused.TooLong (inr (inr (inr (none, no_algorithm, asks, inr (load, named, stop))))) = absurd stop
 cause_of words told seen (refused.NotJournal place) (inl (files, named, both)) = (inr (files, named, both.0), both.1)
 cause_of words told seen (refused.NotJournal place) (inr (inl (form, none, named, stop))) = absurd stop
-cause_of words told seen (refused.NotJournal place) (inr (inr (inl (none, no_algorithm, asks, stop)))) = (inl asks, stop)
+cause_of words told seen (refused.NotJournal place) (inr (inr (inl (form, none, no_algorithm, asks, stop)))) = (inl (form, asks), stop)
 cause_of words told seen (refused.NotJournal place) (inr (inr (inr (none, no_algorithm, asks, inl (no_load, is))))) = absurd (apart is)
   where
     apart : refused.NotJournal place ≡ refused.Usage → ⊥
@@ -286,7 +259,7 @@ files_of words told seen refusal ended old mid new cause is still line =
     record { refusal = refusal; is_status = is; cause = cause; written = subst (λ (o : Option (List ℕ)). Appends o new (line_of refusal)) still line }
 
 pub refused_told : (words : List (List ℕ)) (told : Option (List File)) (seen : Option (List ℕ)) (refusal : Refusal) (ended : Status) (old mid new : Option (List ℕ))
-    → Stops words told seen refusal → IsSilent refusal old mid → Tells refusal ended mid new → IsStop ended ⊎ Refuses words told seen ended old new
+    → Stops words told seen refusal → IsSilent refusal old mid → Tells refusal ended mid new → IsStop ended ⊎ Refuses words told seen ended old new ⊎ IsTooLong words seen ended old new
 refused_told words told seen refused.ReadFault ended old mid new stops still (inl (is, line)) = inl (inl is)
 refused_told words told seen refused.ReadFault ended old mid new stops still (inr untold) = absurd untold
 refused_told words told seen refused.WriteFault ended old mid new stops still (inl (is, line)) = inl (inr (inl is))
@@ -305,11 +278,15 @@ refused_told words told seen (refused.Scenario row fault) ended old mid new stop
 refused_told words told seen (refused.NotJournal place) ended old mid new stops still (inr (inl is)) = inl (inr (inl is))
 refused_told words told seen (refused.NotJournal place) ended old mid new stops still (inr (inr is)) = inl (inr (inr (inr (inr is))))
 refused_told words told seen refused.TooLong ended old mid new stops still (inr untold) = absurd untold
-refused_told words told seen refused.Usage ended old mid new stops still (inl (is, line)) = inr (files_of words told seen refused.Usage ended old mid new (cause_of words told seen refused.Usage stops) is still line)
+refused_told words told seen refused.Usage ended old mid new stops still (inl (is, line)) = inr (inl (files_of words told seen refused.Usage ended old mid new (cause_of words told seen refused.Usage stops) is still line))
 refused_told words told seen (refused.Subscribers row fault) ended old mid new stops still (inl (is, line)) =
-    inr (files_of words told seen (refused.Subscribers row fault) ended old mid new (cause_of words told seen (refused.Subscribers row fault) stops) is still line)
+    inr (inl (files_of words told seen (refused.Subscribers row fault) ended old mid new (cause_of words told seen (refused.Subscribers row fault) stops) is still line))
 refused_told words told seen (refused.Scenario row fault) ended old mid new stops still (inl (is, line)) =
-    inr (files_of words told seen (refused.Scenario row fault) ended old mid new (cause_of words told seen (refused.Scenario row fault) stops) is still line)
+    inr (inl (files_of words told seen (refused.Scenario row fault) ended old mid new (cause_of words told seen (refused.Scenario row fault) stops) is still line))
 refused_told words told seen (refused.NotJournal place) ended old mid new stops still (inl (is, line)) =
-    inr (files_of words told seen (refused.NotJournal place) ended old mid new (cause_of words told seen (refused.NotJournal place) stops) is still line)
-refused_told words told seen refused.TooLong ended old mid new stops still (inl (is, line)) = inr (files_of words told seen refused.TooLong ended old mid new (cause_of words told seen refused.TooLong stops) is still line)
+    inr (inl (files_of words told seen (refused.NotJournal place) ended old mid new (cause_of words told seen (refused.NotJournal place) stops) is still line))
+refused_told words told seen refused.TooLong ended old mid new stops still (inl (is, line)) = long_told (cause_of words told seen refused.TooLong stops)
+  where
+    long_told : HasCause refused.TooLong words told seen → IsStop ended ⊎ Refuses words told seen ended old new ⊎ IsTooLong words seen ended old new
+    long_told (inl cause) = inr (inl (files_of words told seen refused.TooLong ended old mid new cause is still line))
+    long_told (inr (form, named, long)) = inr (inr (record { form = form; named = named; is_status = is; long = long; same = Appends-nothing mid new line ∙ still }))

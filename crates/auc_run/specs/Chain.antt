@@ -14,7 +14,7 @@ use Rattle.auc_subs.specs.declared.row.Row.{Row}
 use Rattle.auc_world.specs.Lines.{numbers_of}
 use Rattle.auc_world.specs.Transcript.{Course}
 use Rattle.auc_world.specs.declared.record.LineRecord.{LineRecord}
-use Rattle.auc_run.specs.Crash.{IsFound, IsKept, MayLeave, Remembers, limits_in}
+use Rattle.auc_run.specs.Crash.{IsFound, IsKept, MayHaveLeft, MayLeave, Remembers, RemembersAlways, limits_in}
 use Rattle.auc_run.specs.Outcome.{IsWritten, RunsFiles}
 use Rattle.auc_run.specs.Output.{IsOutput}
 use Rattle.auc_run.specs.Service.{Serves}
@@ -75,10 +75,10 @@ abbrev pub EachRunDrawsAboveEarlierRuns : Type 0
 EachRunDrawsAboveEarlierRuns = (file : List ℕ) (runs : List ChainRun) → IsClosable file → AreChained file runs → AllPairs DrewAbove runs
 
 -- what the clauses of `run` say of a run that served rounds, and of any other, makes it one of a chain
-abbrev pub EachServedRunIsOfAChain : {D : Type 0} → (D → Option (List ℕ)) → (D → List ℕ → Type 0) → Type 0
-EachServedRunIsOfAChain {D} seen may_leave =
+abbrev pub EachServedRunIsOfAChain : {D : Type 0} → (D → Option (List ℕ)) → (D → List ℕ → Type 0) → (D → ℕ) → (D → ℕ → List ℕ → Type 0) → Type 0
+EachServedRunIsOfAChain {D} seen may_leave moment left_since =
     (from disk : D) (shelf : Option (List File)) (files : Files) (status : Status) (old new : Option (List ℕ)) (told : IsTold seen may_leave from) (image : List ℕ)
-    (runs : RunsFiles shelf files (seen from) (MayLeave seen may_leave from disk) status old new) → Remembers seen may_leave status from disk → may_leave disk image
+    (runs : RunsFiles shelf files (seen from) (MayLeave seen may_leave from disk) (MayHaveLeft seen may_leave moment left_since from disk) status old new) → Remembers seen may_leave status from disk → may_leave disk image
     → BeganOn told.0 (record { status = status; old = old; new = new; rows = runs.rows; lines = runs.end.early; image = image })
 
 abbrev pub EachOtherRunIsOfAChain : {D : Type 0} → (D → Option (List ℕ)) → (D → List ℕ → Type 0) → Type 0
@@ -86,9 +86,16 @@ EachOtherRunIsOfAChain {D} seen may_leave = (from disk : D) (status : Status) (o
     → Remembers seen may_leave status from disk → may_leave disk image
     → BeganOn told.0 (record { status = status; old = old; new = new; rows = []; lines = []; image = image })
 
+-- a crash may also cut a call off: what `always` says of an image that one at some moment of the call left makes it one of a chain,
+-- as one of which it isn't said what it released
+abbrev pub EachCutRunIsOfAChain : {D : Type 0} → (D → Option (List ℕ)) → (D → List ℕ → Type 0) → (D → ℕ) → (D → ℕ → List ℕ → Type 0) → Type 0
+EachCutRunIsOfAChain {D} seen may_leave moment left_since = (from disk : D) (status : Status) (old new : Option (List ℕ)) (told : IsTold seen may_leave from) (image : List ℕ)
+    → RemembersAlways seen may_leave moment left_since from disk → left_since disk (moment from) image
+    → BeganOn told.0 (record { status = status; old = old; new = new; rows = []; lines = []; image = image })
+
 -- and what those of `serve` say of a service that served blocks makes it one, too
-abbrev pub EachServiceIsOfAChain : {D : Type 0} → (D → Option (List ℕ)) → (D → List ℕ → Type 0) → Type 0
-EachServiceIsOfAChain {D} seen may_leave =
+abbrev pub EachServiceIsOfAChain : {D : Type 0} → (D → Option (List ℕ)) → (D → List ℕ → Type 0) → (D → ℕ) → (D → ℕ → List ℕ → Type 0) → Type 0
+EachServiceIsOfAChain {D} seen may_leave moment left_since =
     (from disk : D) (shelf : Option (List File)) (subscribers : Option (List ℕ)) (status : Status) (old new : Option (List Turn)) (told : IsTold seen may_leave from) (image : List ℕ)
-    (serves : Serves shelf subscribers (seen from) (MayLeave seen may_leave from disk) status old new) → Remembers seen may_leave status from disk → may_leave disk image
+    (serves : Serves shelf subscribers (seen from) (MayLeave seen may_leave from disk) (MayHaveLeft seen may_leave moment left_since from disk) status old new) → Remembers seen may_leave status from disk → may_leave disk image
     → BeganOn told.0 (record { status = status; old = None; new = None; rows = serves.rows; lines = serves.service.end.early; image = image })

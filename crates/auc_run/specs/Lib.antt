@@ -2,6 +2,7 @@ pub mod Words
 pub mod Crash
 pub mod Output
 pub mod Refusal
+pub mod Telling
 pub mod Outcome
 pub mod Chain
 pub mod Turns

@@ -1,11 +1,10 @@
 -- How a run ends: what each status says of the words, the shelf's files, the journal and the output.
-use Rattle.std.specs.Prelude.{◌≡◌, ℕ, ◌≤◌, ◌⊎◌, true, false, List, [], ◌∷◌, ◌++◌, length, Option, Some, None, Ok, Err}
+use Rattle.std.specs.Prelude.{◌≡◌, ℕ, ◌≤◌, ◌⊎◌, List, [], ◌∷◌, ◌++◌, length, Option, Some, None, Ok, Err}
 use Rattle.auc_edge.specs.Shelf.{File, IsFile, IsLongerFile}
 use Rattle.auc_edge.specs.Sink.{Appends, AppendsFront}
 use Rattle.auc_edge.specs.declared.stop.Stop.{Stop}
 use Rattle.auc_edge.specs.declared.stop.Stop.TheVariants.{Fault, Full}
 use Rattle.auc_forms.specs.Algorithm.{algorithm_named, algorithm_text}
-use Rattle.auc_forms.specs.Reserved.{IsReservedText, asks_reserved}
 use Rattle.auc_forms.specs.declared.algorithm.AlgorithmForm.{AlgorithmForm}
 use Rattle.auc_jobs.specs.Round.{DrewFull}
 use Rattle.auc_journal.specs.Durable.{IsTold}
@@ -24,10 +23,13 @@ use Rattle.auc_world.specs.Transcript.{Course}
 use Rattle.auc_world.specs.declared.record.PartRecord.{PartRecord}
 use Rattle.auc_world.specs.declared.record.PartRecord.TheVariants as record_of
 use Rattle.auc_world.specs.declared.record.RoundRecord.{RoundRecord}
-use Rattle.auc_run.specs.Crash.{IsFound, IsKept, IsNoJournal, ReservesBelow, limits_in}
+use Rattle.auc_run.specs.Crash.{IsFound, IsKept, IsLeftAnyTime, IsNoJournal, ReservesBelow, limits_in}
 use Rattle.auc_run.specs.Output.{IsOutput, IsTranscript, text_of}
 use Rattle.auc_run.specs.Refusal.{status_of, line_of}
+use Rattle.auc_run.specs.Telling.{journal_named}
 use Rattle.auc_run.specs.Words.{Files, files_named}
+use Rattle.auc_run.specs.declared.forms.JournalForm.{JournalForm}
+use Rattle.auc_run.specs.declared.forms.JournalForm.TheVariants as telling
 use Rattle.auc_run.specs.declared.refusal.Refusal.{Refusal}
 use Rattle.auc_run.specs.declared.refusal.Refusal.TheVariants as refused
 use Rattle.auc_run.specs.declared.status.Status.{Status}
@@ -71,7 +73,7 @@ pub record AreRight (told : Option (List File)) (files : Files) : Type 0 where
 
 -- the words ask for the journal, and no file that is read before it is wrong
 abbrev pub OpensJournal : List (List ℕ) → Option (List File) → Type 0
-OpensJournal words told = (asks_reserved words ≡ true) ⊎ ((files : Files) × (files_named words ≡ Some files) × AreRight told files)
+OpensJournal words told = ((form : JournalForm) × (journal_named words ≡ Some form)) ⊎ ((files : Files) × (files_named words ≡ Some files) × AreRight told files)
 
 -- ---- what is done
 
@@ -90,8 +92,8 @@ IsWritten WriteFault old new text = AppendsFront old new text
 IsWritten _ old new text = Appends old new text
 
 -- the scenario of the files was read whole and the journal opened, the first of its parts were served, and the output of
--- their run was written. A crash may now leave such images
-pub record RunsFiles (told : Option (List File)) (files : Files) (seen : Option (List ℕ)) (leaves : List ℕ → Type 0) (status : Status) (old new : Option (List ℕ)) : Type 0 where
+-- their run was written. A crash may now leave such images, and may have left such ones at some moment of the run
+pub record RunsFiles (told : Option (List File)) (files : Files) (seen : Option (List ℕ)) (leaves : List ℕ → Type 0) (ever : List ℕ → Type 0) (status : Status) (old new : Option (List ℕ)) : Type 0 where
   pub first : List Row
   pub text : List ℕ
   pub are_read : AreRead told files first text
@@ -113,10 +115,12 @@ pub record RunsFiles (told : Option (List File)) (files : Files) (seen : Option 
   pub is_output : IsOutput rows script (limits_in rows found) stop served end output
   pub written : IsWritten status old new output
   pub kept : (image : List ℕ) → leaves image → IsKept status rows (limits_in rows found) end image
+  -- and what one at any moment of the run has left of it, also while the threads of a round ran
+  pub always : (image : List ℕ) → ever image → IsLeftAnyTime seen status rows (limits_in rows found) end image
 
 -- the words name the files of a scenario that was read and run
-abbrev pub RunsScenario : List (List ℕ) → Option (List File) → Option (List ℕ) → (List ℕ → Type 0) → Status → Option (List ℕ) → Option (List ℕ) → Type 0
-RunsScenario words told seen leaves status old new = (files : Files) × (files_named words ≡ Some files) × RunsFiles told files seen leaves status old new
+abbrev pub RunsScenario : List (List ℕ) → Option (List File) → Option (List ℕ) → (List ℕ → Type 0) → (List ℕ → Type 0) → Status → Option (List ℕ) → Option (List ℕ) → Type 0
+RunsScenario words told seen leaves ever status old new = (files : Files) × (files_named words ≡ Some files) × RunsFiles told files seen leaves ever status old new
 
 -- a transcript ends in a round that drew a number of a subscriber and withheld it because the journal is full; the journal
 -- that is left reserves less for this subscriber
@@ -170,37 +174,12 @@ EndsAlgorithm form WriteFault old new = AppendsFront old new (algorithm_text for
 EndsAlgorithm form NoMemory old new = new ≡ old
 EndsAlgorithm form _ old new = ⊥
 
--- the word is `reserved`, and the limits of the journal that was found were written
-pub record PrintsReserved (words : List (List ℕ)) (seen : Option (List ℕ)) (old new : Option (List ℕ)) : Type 0 where
-  pub asks : asks_reserved words ≡ true
-  pub found : List Frame
-  pub is_found : IsFound seen found
-  pub text : List ℕ
-  pub is_text : IsReservedText found text
-  pub written : Appends old new text
-
--- a text is the lines of the limits of the journal that was found
-abbrev pub AreLimitLines : Option (List ℕ) → List ℕ → Type 0
-AreLimitLines seen text = (found : List Frame) × IsFound seen found × IsReservedText found text
-
--- how a run ends whose word is `reserved`, and what was written then: the lines of the limits, or some first bytes of them if
--- the output failed; or, if the file is no journal, the line that says so, or some first bytes of it; or nothing if the disk
--- failed or memory ran out
-abbrev pub EndsReserved : Option (List ℕ) → Status → Option (List ℕ) → Option (List ℕ) → Type 0
-EndsReserved seen Done old new = (text : List ℕ) × AreLimitLines seen text × Appends old new text
-EndsReserved seen WriteFault old new = ((text : List ℕ) × AreLimitLines seen text × AppendsFront old new text)
-    ⊎ ((place : ℕ) × IsNoJournal seen place × AppendsFront old new (line_of (refused.NotJournal place)))
-EndsReserved seen NotJournal old new = (place : ℕ) × IsNoJournal seen place × Appends old new (line_of (refused.NotJournal place))
-EndsReserved seen StoreFault old new = new ≡ old
-EndsReserved seen NoMemory old new = new ≡ old
-EndsReserved seen _ old new = ⊥
-
 -- the words have none of the program's forms
 pub record AreUnknown (words : List (List ℕ)) : Type 0 where
   pub no_files : files_named words ≡ None
   pub no_algorithm : algorithm_named words ≡ None
   pub no_load : load_named words ≡ None
-  pub no_limits : asks_reserved words ≡ false
+  pub no_telling : journal_named words ≡ None
 
 -- how a run ends whose words have no form, and what was written then: the word `usage`, or some first bytes of it if the output
 -- failed. No memory is taken for it
@@ -224,7 +203,7 @@ AreWrong told files _ = ⊥
 -- journal is none
 abbrev pub IsCause : List (List ℕ) → Option (List File) → Option (List ℕ) → Refusal → Type 0
 IsCause words told seen refused.Usage =
-    (files_named words ≡ None) × (algorithm_named words ≡ None) × (load_named words ≡ None) × (asks_reserved words ≡ false)
+    (files_named words ≡ None) × (algorithm_named words ≡ None) × (load_named words ≡ None) × (journal_named words ≡ None)
 IsCause words told seen (refused.NotJournal place) = OpensJournal words told × IsNoJournal seen place
 IsCause words told seen refusal = (files : Files) × (files_named words ≡ Some files) × AreWrong told files refusal
 
@@ -273,9 +252,10 @@ MayRun status = (status ≡ Done) ⊎ IsStop status
 abbrev pub MayPrint : Status → Type 0
 MayPrint status = (status ≡ Done) ⊎ (status ≡ WriteFault) ⊎ (status ≡ NoMemory)
 
--- how a run may end whose word is `reserved`, and whose journal is one
-abbrev pub MayTell : Status → Type 0
-MayTell status = MayPrint status ⊎ (status ≡ StoreFault)
+-- how a run may end whose words have a form that tells the journal, and whose journal is one
+abbrev pub MayTell : JournalForm → Status → Type 0
+MayTell telling.Reserved status = MayPrint status ⊎ (status ≡ StoreFault)
+MayTell telling.Compact status = MayPrint status ⊎ (status ≡ StoreFault) ⊎ (status ≡ TooLong)
 
 -- a run whose words need no journal, or that ended before the journal is opened
 abbrev pub NeedsNoJournal : List (List ℕ) → Status → Type 0
@@ -283,5 +263,5 @@ NeedsNoJournal words Usage = Unit {0}
 NeedsNoJournal words SubscribersRefused = Unit {0}
 NeedsNoJournal words ScenarioRefused = Unit {0}
 NeedsNoJournal words ReadFault = Unit {0}
-NeedsNoJournal words TooLong = Unit {0}
+NeedsNoJournal words TooLong = journal_named words ≡ None
 NeedsNoJournal words _ = ((form : AlgorithmForm) × (algorithm_named words ≡ Some form)) ⊎ ((load : LoadWords) × (load_named words ≡ Some load)) ⊎ AreUnknown words

@@ -27,7 +27,7 @@ use Rattle.auc_world.specs.Transcript.{Course}
 use Rattle.auc_world.specs.declared.record.PartRecord.{PartRecord}
 use Rattle.auc_world.specs.declared.record.PartRecord.TheVariants as record_of
 use Rattle.auc_world.specs.declared.record.RoundRecord.{RoundRecord}
-use Rattle.auc_run.specs.Crash.{IsFound, IsKept, IsNoJournal, limits_in}
+use Rattle.auc_run.specs.Crash.{IsFound, IsKept, IsLeftAnyTime, IsNoJournal, limits_in}
 use Rattle.auc_run.specs.Outcome.{BeginsWith, HasText, max_file}
 use Rattle.auc_run.specs.Output.{IsOutput, setting_of}
 use Rattle.auc_run.specs.Refusal.{line_of, status_of}
@@ -142,7 +142,7 @@ IsPrompt replies turns = (before after : List Turn) (piece : List ℕ) → turns
 
 -- how many blocks a service answers after its header
 abbrev pub most_blocks : ℕ
-most_blocks = 4294967294
+most_blocks = 2 ^ 64 - 2
 
 -- a service hears no more: it answered so many blocks, or the present one is far too long
 abbrev pub IsLate : ℕ → List ℕ → Type 0
@@ -173,7 +173,7 @@ pub record IsService (rows : List Row) (header : Script) (reserved : List ℕ) (
   pub kept : (image : List ℕ) → leaves image → IsKept status rows reserved end image
 
 -- the subscribers were read, a header that is right was heard, the journal was opened, and blocks were served
-pub record Serves (told : Option (List File)) (subscribers : Option (List ℕ)) (seen : Option (List ℕ)) (leaves : List ℕ → Type 0) (status : Status) (old new : Option (List Turn)) : Type 0 where
+pub record Serves (told : Option (List File)) (subscribers : Option (List ℕ)) (seen : Option (List ℕ)) (leaves : List ℕ → Type 0) (ever : List ℕ → Type 0) (status : Status) (old new : Option (List Turn)) : Type 0 where
   pub before : List Row
   pub begins : BeginsWith told subscribers before
   pub turns : List Turn
@@ -186,6 +186,8 @@ pub record Serves (told : Option (List File)) (subscribers : Option (List ℕ)) 
   pub found : List Frame
   pub is_found : IsFound seen found
   pub service : IsService rows header (limits_in rows found) status first turns leaves
+  -- what a crash at any moment of the service has left of the journal, also while the threads of a round ran
+  pub always : (image : List ℕ) → ever image → IsLeftAnyTime seen status rows (limits_in rows found) service.end image
 
 -- a service that ended so had no fault of its wire
 abbrev pub HasQuietWire : Status → Type 0

@@ -6,7 +6,8 @@ ghost use Rattle.auc_edge.specs.Faults.{Rose};
 ghost use Rattle.auc_edge.specs.declared.stop.Stop.TheVariants as stops;
 ghost use Rattle.auc_script.specs.Limits.{IsBlock, IsWithin};
 ghost use Rattle.auc_world.specs.Transcript.{Course};
-ghost use Rattle.auc_run.specs.Inner.{Covers, MakesRound, RoundsStop, StandsOn, status_in};
+ghost use Rattle.auc_world.specs.declared.record.LineRecord.{LineRecord};
+ghost use Rattle.auc_run.specs.Inner.{AreEnough, Covers, MakesRound, RoundsStop, StandsAfter, status_in};
 ghost use Rattle.auc_run.specs.InnerService.{EndsServing, IsSaidUpTo, IsServingAny, IsTurned, ServiceStops, round_answer, trouble_refusal, turned_by};
 ghost use Rattle.auc_run.specs.Output.{setting_of};
 ghost use Rattle.auc_run.specs.Service.{asked_of, end_line, most_block, reply_to_rest};
@@ -30,7 +31,7 @@ use std::sync::Wait;
 use std::thread::Threads;
 
 /// How many blocks a service hears after its header.
-const MOST_BLOCKS: u32 = 4_294_967_294;
+const MOST_BLOCKS: u64 = 18_446_744_073_709_551_614;
 
 /// The bytes that were heard and are no whole block yet, and room for what is heard at once.
 #[derive(Drop)]
@@ -65,10 +66,11 @@ pub(crate) fn serve_blocks<
     requires number { stand.number ≤ 1 }
     requires text { stand.text ≡ [] }
     requires room { 0 < length ear.old.room.items }
-    requires serving { IsServingAny D.seen D.may_leave input.old.subs input.old.script []
+    requires serving { IsServingAny D.seen D.may_leave D.moment D.left_since input.old.subs input.old.script []
         ear.old.waiting.items stand.number stand.state stand.journal (W.turns wire.old) }
 
-    ensures ends { EndsServing D.seen D.may_leave input.old.subs input.old.script [] ear.old.waiting.items
+    ensures ends { EndsServing D.seen D.may_leave D.moment D.left_since
+        input.old.subs input.old.script [] ear.old.waiting.items
         stand.number stand.state stand.journal (status_in result.result) result.disk (W.turns wire.old) (W.turns wire.new) }
     ensures done { OnOk result.result (IsTrue (W.ended wire.new)) }
     ensures refused { IfErr result.result ServiceStops }
@@ -121,13 +123,14 @@ fn serve_next<R: Threads + Wait + Sync, W: Wire, D: Disk + Drop + Send, G: Gate 
     gate: &G,
 ) -> BlockStep<D>
     requires within { IsWithin input.old.subs input.old.script }
-    requires number { stand.number + 1 < 2 ^ 32 }
+    requires number { stand.number + 1 < 2 ^ 64 }
     requires text { stand.text ≡ [] }
     requires room { 0 < length ear.old.room.items }
-    requires serving { IsServingAny D.seen D.may_leave input.old.subs input.old.script []
+    requires serving { IsServingAny D.seen D.may_leave D.moment D.left_since input.old.subs input.old.script []
         ear.old.waiting.items stand.number stand.state stand.journal (W.turns wire.old) }
 
-    ensures turned { IsTurned D.seen D.may_leave input.old.subs input.old.script [] ear.old.waiting.items ear.new.waiting.items
+    ensures turned { IsTurned D.seen D.may_leave D.moment D.left_since
+        input.old.subs input.old.script [] ear.old.waiting.items ear.new.waiting.items
         stand.number result.stand.number stand.state result.stand.state stand.journal result.stand.journal
         result.result (W.turns wire.old) (W.turns wire.new) }
     ensures text { IsOk result.result → result.stand.text ≡ [] }
@@ -205,13 +208,15 @@ fn serve_block<R: Threads + Wait + Sync, W: Wire, D: Disk + Drop + Send, G: Gate
     gate: &G,
 ) -> BlockStep<D>
     requires within { IsWithin input.old.subs input.old.script }
-    requires number { stand.number + 1 < 2 ^ 32 }
+    requires number { stand.number + 1 < 2 ^ 64 }
     requires text { stand.text ≡ [] }
     requires short { length block ≤ most_block }
-    requires serving { (waiting : List ℕ) × IsServingAny D.seen D.may_leave input.old.subs input.old.script
+    requires serving { (waiting : List ℕ) × IsServingAny D.seen D.may_leave D.moment D.left_since
+        input.old.subs input.old.script
         (block ∷ []) waiting stand.number stand.state stand.journal (W.turns wire.old) }
 
-    ensures turned { (waiting : List ℕ) → IsTurned D.seen D.may_leave input.old.subs input.old.script
+    ensures turned { (waiting : List ℕ) → IsTurned D.seen D.may_leave D.moment D.left_since
+        input.old.subs input.old.script
         (block ∷ []) waiting waiting stand.number result.stand.number stand.state result.stand.state
         stand.journal result.stand.journal result.result (W.turns wire.old) (W.turns wire.new) }
     ensures goes { IfOk result.result (λ more. more ≡ true) }
@@ -242,7 +247,8 @@ fn serve_block<R: Threads + Wait + Sync, W: Wire, D: Disk + Drop + Send, G: Gate
     }
 }
 
-/// Serves the round of a block, and says its text and `end` at once.
+/// Serves the round of a block, and says its text and `end` at once. No line of a block asks which vectors were released
+/// before, so the state forgets them after each.
 fn serve_jobs<R: Threads + Wait + Sync, W: Wire, D: Disk + Drop + Send, G: Gate + Sync>(
     rt: &R,
     alloc: Global,
@@ -254,14 +260,14 @@ fn serve_jobs<R: Threads + Wait + Sync, W: Wire, D: Disk + Drop + Send, G: Gate 
 ) -> BlockStep<D>
     requires within { IsWithin input.now.subs input.now.script }
     requires known { IsBlock input.now.subs jobs }
-    requires number { stand.number + 1 < 2 ^ 32 }
+    requires number { stand.number + 1 < 2 ^ 64 }
     requires text { stand.text ≡ [] }
     requires serving { (block waiting : List ℕ) × (asked_of input.now.subs block ≡ Ok (Some jobs))
-        × IsServingAny D.seen D.may_leave input.now.subs input.now.script
+        × IsServingAny D.seen D.may_leave D.moment D.left_since input.now.subs input.now.script
         (block ∷ []) waiting stand.number stand.state stand.journal (W.turns wire.old) }
 
     ensures turned { (block waiting : List ℕ) → asked_of input.now.subs block ≡ Ok (Some jobs)
-        → IsTurned D.seen D.may_leave input.now.subs input.now.script
+        → IsTurned D.seen D.may_leave D.moment D.left_since input.now.subs input.now.script
         (block ∷ []) waiting waiting stand.number result.stand.number stand.state result.stand.state
         stand.journal result.stand.journal result.result (W.turns wire.old) (W.turns wire.new) }
     ensures goes { IfOk result.result (λ more. more ≡ true) }
@@ -280,6 +286,7 @@ fn serve_jobs<R: Threads + Wait + Sync, W: Wire, D: Disk + Drop + Send, G: Gate 
     let Made { mut stand, result } = make_jobs(rt, alloc, input, &jobs, stand, gate);
     match result {
         Ok(stop) => {
+            stand.state.forget(alloc);
             let said = say_round(alloc, &mut stand.text, wire);
             turned(stand, round_answer(said, stop), true)
         }
@@ -298,19 +305,20 @@ fn make_jobs<R: Threads + Wait + Sync, D: Disk + Drop + Send, G: Gate + Sync>(
 ) -> Made<D>
     requires within { IsWithin input.now.subs input.now.script }
     requires known { IsBlock input.now.subs jobs.now }
-    requires number { stand.number + 1 < 2 ^ 32 }
+    requires number { stand.number + 1 < 2 ^ 64 }
     requires text { stand.text ≡ [] }
-    requires stands { (from : D) × (reserved : List ℕ) × (at : Course) × StandsOn D.seen D.may_leave
-        (setting_of input.now.subs input.now.script) from reserved at stand.number stand.state stand.journal }
+    requires stands { (from : D) × (reserved : List ℕ) × (at : Course) × (known : List LineRecord)
+        × StandsAfter D.seen D.may_leave D.moment D.left_since (setting_of input.now.subs input.now.script)
+        from reserved at known stand.number stand.state stand.journal }
 
-    ensures made { IfOk result.result (λ stop. MakesRound D.seen D.may_leave
+    ensures made { IfOk result.result (λ stop. MakesRound D.seen D.may_leave D.moment D.left_since
         (setting_of input.now.subs input.now.script) input.now.script.full
         stand.number stand.state stand.journal jobs.now stop result.stand.state result.stand.journal
         [] result.stand.text) }
-    ensures ends { OnErr result.result ((from : D) (reserved : List ℕ) (at : Course)
-        → StandsOn D.seen D.may_leave (setting_of input.now.subs input.now.script)
-        from reserved at stand.number stand.state stand.journal
-        → Covers D.seen D.may_leave input.now.subs from at.early result.stand.journal) }
+    ensures ends { OnErr result.result ((from : D) (reserved : List ℕ) (at : Course) (known : List LineRecord)
+        → StandsAfter D.seen D.may_leave D.moment D.left_since (setting_of input.now.subs input.now.script)
+        from reserved at known stand.number stand.state stand.journal → AreEnough jobs.now at.early known
+        → Covers D.seen D.may_leave D.moment D.left_since input.now.subs from reserved at.early result.stand.journal) }
     ensures number { result.stand.number ≡ stand.number + 1 }
 
     // A fault comes only with a risen count.

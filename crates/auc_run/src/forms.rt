@@ -3,9 +3,12 @@
 ghost use Rattle.std.specs.Prelude.{◌≡◌};
 ghost use Rattle.std.specs.Option.{option_copied, option_map};
 ghost use Rattle.auc_run.specs.Inner.{files_seen};
+ghost use Rattle.auc_run.specs.Telling.{journal_named};
 ghost use Rattle.auc_run.specs.Words.{files_named, service_named};
 
+use auc_compact::is_compact;
 use auc_edge::Octets;
+use auc_forms::is_reserved;
 
 /// The names of the files of a run, each of at least 1 byte.
 #[derive(Clone, Copy)]
@@ -63,4 +66,26 @@ pub fn service_words(words: &[Octets]) -> Option<ServiceWords<'_>>
         }
         _ => None,
     }
+}
+
+/// The forms of the words that tell the journal.
+#[derive(Clone, Copy)]
+pub enum JournalForm {
+    /// The word `reserved`: a line for each limit.
+    Reserved,
+    /// The word `compact`: the bytes of a journal that has the same limits, each identity once.
+    Compact,
+}
+
+/// The form that tells the journal, or `None` if the words have no such form.
+pub(crate) fn journal_form(words: &[Octets]) -> Option<JournalForm>
+    ensures { result ≡ journal_named words.now }
+{
+    if is_reserved(words) {
+        return Some(JournalForm::Reserved);
+    }
+    if is_compact(words) {
+        return Some(JournalForm::Compact);
+    }
+    None
 }

@@ -1,6 +1,6 @@
 //! The law of runs and services on one disk, and the laws on which an output stands.
 
-ghost use Rattle.auc_run.specs.Chain.{EachOtherRunIsOfAChain, EachRunDrawsAboveEarlierRuns, EachServedRunIsOfAChain, EachServiceIsOfAChain};
+ghost use Rattle.auc_run.specs.Chain.{EachCutRunIsOfAChain, EachOtherRunIsOfAChain, EachRunDrawsAboveEarlierRuns, EachServedRunIsOfAChain, EachServiceIsOfAChain};
 ghost use Rattle.auc_run.specs.Inner.{Laws};
 
 use auc_disk::Disk;
@@ -20,11 +20,12 @@ pub fn no_later_run_draws_a_number_again()
 
 /// What the clauses `ran` and `remembers` of [`crate::run`] say of a run, and those of [`crate::serve`] of a service, makes it
 /// one of such a chain, if the disk told its bytes and a crash would have left just these: with the lines of its rounds, if it
-/// served any.
+/// served any. What `always` says makes a call one that a crash cut off at any moment, without what it released.
 pub fn each_run_is_one_of_a_chain<D: Disk>()
-    ensures served { EachServedRunIsOfAChain D.seen D.may_leave }
+    ensures served { EachServedRunIsOfAChain D.seen D.may_leave D.moment D.left_since }
     ensures other { EachOtherRunIsOfAChain D.seen D.may_leave }
-    ensures service { EachServiceIsOfAChain D.seen D.may_leave }
+    ensures cut { EachCutRunIsOfAChain D.seen D.may_leave D.moment D.left_since }
+    ensures service { EachServiceIsOfAChain D.seen D.may_leave D.moment D.left_since }
 {}
 
 /// The laws of transcripts.

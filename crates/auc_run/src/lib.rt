@@ -11,7 +11,7 @@
 //! context again that its device has with the same counter.
 //!
 //! With every status a crash leaves a journal that reserves each number that was written as released, and for every identity
-//! at least what the journal that was found did (`specs/Crash`). So no later run draws one of these numbers again
+//! at least what the journal that was found did, also at any earlier moment of the call (`specs/Crash`). So no later run draws one of these numbers again
 //! ([`no_later_run_draws_a_number_again`], `specs/Chain`). Each other status except want of memory has its cause, and each
 //! cause its status; the subscribers are judged before the scenario is. All of this holds for every number of workers that serve a round, and
 //! however their steps interleave. No clause says in which order the jobs of a round are served, or that a worker gets on;
@@ -37,6 +37,7 @@ mod replies;
 mod rounds;
 mod service;
 mod status;
+mod telling;
 mod top_call;
 
 pub use input::MAX_FILE;

@@ -87,7 +87,7 @@ fn load_lines<R: Threads + Wait + Sync, G: Gate + Sync>(
 {
     let subs = subscribers(alloc, load)?;
     let closings = serve_load(rt, alloc, load, &subs, gate)?;
-    summary(alloc, load, &subs, closings.as_slice())
+    summary(rt, alloc, load, &subs, closings.as_slice())
 }
 
 /// Serves the round of a load, and gives its closings: each subscriber is closed after the vectors that its jobs draw.

@@ -5,7 +5,7 @@ ghost use Rattle.auc_edge.specs.Faults.{Rose};
 ghost use Rattle.auc_journal.specs.Durable.{IsDurable};
 ghost use Rattle.auc_journal.specs.Image.{Frame};
 ghost use Rattle.auc_journal.specs.Journal.{limits_of, reserved_at};
-ghost use Rattle.auc_journal.specs.Opening.{LeavesFound};
+ghost use Rattle.auc_journal.specs.Opening.{LeavesFound, LeavesOpening};
 ghost use Rattle.auc_journal.specs.declared.open_why.OpenWhy.TheVariants as why;
 ghost use Rattle.auc_sqn.specs.Number.{max_seq};
 ghost use Rattle.auc_subs.specs.Subscriber.{top_at};
@@ -26,7 +26,7 @@ pub(crate) fn open_journal<D: Disk + Drop>(
     disk: D,
     subs: &Subscribers,
 ) -> Result<Journal<D>, OpenRefused<D>>
-    ensures opened { IfOk result (Begins D.seen D.may_leave D.faults subs.now disk) }
+    ensures opened { IfOk result (Begins D.seen D.may_leave D.moment D.left_since D.faults subs.now disk) }
     ensures not_journal { IfErr result (λ refused. (place : ℕ) → refused.why ≡ why.NotJournal place
         → IsNoJournal (D.seen disk) place) }
     ensures fault { IfErr result (λ refused. refused.why ≡ why.StoreFault
@@ -34,6 +34,8 @@ pub(crate) fn open_journal<D: Disk + Drop>(
     ensures stands { IfErr result (λ refused. refused.why ≢ why.StoreFault
         → D.faults refused.disk ≡ D.faults disk) }
     ensures refused { IfErr result (λ refused. LeavesFound D.seen D.may_leave refused.why disk refused.disk) }
+    ensures refused_moment { IfErr result (λ refused.
+        LeavesOpening D.seen D.may_leave D.moment D.left_since disk refused.disk) }
 {
     match identities(alloc, subs) {
         Ok(imsis) => Journal::open(alloc, disk, imsis.as_slice()),

@@ -1,11 +1,12 @@
 //! Why a run is refused.
 
 ghost use Rattle.std.specs.Prelude.{◌≡◌, Err};
-ghost use Rattle.auc_run.specs.Inner.{open_refusal, read_refusal, script_refusal, subs_refusal};
+ghost use Rattle.auc_run.specs.Inner.{compact_refusal, open_refusal, read_refusal, script_refusal, subs_refusal};
 ghost use Rattle.auc_run.specs.Refusal.{status_of};
 ghost use Rattle.auc_run.specs.declared.refusal.Refusal.TheVariants as refused;
 
 use crate::status::Status;
+use auc_compact::CompactRefusal;
 use auc_disk::Disk;
 use auc_edge::{Failed, NoMemory, ReadRefusal};
 use auc_journal::{Journal, OpenWhy};
@@ -31,7 +32,7 @@ pub enum Refusal {
     NotJournal(u64),
     /// The journal has no room for another limit.
     StoreFull,
-    /// An input file has more than 67108864 bytes.
+    /// An input file has more than 67108864 bytes, or a journal anew would have more than 2^30.
     TooLong,
     /// Memory ran out.
     NoMemory,
@@ -117,6 +118,17 @@ impl From<OpenWhy> for Refusal {
             OpenWhy::StoreFault => Refusal::StoreFault,
             OpenWhy::NotJournal(place) => Refusal::NotJournal(place),
             OpenWhy::NoMemory => Refusal::NoMemory,
+        }
+    }
+}
+
+impl From<CompactRefusal> for Refusal {
+    ghost from_gives = { λ unmade e. e ≡ compact_refusal unmade };
+
+    fn from(unmade: CompactRefusal) -> Refusal {
+        match unmade {
+            CompactRefusal::TooLong => Refusal::TooLong,
+            CompactRefusal::NoMemory => Refusal::NoMemory,
         }
     }
 }

@@ -18,7 +18,7 @@ ghost use Rattle.auc_world.specs.Start.{fresh_kept};
 ghost use Rattle.auc_world.specs.Transcript.{Course, beginning};
 ghost use Rattle.auc_world.specs.Vectors.{vectors_in};
 ghost use Rattle.auc_world.specs.declared.record.LineRecord.{LineRecord};
-ghost use Rattle.auc_run.specs.Inner.{Begins, Covers, EndsIn, GoesOn, IsKnownPart, MakesRound, RoundsStop, RunsParts, StandsOn, status_in, stopped_by};
+ghost use Rattle.auc_run.specs.Inner.{AreEnough, Begins, Covers, EndsIn, GoesOn, IsKnownPart, MakesRound, RoundsStop, RunsParts, StandsAfter, StandsOn, status_in, stopped_by};
 ghost use Rattle.auc_run.specs.Outcome.{IsQuiet, IsStopOf, IsWritten};
 ghost use Rattle.auc_run.specs.Output.{setting_of};
 ghost use Rattle.auc_run.specs.Refusal.{status_of};
@@ -52,7 +52,7 @@ pub(crate) struct Settings<'a> {
 #[derive(Drop)]
 pub(crate) struct Stand<D: Disk + Drop> {
     /// The number of the next round.
-    pub(crate) number: u32,
+    pub(crate) number: u64,
     /// What the next round begins with.
     pub(crate) state: State,
     /// The journal.
@@ -98,16 +98,20 @@ pub(crate) fn make_round<R: Threads + Wait + Sync, D: Disk + Drop + Send, G: Gat
     requires known { IsKnownPart settings.now.set.rows (part.Round jobs.now) }
     requires workers { (1 ≤ settings.now.workers) × (settings.now.workers ≤ most_workers) }
     requires realm { length settings.now.set.realm ≤ longest_realm }
-    requires number { stand.number + 1 < 2 ^ 32 }
-    requires stands { (from : D) × (reserved : List ℕ) × (at : Course) × StandsOn D.seen D.may_leave settings.now.set
-        from reserved at stand.number stand.state stand.journal }
+    requires number { stand.number + 1 < 2 ^ 64 }
+    requires stands { (from : D) × (reserved : List ℕ) × (at : Course) × (known : List LineRecord)
+        × StandsAfter D.seen D.may_leave D.moment D.left_since settings.now.set
+        from reserved at known stand.number stand.state stand.journal }
 
-    ensures made { IfOk result.result (λ stop. MakesRound D.seen D.may_leave settings.now.set settings.now.full
+    ensures made { IfOk result.result (λ stop. MakesRound D.seen D.may_leave D.moment D.left_since
+        settings.now.set settings.now.full
         stand.number stand.state stand.journal jobs.now stop result.stand.state result.stand.journal
         stand.text result.stand.text) }
-    ensures ends { OnErr result.result ((from : D) (reserved : List ℕ) (at : Course)
-        → StandsOn D.seen D.may_leave settings.now.set from reserved at stand.number stand.state stand.journal
-        → Covers D.seen D.may_leave settings.now.set.rows from at.early result.stand.journal) }
+    ensures ends { OnErr result.result ((from : D) (reserved : List ℕ) (at : Course) (known : List LineRecord)
+        → StandsAfter D.seen D.may_leave D.moment D.left_since settings.now.set
+        from reserved at known stand.number stand.state stand.journal → AreEnough jobs.now at.early known
+        → Covers D.seen D.may_leave D.moment D.left_since
+        settings.now.set.rows from reserved at.early result.stand.journal) }
     ensures number { result.stand.number ≡ stand.number + 1 }
 
     // A fault comes only with a risen count.
@@ -218,18 +222,23 @@ fn serve_round<R: Threads + Wait + Sync, K: Sink, D: Disk + Drop + Send, G: Gate
     requires known { IsKnownPart settings.now.set.rows (part.Round jobs.now) }
     requires workers { (1 ≤ settings.now.workers) × (settings.now.workers ≤ most_workers) }
     requires realm { length settings.now.set.realm ≤ longest_realm }
-    requires number { stand.number + 1 < 2 ^ 32 }
-    requires stands { (from : D) × (reserved : List ℕ) × (at : Course) × StandsOn D.seen D.may_leave settings.now.set
+    requires number { stand.number + 1 < 2 ^ 64 }
+    requires stands { (from : D) × (reserved : List ℕ) × (at : Course) × StandsOn
+        D.seen D.may_leave D.moment D.left_since settings.now.set
         from reserved at stand.number stand.state stand.journal }
 
     ensures goes { OnOk result.result ((from : D) (reserved : List ℕ) (at : Course)
-        → StandsOn D.seen D.may_leave settings.now.set from reserved at stand.number stand.state stand.journal
-        → GoesOn D.seen D.may_leave settings.now.set settings.now.full from reserved at (part.Round jobs.now)
+        → StandsOn D.seen D.may_leave D.moment D.left_since
+        settings.now.set from reserved at stand.number stand.state stand.journal
+        → GoesOn D.seen D.may_leave D.moment D.left_since
+        settings.now.set settings.now.full from reserved at (part.Round jobs.now)
         result.stand.number result.stand.state result.stand.journal stand.text result.stand.text
         (K.written out.old) (K.written out.new)) }
     ensures ends { IfErr result.result (λ refusal. (from : D) (reserved : List ℕ) (at : Course)
-        → StandsOn D.seen D.may_leave settings.now.set from reserved at stand.number stand.state stand.journal
-        → EndsIn D.seen D.may_leave settings.now.set settings.now.full from reserved at (part.Round jobs.now)
+        → StandsOn D.seen D.may_leave D.moment D.left_since
+        settings.now.set from reserved at stand.number stand.state stand.journal
+        → EndsIn D.seen D.may_leave D.moment D.left_since
+        settings.now.set settings.now.full from reserved at (part.Round jobs.now)
         (status_of refusal) result.stand.journal stand.text (K.written out.old) (K.written out.new)) }
     ensures number { result.stand.number ≤ stand.number + 1 }
     ensures refused { IfErr result.result RoundsStop }
@@ -294,18 +303,21 @@ fn serve_part<R: Threads + Wait + Sync, K: Sink, D: Disk + Drop + Send, G: Gate 
     requires known { IsKnownPart settings.now.set.rows part.now }
     requires workers { (1 ≤ settings.now.workers) × (settings.now.workers ≤ most_workers) }
     requires realm { length settings.now.set.realm ≤ longest_realm }
-    requires number { stand.number + 1 < 2 ^ 32 }
-    requires stands { (from : D) × (reserved : List ℕ) × (at : Course) × StandsOn D.seen D.may_leave settings.now.set
+    requires number { stand.number + 1 < 2 ^ 64 }
+    requires stands { (from : D) × (reserved : List ℕ) × (at : Course) × StandsOn
+        D.seen D.may_leave D.moment D.left_since settings.now.set
         from reserved at stand.number stand.state stand.journal }
 
     ensures goes { OnOk result.result ((from : D) (reserved : List ℕ) (at : Course)
-        → StandsOn D.seen D.may_leave settings.now.set from reserved at stand.number stand.state stand.journal
-        → GoesOn D.seen D.may_leave settings.now.set settings.now.full from reserved at part.now
+        → StandsOn D.seen D.may_leave D.moment D.left_since
+        settings.now.set from reserved at stand.number stand.state stand.journal
+        → GoesOn D.seen D.may_leave D.moment D.left_since settings.now.set settings.now.full from reserved at part.now
         result.stand.number result.stand.state result.stand.journal stand.text result.stand.text
         (K.written out.old) (K.written out.new)) }
     ensures ends { IfErr result.result (λ refusal. (from : D) (reserved : List ℕ) (at : Course)
-        → StandsOn D.seen D.may_leave settings.now.set from reserved at stand.number stand.state stand.journal
-        → EndsIn D.seen D.may_leave settings.now.set settings.now.full from reserved at part.now
+        → StandsOn D.seen D.may_leave D.moment D.left_since
+        settings.now.set from reserved at stand.number stand.state stand.journal
+        → EndsIn D.seen D.may_leave D.moment D.left_since settings.now.set settings.now.full from reserved at part.now
         (status_of refusal) result.stand.journal stand.text (K.written out.old) (K.written out.new)) }
     ensures number { result.stand.number ≤ stand.number + 1 }
     ensures refused { IfErr result.result RoundsStop }
@@ -342,14 +354,17 @@ fn serve_all<R: Threads + Wait + Sync, K: Sink, D: Disk + Drop + Send, G: Gate +
     requires known { All (IsKnownPart settings.now.set.rows) parts.now }
     requires workers { (1 ≤ settings.now.workers) × (settings.now.workers ≤ most_workers) }
     requires realm { length settings.now.set.realm ≤ longest_realm }
-    requires number { stand.number + length parts.now < 2 ^ 32 }
+    requires number { stand.number + length parts.now < 2 ^ 64 }
     requires text { stand.text ≡ [] }
-    requires stands { (from : D) × (reserved : List ℕ) × (at : Course) × StandsOn D.seen D.may_leave settings.now.set
+    requires stands { (from : D) × (reserved : List ℕ) × (at : Course) × StandsOn
+        D.seen D.may_leave D.moment D.left_since settings.now.set
         from reserved at stand.number stand.state stand.journal }
 
     ensures ran { (from : D) (reserved : List ℕ) (at : Course)
-        → StandsOn D.seen D.may_leave settings.now.set from reserved at stand.number stand.state stand.journal
-        → RunsParts D.seen D.may_leave settings.now.set settings.now.full from reserved at parts.now
+        → StandsOn D.seen D.may_leave D.moment D.left_since
+        settings.now.set from reserved at stand.number stand.state stand.journal
+        → RunsParts D.seen D.may_leave D.moment D.left_since
+        settings.now.set settings.now.full from reserved at parts.now
         (status_in result.result) result.disk (K.written out.old) (K.written out.new) }
     ensures refused { IfErr result.result RoundsStop }
 
@@ -419,13 +434,14 @@ pub(crate) fn serve_parts<R: Threads + Wait + Sync, K: Sink, D: Disk + Drop + Se
 ) -> Performed<D>
     requires subscribers { AreSubscribers subs.now }
     requires known { All (IsKnownPart subs.now) script.now.parts }
-    requires count { length script.now.parts + 1 < 2 ^ 32 }
+    requires count { length script.now.parts + 1 < 2 ^ 64 }
     requires workers { (1 ≤ script.now.workers) × (script.now.workers ≤ most_workers) }
     requires realm { length script.now.realm ≤ longest_realm }
-    requires journal { (from : D) × Begins D.seen D.may_leave D.faults subs.now from journal }
+    requires journal { (from : D) × Begins D.seen D.may_leave D.moment D.left_since D.faults subs.now from journal }
 
-    ensures ran { (from : D) → Begins D.seen D.may_leave D.faults subs.now from journal
-        → RunsParts D.seen D.may_leave (setting_of subs.now script.now) script.now.full from (limits_of journal)
+    ensures ran { (from : D) → Begins D.seen D.may_leave D.moment D.left_since D.faults subs.now from journal
+        → RunsParts D.seen D.may_leave D.moment D.left_since
+        (setting_of subs.now script.now) script.now.full from (limits_of journal)
         (beginning subs.now (limits_of journal)) script.now.parts
         (status_in result.result) result.disk (K.written out.old) (K.written out.new) }
     ensures refused { IfErr result.result RoundsStop }

@@ -8,7 +8,7 @@ ghost use Rattle.auc_edge.specs.Shelf.{File};
 ghost use Rattle.auc_journal.specs.Durable.{IsTold};
 ghost use Rattle.auc_journal.specs.Journal.{limits_of};
 ghost use Rattle.auc_script.specs.Limits.{IsWithin};
-ghost use Rattle.auc_run.specs.Crash.{IsFull, MayLeave, Remembers};
+ghost use Rattle.auc_run.specs.Crash.{IsFull, MayHaveLeft, MayLeave, Remembers, RemembersAlways};
 ghost use Rattle.auc_run.specs.Inner.{Begins, JournalStops, status_in};
 ghost use Rattle.auc_run.specs.InnerService.{EndsReady, HeaderStops, HearsFirst, HearsHeader, IsEarly, IsHeaderStop, ServesOr, ServiceStops, TookHeader};
 ghost use Rattle.auc_run.specs.Outcome.{IsQuiet};
@@ -59,6 +59,7 @@ pub fn serve<R: Threads + Wait + Sync, H: Shelf, W: Wire, D: Disk + Drop + Send,
     // said but a refusal's line or some first bytes of it.
     ensures ran { (subscribers : Option (List ℕ)) → service_named words.now ≡ Some subscribers
         → Serves (H.files shelf.old) subscribers (D.seen disk) (MayLeave D.seen D.may_leave disk result.disk)
+        (MayHaveLeft D.seen D.may_leave D.moment D.left_since disk result.disk)
         result.status (W.turns wire.old) (W.turns wire.new)
         ⊎ EndsUnserved (H.files shelf.old) subscribers (D.seen disk) result.status (W.turns wire.old) (W.turns wire.new) }
     ensures usage_ran { service_named words.now ≡ None
@@ -68,12 +69,15 @@ pub fn serve<R: Threads + Wait + Sync, H: Shelf, W: Wire, D: Disk + Drop + Send,
     ensures done { result.status ≡ Status.Done → IsTrue (W.ended wire.new)
         × (subscribers : Option (List ℕ)) × (service_named words.now ≡ Some subscribers)
         × Serves (H.files shelf.old) subscribers (D.seen disk) (MayLeave D.seen D.may_leave disk result.disk)
+        (MayHaveLeft D.seen D.may_leave D.moment D.left_since disk result.disk)
         Status.Done (W.turns wire.old) (W.turns wire.new) }
     ensures store_full { result.status ≡ Status.StoreFull → IsTold D.seen D.may_leave disk
         → IsFull (D.seen result.disk) }
 
-    // A journal never forgets: however the service ends, a crash leaves for every identity at least what was reserved before.
+    // A journal never forgets: however the service ends, a crash leaves for every identity at least what was reserved before, and
+    // so did one at any moment of the service, also while threads ran.
     ensures remembers { Remembers D.seen D.may_leave result.status disk result.disk }
+    ensures always { RemembersAlways D.seen D.may_leave D.moment D.left_since disk result.disk }
     ensures untouched { service_named words.now ≡ None ⊎ IsBeforeOpening result.status → result.disk ≡ disk }
 
     // A fault comes only with a risen count: that of the subscribers' file, of the wire, or of the disk.
@@ -118,11 +122,14 @@ fn serve_words<R: Threads + Wait + Sync, H: Shelf, W: Wire, D: Disk + Drop + Sen
 ) -> Performed<D>
     ensures ran { ServesOr (λ refusal. IsEarly (H.files shelf.old) (option_copied form.now.subscribers) (D.seen disk)
         refusal (W.turns wire.old) (W.turns wire.new)) (H.files shelf.old) (option_copied form.now.subscribers)
-        (D.seen disk) (MayLeave D.seen D.may_leave disk result.disk) result.result (W.turns wire.old) (W.turns wire.new) }
+        (D.seen disk) (MayLeave D.seen D.may_leave disk result.disk)
+        (MayHaveLeft D.seen D.may_leave D.moment D.left_since disk result.disk)
+        result.result (W.turns wire.old) (W.turns wire.new) }
     ensures done { OnOk result.result (IsTrue (W.ended wire.new)) }
     ensures store_full { IsErrOf result.result Refusal.StoreFull → IsTold D.seen D.may_leave disk
         → IsFull (D.seen result.disk) }
     ensures remembers { Remembers D.seen D.may_leave (status_in result.result) disk result.disk }
+    ensures always { RemembersAlways D.seen D.may_leave D.moment D.left_since disk result.disk }
     ensures untouched { IsBeforeOpening (status_in result.result) → result.disk ≡ disk }
 
     // A fault comes only with a risen count.
@@ -242,12 +249,15 @@ fn serve_input<R: Threads + Wait + Sync, W: Wire, D: Disk + Drop + Send, G: Gate
     ensures ran { (told : Option (List File)) (subscribers : Option (List ℕ)) (start : Option (List Turn))
         → HearsHeader told subscribers input.old.subs input.old.script ear.old.waiting.items start (W.turns wire.old)
         → ServesOr (λ refusal. IsEarly told subscribers (D.seen disk) refusal start (W.turns wire.new))
-        told subscribers (D.seen disk) (MayLeave D.seen D.may_leave disk result.disk) result.result start (W.turns wire.new) }
+        told subscribers (D.seen disk) (MayLeave D.seen D.may_leave disk result.disk)
+        (MayHaveLeft D.seen D.may_leave D.moment D.left_since disk result.disk)
+        result.result start (W.turns wire.new) }
     ensures done { OnOk result.result (IsTrue (W.ended wire.new)) }
     ensures refused { IfErr result.result (λ refusal. JournalStops (D.seen disk) refusal ⊎ ServiceStops refusal) }
     ensures store_full { IsErrOf result.result Refusal.StoreFull → IsTold D.seen D.may_leave disk
         → IsFull (D.seen result.disk) }
     ensures remembers { Remembers D.seen D.may_leave (status_in result.result) disk result.disk }
+    ensures always { RemembersAlways D.seen D.may_leave D.moment D.left_since disk result.disk }
 
     // A fault comes only with a risen count.
     ensures read_fault { IsErrOf result.result Refusal.ReadFault → Rose (W.faults wire.old) (W.faults wire.new) }
@@ -281,22 +291,28 @@ fn serve_ready<R: Threads + Wait + Sync, W: Wire, D: Disk + Drop + Send, G: Gate
 ) -> Performed<D>
     requires within { IsWithin input.old.subs input.old.script }
     requires room { 0 < length ear.old.room.items }
-    requires journal { (from : D) × Begins D.seen D.may_leave D.faults input.old.subs from journal }
+    requires journal { (from : D) × Begins D.seen D.may_leave D.moment D.left_since
+        D.faults input.old.subs from journal }
     requires heard { (first : List ℕ) × (start : Option (List Turn))
         × TookHeader first ear.old.waiting.items start (W.turns wire.old) }
 
     ensures ran { (from : D) (first : List ℕ) (start : Option (List Turn))
-        → Begins D.seen D.may_leave D.faults input.old.subs from journal
+        → Begins D.seen D.may_leave D.moment D.left_since D.faults input.old.subs from journal
         → TookHeader first ear.old.waiting.items start (W.turns wire.old)
-        → EndsReady D.seen D.may_leave input.old.subs input.old.script from (limits_of journal) first
+        → EndsReady D.seen D.may_leave D.moment D.left_since
+        input.old.subs input.old.script from (limits_of journal) first
         (status_in result.result) result.disk start (W.turns wire.old) (W.turns wire.new) }
     ensures done { OnOk result.result (IsTrue (W.ended wire.new)) }
     ensures refused { IfErr result.result ServiceStops }
     ensures store_full { IsErrOf result.result Refusal.StoreFull → (from : D)
-        → Begins D.seen D.may_leave D.faults input.old.subs from journal → IsTold D.seen D.may_leave from
+        → Begins D.seen D.may_leave D.moment D.left_since
+        D.faults input.old.subs from journal → IsTold D.seen D.may_leave from
         → IsFull (D.seen result.disk) }
-    ensures remembers { (from : D) → Begins D.seen D.may_leave D.faults input.old.subs from journal
+    ensures remembers { (from : D) → Begins D.seen D.may_leave D.moment D.left_since
+        D.faults input.old.subs from journal
         → Remembers D.seen D.may_leave (status_in result.result) from result.disk }
+    ensures always { (from : D) → Begins D.seen D.may_leave D.moment D.left_since D.faults input.old.subs from journal
+        → RemembersAlways D.seen D.may_leave D.moment D.left_since from result.disk }
 
     // A fault comes only with a risen count.
     ensures read_fault { IsErrOf result.result Refusal.ReadFault → Rose (W.faults wire.old) (W.faults wire.new) }

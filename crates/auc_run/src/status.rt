@@ -24,7 +24,7 @@ pub enum Status {
     NotJournal,
     /// The journal has no room for another limit.
     StoreFull,
-    /// An input file has more than 67108864 bytes.
+    /// An input file has more than 67108864 bytes, or a journal anew would have more than 2^30.
     TooLong,
     /// Memory ran out.
     NoMemory,

@@ -5,9 +5,8 @@ ghost use Rattle.auc_edge.specs.Faults.{Rose};
 ghost use Rattle.auc_edge.specs.Shelf.{File};
 ghost use Rattle.auc_edge.specs.Sink.{Appends};
 ghost use Rattle.auc_forms.specs.Algorithm.{algorithm_named, algorithm_text};
-ghost use Rattle.auc_forms.specs.Reserved.{IsReservedText, asks_reserved};
 ghost use Rattle.auc_journal.specs.Durable.{IsTold};
-ghost use Rattle.auc_journal.specs.Image.{Frame, Reading, read_image};
+ghost use Rattle.auc_journal.specs.Image.{Reading, read_image};
 ghost use Rattle.auc_load.specs.Words.{load_named};
 ghost use Rattle.auc_load.specs.declared.words.LoadWords.{LoadWords};
 ghost use Rattle.auc_script.specs.Limits.{IsWithin};
@@ -16,13 +15,15 @@ ghost use Rattle.auc_script.specs.Reading.{script_of};
 ghost use Rattle.auc_script.specs.declared.script.Script.{Script};
 ghost use Rattle.auc_subs.specs.declared.row.Row.{Row};
 ghost use Rattle.auc_world.specs.Agreement.{IsRealm};
-ghost use Rattle.auc_run.specs.Crash.{IsFound, IsFull, MayLeave, Remembers};
-ghost use Rattle.auc_run.specs.Inner.{FilesLeave, FilesStop, InputStops, IsBeforeJournal, IsRead, IsSilent, LimitsLeave, OutputStops, ReadingStops, ReservedStops, Stops, WritesLimits, files_seen, status_in};
-ghost use Rattle.auc_run.specs.Outcome.{AreRead, AreUnknown, AreWrong, EndsAlgorithm, EndsBefore, EndsLoad, EndsReserved, EndsUsage, IsCause, IsQuiet, IsReadNext, IsStop, MayPrint, MayRun, MayTell, NeedsNoJournal, PrintsAlgorithm, PrintsReserved, Refuses, RunsFiles, RunsFull, RunsLoad, RunsScenario};
+ghost use Rattle.auc_run.specs.Crash.{IsFull, MayHaveLeft, MayLeave, Remembers, RemembersAlways};
+ghost use Rattle.auc_run.specs.Inner.{FilesLeave, FilesStop, InputStops, IsBeforeJournal, IsRead, IsSilent, LimitsLeave, OutputStops, ReadingStops, Stops, TellingStops, files_seen, status_in};
+ghost use Rattle.auc_run.specs.Outcome.{AreRead, AreUnknown, AreWrong, EndsAlgorithm, EndsBefore, EndsLoad, EndsUsage, IsCause, IsQuiet, IsReadNext, IsStop, MayPrint, MayRun, MayTell, NeedsNoJournal, PrintsAlgorithm, Refuses, RunsFiles, RunsFull, RunsLoad, RunsScenario};
 ghost use Rattle.auc_run.specs.Refusal.{MayRefuse};
+ghost use Rattle.auc_run.specs.Telling.{EndsTelling, IsLongTold, IsTooLong, MayBeLong, PrintsJournal, TellsJournal, journal_named};
 ghost use Rattle.auc_run.specs.Words.{Files, files_named};
+ghost use Rattle.auc_run.specs.declared.forms.JournalForm.{JournalForm};
 
-use crate::forms::{InputFiles, input_files};
+use crate::forms::{InputFiles, JournalForm, input_files, journal_form};
 use crate::input::{read_script, read_subscribers};
 use crate::law::laws_of_transcripts;
 use crate::load::run_load;
@@ -31,10 +32,11 @@ use crate::refusal::{Performed, Refusal};
 use crate::refusing::tell;
 use crate::rounds::serve_parts;
 use crate::status::{Ended, Status};
+use crate::telling::write_limits;
 use auc_disk::Disk;
 use auc_edge::{Gate, Octets, Shelf, Sink, write_whole};
-use auc_forms::{AlgorithmForm, algorithm_lines, algorithm_words, is_reserved, reserved_lines};
-use auc_journal::{Journal, LimitList, OpenRefused};
+use auc_forms::{AlgorithmForm, algorithm_lines, algorithm_words};
+use auc_journal::{Journal, OpenRefused};
 use auc_script::Script;
 use auc_subs::Subscribers;
 use std::alloc::Global;
@@ -47,7 +49,8 @@ use std::thread::Threads;
 /// The words `run SCENARIO SUBSCRIBERS` read the subscribers and then the scenario from these files of the shelf, open the
 /// journal of the disk, serve the scenario's rounds and restarts, and write the text of each round when it has ended;
 /// `run SCENARIO` begins with no subscribers. If the journal fails or is full in a round, the round is written and the run
-/// ends. The word `reserved` opens the journal and writes its limits. The words `vector K OPC RAND SQN AMF` write the seven
+/// ends. The word `reserved` opens the journal and writes its limits, and the word `compact` the bytes of a journal that has the
+/// same limits, each identity once. The words `vector K OPC RAND SQN AMF` write the seven
 /// functions of Milenage at these values, and AUTN too if the word `autn` stands behind them; the words `auts K OPC RAND SQN`
 /// write AUTS. The words `load KEY SUBSCRIBERS JOBS WORKERS` serve one round of draws over a journal in memory, and then write
 /// five lines, which are a function of the words. Any other words are answered by `usage`.
@@ -66,30 +69,36 @@ pub fn run<R: Threads + Wait + Sync, H: Shelf, K: Sink, D: Disk + Drop + Send, G
 ) -> Ended<D>
     // A run does what its words ask for, is stopped, or is refused with its cause and that cause's line.
     ensures done { result.status ≡ Status.Done
-        → RunsScenario words.now (H.files shelf.old) (D.seen disk) (MayLeave D.seen D.may_leave disk result.disk) Status.Done
+        → RunsScenario words.now (H.files shelf.old) (D.seen disk) (MayLeave D.seen D.may_leave disk result.disk)
+        (MayHaveLeft D.seen D.may_leave D.moment D.left_since disk result.disk) Status.Done
         (K.written out.old) (K.written out.new)
         ⊎ PrintsAlgorithm words.now (K.written out.old) (K.written out.new)
-        ⊎ PrintsReserved words.now (D.seen disk) (K.written out.old) (K.written out.new)
+        ⊎ PrintsJournal words.now (D.seen disk) (K.written out.old) (K.written out.new)
         ⊎ RunsLoad words.now (K.written out.old) (K.written out.new) }
     ensures refused { (result.status ≡ Status.Done) ⊎ IsStop result.status
-        ⊎ Refuses words.now (H.files shelf.old) (D.seen disk) result.status (K.written out.old) (K.written out.new) }
+        ⊎ Refuses words.now (H.files shelf.old) (D.seen disk) result.status (K.written out.old) (K.written out.new)
+        ⊎ IsTooLong words.now (D.seen disk) result.status (K.written out.old) (K.written out.new) }
 
     // However a run of a scenario ends: the rounds that were written are a lawful transcript of its first parts, and a
     // crash leaves a journal that reserves each number of their vectors; or no round began, and nothing was written but a
     // refusal's line or some first bytes of it.
     ensures ran { (files : Files) → files_named words.now ≡ Some files
-        → RunsFiles (H.files shelf.old) files (D.seen disk) (MayLeave D.seen D.may_leave disk result.disk) result.status
+        → RunsFiles (H.files shelf.old) files (D.seen disk) (MayLeave D.seen D.may_leave disk result.disk)
+        (MayHaveLeft D.seen D.may_leave D.moment D.left_since disk result.disk) result.status
         (K.written out.old) (K.written out.new)
         ⊎ EndsBefore words.now (H.files shelf.old) (D.seen disk) result.status (K.written out.old) (K.written out.new) }
     ensures store_full { result.status ≡ Status.StoreFull
-        → RunsScenario words.now (H.files shelf.old) (D.seen disk) (MayLeave D.seen D.may_leave disk result.disk) Status.StoreFull
+        → RunsScenario words.now (H.files shelf.old) (D.seen disk) (MayLeave D.seen D.may_leave disk result.disk)
+        (MayHaveLeft D.seen D.may_leave D.moment D.left_since disk result.disk) Status.StoreFull
         (K.written out.old) (K.written out.new)
         × (IsTold D.seen D.may_leave disk → IsFull (D.seen result.disk)) }
     ensures drew_full { result.status ≡ Status.StoreFull → (files : Files) × (files_named words.now ≡ Some files)
         × RunsFull D.seen D.may_leave (H.files shelf.old) files disk result.disk (K.written out.old) (K.written out.new) }
 
-    // A journal never forgets: however the run ends, a crash leaves for every identity at least what was reserved before.
+    // A journal never forgets: however the run ends, a crash leaves for every identity at least what was reserved before, and so
+    // did one at any moment of the run, also while threads ran.
     ensures remembers { Remembers D.seen D.may_leave result.status disk result.disk }
+    ensures always { RemembersAlways D.seen D.may_leave D.moment D.left_since disk result.disk }
     ensures untouched { NeedsNoJournal words.now result.status → result.disk ≡ disk }
     ensures unopened { (there : List File) (files : Files) (cause : Refusal) → H.files shelf.old ≡ Some there
         → files_named words.now ≡ Some files → AreWrong (Some there) files cause → result.disk ≡ disk }
@@ -97,8 +106,8 @@ pub fn run<R: Threads + Wait + Sync, H: Shelf, K: Sink, D: Disk + Drop + Send, G
     // However another form ends: its lines were written, or some first bytes of them if the output failed, or nothing.
     ensures algorithm_ran { (form : AlgorithmForm) → algorithm_named words.now ≡ Some form
         → EndsAlgorithm form result.status (K.written out.old) (K.written out.new) }
-    ensures reserved_ran { asks_reserved words.now ≡ true
-        → EndsReserved (D.seen disk) result.status (K.written out.old) (K.written out.new) }
+    ensures journal_ran { (form : JournalForm) → journal_named words.now ≡ Some form
+        → EndsTelling form (D.seen disk) result.status (K.written out.old) (K.written out.new) }
     ensures load_ran { (load : LoadWords) → load_named words.now ≡ Some load
         → EndsLoad load result.status (K.written out.old) (K.written out.new) }
     ensures usage_ran { AreUnknown words.now → EndsUsage result.status (K.written out.old) (K.written out.new) }
@@ -117,7 +126,7 @@ pub fn run<R: Threads + Wait + Sync, H: Shelf, K: Sink, D: Disk + Drop + Send, G
     // If the shelf tells its files and the disk its bytes, each input comes to its status, unless a fault, a full journal or
     // want of memory comes before.
     ensures usage_comes { files_named words.now ≡ None → algorithm_named words.now ≡ None → load_named words.now ≡ None
-        → asks_reserved words.now ≡ false → MayRefuse Refusal.Usage result.status }
+        → journal_named words.now ≡ None → MayRefuse Refusal.Usage result.status }
     ensures refused_comes { (there : List File) (found : List ℕ) (cause : Refusal) → H.files shelf.old ≡ Some there
         → D.seen disk ≡ Some found → IsCause words.now (Some there) (Some found) cause → MayRefuse cause result.status }
     ensures done_comes { (there : List File) (found : List ℕ) (files : Files) (rows after : List Row) (text : List ℕ)
@@ -126,8 +135,10 @@ pub fn run<R: Threads + Wait + Sync, H: Shelf, K: Sink, D: Disk + Drop + Send, G
         → script_of rows text ≡ Ok (script, after) → read_image found ≡ Ok reading → MayRun result.status }
     ensures algorithm_comes { (form : AlgorithmForm) → algorithm_named words.now ≡ Some form → MayPrint result.status }
     ensures load_comes { (load : LoadWords) → load_named words.now ≡ Some load → MayPrint result.status }
-    ensures reserved_comes { (found : List ℕ) (reading : Reading) → asks_reserved words.now ≡ true
-        → D.seen disk ≡ Some found → read_image found ≡ Ok reading → MayTell result.status }
+    ensures journal_comes { (form : JournalForm) (found : List ℕ) (reading : Reading) → journal_named words.now ≡ Some form
+        → D.seen disk ≡ Some found → read_image found ≡ Ok reading → MayTell form result.status }
+    ensures long_comes { (form : JournalForm) (found : List ℕ) → journal_named words.now ≡ Some form
+        → D.seen disk ≡ Some found → IsLongTold form (Some found) → MayBeLong result.status }
 {
     let Performed { disk, result } = perform(rt, alloc, words, shelf, out, disk, gate);
     match result {
@@ -154,26 +165,31 @@ fn perform<R: Threads + Wait + Sync, H: Shelf, K: Sink, D: Disk + Drop + Send, G
     gate: &G,
 ) -> Performed<D>
     ensures done { OnOk result.result (RunsScenario words.now (H.files shelf.old) (D.seen disk)
-        (MayLeave D.seen D.may_leave disk result.disk) Status.Done (K.written out.old) (K.written out.new)
+        (MayLeave D.seen D.may_leave disk result.disk)
+        (MayHaveLeft D.seen D.may_leave D.moment D.left_since disk result.disk)
+        Status.Done (K.written out.old) (K.written out.new)
         ⊎ PrintsAlgorithm words.now (K.written out.old) (K.written out.new)
-        ⊎ PrintsReserved words.now (D.seen disk) (K.written out.old) (K.written out.new)
+        ⊎ PrintsJournal words.now (D.seen disk) (K.written out.old) (K.written out.new)
         ⊎ RunsLoad words.now (K.written out.old) (K.written out.new)) }
     ensures refused { IfErr result.result (Stops words.now (H.files shelf.old) (D.seen disk)) }
     ensures ran { (files : Files) → files_named words.now ≡ Some files → FilesLeave (H.files shelf.old) files (D.seen disk)
-        (MayLeave D.seen D.may_leave disk result.disk) (status_in result.result) (K.written out.old) (K.written out.new) }
+        (MayLeave D.seen D.may_leave disk result.disk)
+        (MayHaveLeft D.seen D.may_leave D.moment D.left_since disk result.disk)
+        (status_in result.result) (K.written out.old) (K.written out.new) }
     ensures silent { IfErr result.result (λ refusal. IsSilent refusal (K.written out.old) (K.written out.new)) }
     ensures store_full { IsErrOf result.result Refusal.StoreFull → IsTold D.seen D.may_leave disk
         → IsFull (D.seen result.disk) }
     ensures drew_full { (files : Files) → files_named words.now ≡ Some files → IsErrOf result.result Refusal.StoreFull
         → RunsFull D.seen D.may_leave (H.files shelf.old) files disk result.disk (K.written out.old) (K.written out.new) }
     ensures remembers { Remembers D.seen D.may_leave (status_in result.result) disk result.disk }
+    ensures always { RemembersAlways D.seen D.may_leave D.moment D.left_since disk result.disk }
     ensures untouched { NeedsNoJournal words.now (status_in result.result) → result.disk ≡ disk }
     ensures unopened { (there : List File) (files : Files) (cause : Refusal) → H.files shelf.old ≡ Some there
         → files_named words.now ≡ Some files → AreWrong (Some there) files cause → result.disk ≡ disk }
     ensures algorithm_ran { (form : AlgorithmForm) → algorithm_named words.now ≡ Some form
         → EndsAlgorithm form (status_in result.result) (K.written out.old) (K.written out.new) }
-    ensures limits_ran { asks_reserved words.now ≡ true
-        → LimitsLeave (D.seen disk) (status_in result.result) (K.written out.old) (K.written out.new) }
+    ensures limits_ran { (form : JournalForm) → journal_named words.now ≡ Some form
+        → LimitsLeave form (D.seen disk) (status_in result.result) (K.written out.old) (K.written out.new) }
     ensures load_ran { (load : LoadWords) → load_named words.now ≡ Some load
         → EndsLoad load (status_in result.result) (K.written out.old) (K.written out.new) }
 
@@ -195,8 +211,8 @@ fn perform<R: Threads + Wait + Sync, H: Shelf, K: Sink, D: Disk + Drop + Send, G
         let result = print_algorithm(alloc, &form, out);
         return Performed { disk, result };
     }
-    if is_reserved(words) {
-        return print_reserved(alloc, out, disk);
+    if let Some(form) = journal_form(words) {
+        return print_journal(alloc, form, out, disk);
     }
     let result = run_load(rt, alloc, words, out, gate);
     Performed { disk, result }
@@ -215,13 +231,16 @@ fn run_files<R: Threads + Wait + Sync, H: Shelf, K: Sink, D: Disk + Drop + Send,
 ) -> Performed<D>
     ensures refused { IfErr result.result (FilesStop (H.files shelf.old) (files_seen files.now) (D.seen disk)) }
     ensures ran { FilesLeave (H.files shelf.old) (files_seen files.now) (D.seen disk)
-        (MayLeave D.seen D.may_leave disk result.disk) (status_in result.result) (K.written out.old) (K.written out.new) }
+        (MayLeave D.seen D.may_leave disk result.disk)
+        (MayHaveLeft D.seen D.may_leave D.moment D.left_since disk result.disk)
+        (status_in result.result) (K.written out.old) (K.written out.new) }
     ensures silent { IfErr result.result (λ refusal. IsSilent refusal (K.written out.old) (K.written out.new)) }
     ensures store_full { IsErrOf result.result Refusal.StoreFull → IsTold D.seen D.may_leave disk
         → IsFull (D.seen result.disk) }
     ensures drew_full { IsErrOf result.result Refusal.StoreFull → RunsFull D.seen D.may_leave (H.files shelf.old)
         (files_seen files.now) disk result.disk (K.written out.old) (K.written out.new) }
     ensures remembers { Remembers D.seen D.may_leave (status_in result.result) disk result.disk }
+    ensures always { RemembersAlways D.seen D.may_leave D.moment D.left_since disk result.disk }
     ensures untouched { IsBeforeJournal (status_in result.result) → result.disk ≡ disk }
     ensures unopened { (there : List File) (cause : Refusal) → H.files shelf.old ≡ Some there
         → AreWrong (Some there) (files_seen files.now) cause → result.disk ≡ disk }
@@ -258,10 +277,12 @@ fn run_input<R: Threads + Wait + Sync, K: Sink, D: Disk + Drop + Send, G: Gate +
 ) -> Performed<D>
     requires { IsWithin input.now.subs input.now.script }
     ensures ran { (told : Option (List File)) (files : Files) → IsRead told files input.now.subs input.now.script
-        → FilesLeave told files (D.seen disk) (MayLeave D.seen D.may_leave disk result.disk) (status_in result.result)
+        → FilesLeave told files (D.seen disk) (MayLeave D.seen D.may_leave disk result.disk)
+        (MayHaveLeft D.seen D.may_leave D.moment D.left_since disk result.disk) (status_in result.result)
         (K.written out.old) (K.written out.new) }
     ensures refused { IfErr result.result (InputStops (D.seen disk)) }
     ensures remembers { Remembers D.seen D.may_leave (status_in result.result) disk result.disk }
+    ensures always { RemembersAlways D.seen D.may_leave D.moment D.left_since disk result.disk }
     ensures silent { IfErr result.result (λ refusal. IsSilent refusal (K.written out.old) (K.written out.new)) }
     ensures store_full { IsErrOf result.result Refusal.StoreFull → IsTold D.seen D.may_leave disk
         → IsFull (D.seen result.disk) }
@@ -320,13 +341,19 @@ fn read_input<H: Shelf>(alloc: Global, files: &InputFiles, shelf: &mut H) -> Res
     Ok(Input { subs, script })
 }
 
-/// Writes the limits of a disk's journal.
-fn print_reserved<K: Sink, D: Disk + Drop>(alloc: Global, out: &mut K, disk: D) -> Performed<D>
-    ensures done { OnOk result.result ((found : List Frame) × IsFound (D.seen disk) found
-        × (text : List ℕ) × IsReservedText found text × Appends (K.written out.old) (K.written out.new) text) }
-    ensures ran { LimitsLeave (D.seen disk) (status_in result.result) (K.written out.old) (K.written out.new) }
-    ensures refused { IfErr result.result (ReservedStops (D.seen disk)) }
+/// Tells a disk's journal in a form.
+fn print_journal<K: Sink, D: Disk + Drop>(
+    alloc: Global,
+    form: JournalForm,
+    out: &mut K,
+    disk: D,
+) -> Performed<D>
+    ensures done { OnOk result.result ((text : List ℕ) × TellsJournal form (D.seen disk) text
+        × Appends (K.written out.old) (K.written out.new) text) }
+    ensures ran { LimitsLeave form (D.seen disk) (status_in result.result) (K.written out.old) (K.written out.new) }
+    ensures refused { IfErr result.result (TellingStops form (D.seen disk)) }
     ensures remembers { Remembers D.seen D.may_leave (status_in result.result) disk result.disk }
+    ensures always { RemembersAlways D.seen D.may_leave D.moment D.left_since disk result.disk }
     ensures silent { IfErr result.result (λ refusal. refusal ≢ Refusal.WriteFault
         → K.written out.new ≡ K.written out.old) }
     ensures write_fault { IsErrOf result.result Refusal.WriteFault → Rose (K.faults out.old) (K.faults out.new) }
@@ -336,7 +363,7 @@ fn print_reserved<K: Sink, D: Disk + Drop>(alloc: Global, out: &mut K, disk: D) 
 {
     match Journal::open(alloc, disk, &[]) {
         Ok(journal) => {
-            let result = write_limits(alloc, journal.listed(), out);
+            let result = write_limits(alloc, form, journal.listed(), out);
             Performed {
                 disk: journal.into_disk(),
                 result,
@@ -347,22 +374,6 @@ fn print_reserved<K: Sink, D: Disk + Drop>(alloc: Global, out: &mut K, disk: D) 
             result: Err(Refusal::from(why)),
         },
     }
-}
-
-/// Writes limits, a line for each.
-fn write_limits<K: Sink>(alloc: Global, limits: &LimitList, out: &mut K) -> Result<(), Refusal>
-    ensures written { OnOk result ((text : List ℕ) × IsReservedText limits.now.written text
-        × Appends (K.written out.old) (K.written out.new) text) }
-    ensures ran { WritesLimits limits.now.written (status_in result) (K.written out.old) (K.written out.new) }
-    ensures refused { IfErr result OutputStops }
-    ensures silent { IfErr result (λ refusal. refusal ≢ Refusal.WriteFault
-        → K.written out.new ≡ K.written out.old) }
-    ensures fault { IsErrOf result Refusal.WriteFault → Rose (K.faults out.old) (K.faults out.new) }
-    ensures quiet { result ≢ Err Refusal.WriteFault → K.faults out.new ≡ K.faults out.old }
-{
-    let text = reserved_lines(alloc, limits)?;
-    write_whole(out, text.as_slice())?;
-    Ok(())
 }
 
 /// Writes the lines of a form of `vector` or `auts`.

@@ -5,6 +5,8 @@
 #![tactic(auto)]
 
 #[cfg(test)]
+mod compact;
+#[cfg(test)]
 mod faults;
 #[cfg(test)]
 mod gates;

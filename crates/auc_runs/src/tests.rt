@@ -435,6 +435,38 @@ fn load_digests_all_vectors(rt: HostRuntime) {
     check(&rt, alloc, case, &mut shelf, empty_disk(&rt, alloc));
 }
 
+// Python, as above: 3,500 vectors of three subscribers, which are four pieces of the digest.
+const LOADS: [(&'static [u8], &'static [u8]); 4] = [
+    (
+        b"1",
+        b"subscribers 3\njobs 700\nworkers 1\nvectors 3500\nsha256 cc8bf5722442b95d6226d21c38b9ab9578d46ac4e026f591e7ac45c7419af949\n",
+    ),
+    (
+        b"2",
+        b"subscribers 3\njobs 700\nworkers 2\nvectors 3500\nsha256 cc8bf5722442b95d6226d21c38b9ab9578d46ac4e026f591e7ac45c7419af949\n",
+    ),
+    (
+        b"3",
+        b"subscribers 3\njobs 700\nworkers 3\nvectors 3500\nsha256 cc8bf5722442b95d6226d21c38b9ab9578d46ac4e026f591e7ac45c7419af949\n",
+    ),
+    (
+        b"64",
+        b"subscribers 3\njobs 700\nworkers 64\nvectors 3500\nsha256 cc8bf5722442b95d6226d21c38b9ab9578d46ac4e026f591e7ac45c7419af949\n",
+    ),
+];
+
+#[test]
+fn each_number_of_workers_digests_the_same_vectors(rt: HostRuntime) {
+    let alloc = rt.alloc();
+    for place in 0..LOADS.len() {
+        let (workers, lines) = LOADS[place];
+        let words = [b"load".as_slice(), b"7", b"3", b"700", workers];
+        let mut shelf = MemShelf::new(alloc);
+        let case: Case = (&words, Status::Done, lines);
+        check(&rt, alloc, case, &mut shelf, empty_disk(&rt, alloc));
+    }
+}
+
 // Python, as above: ChaCha20, Milenage and SHA-256 of the vectors 1 to 5 of two subscribers. Each of the two jobs waits at
 // the gate until the other one ends, too.
 #[test]

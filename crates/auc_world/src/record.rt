@@ -167,7 +167,7 @@ pub enum Premise {
 #[derive(Drop)]
 pub struct RoundRecord {
     /// Its number, counted from 1.
-    pub number: u32,
+    pub number: u64,
     /// Its jobs' records, in the order of the jobs.
     pub jobs: Items<JobRecord>,
     /// The closings of the subscribers whose numbers moved, in the subscribers' order.

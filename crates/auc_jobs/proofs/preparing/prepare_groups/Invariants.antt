@@ -11,7 +11,7 @@ invariant-loop-rest g l = record {
   all : l.keeper.pass.passes ≡ l.initial.keeper.pass.passes;
   sized : length l.keeper.journal.imsis ≡ length l.book.openings;
   left : AreReservable (length l.book.openings) l.keeper.pass l.rest;
-  since : (opening : JournalState g.row.D.Denot) → Since g.D.Disk.seen g.D.Disk.may_leave g.D.Disk.faults opening l.initial.keeper → Since g.D.Disk.seen g.D.Disk.may_leave g.D.Disk.faults opening l.keeper;
+  since : (opening : JournalState g.row.D.Denot) → Since g.D.Disk.seen g.D.Disk.may_leave g.D.Disk.faults g.D.Disk.moment g.D.Disk.left_since opening l.initial.keeper → Since g.D.Disk.seen g.D.Disk.may_leave g.D.Disk.faults g.D.Disk.moment g.D.Disk.left_since opening l.keeper;
 }
 
 abbrev pub decreases-loop-rest : goal.decreases-loop-rest

@@ -16,7 +16,7 @@ use Rattle.auc_jobs.specs.InnerKeeping.{StaysNear, TellsStop}
 use Rattle.auc_jobs.specs.InnerPreparing.{AreReservable}
 use Rattle.auc_jobs.specs.InnerRound.{AreServed, GoesByLimits}
 use Rattle.auc_jobs.specs.InnerSharing.{Begins}
-use Rattle.auc_jobs.proofs.KeepingLemmas.{all_worked, can_keep, if_ok_map, stays_near, stop_told}
+use Rattle.auc_jobs.proofs.KeepingLemmas.{all_worked, can_keep, if_ok_map, stays_near, stop_told, unserved_leaves, worked_leaves}
 use Rattle.auc_jobs.proofs.PreparingLemmas.{are_reservable}
 use Rattle.auc_jobs.proofs.workers.serve_pieces.Goals as goal
 
@@ -71,11 +71,15 @@ returns-in-Ok-clause-bound g c =
     if_ok_map (ClosesAs c.args.round.now c.in-Ok.opened.0 c.work_all-worked.result.keeper) (λ done. All (λ word. word ≤ max_seq + 64) done.words) c.settle.result.result
     (λ done closes. closes.bound) c.settle.ensures.closes
 
+pub returns-in-Ok-clause-leaves : goal.returns-in-Ok-clause-leaves
+returns-in-Ok-clause-leaves g c = rw c.settle.ensures.journal
+    (worked_leaves g.D.Disk.seen g.D.Disk.may_leave g.D.Disk.faults g.D.Disk.moment g.D.Disk.left_since c.args.journal c.work_all-worked.result.journal c.work_all-worked.result.keeper c.work_all-worked.ensures.since)
+
 pub returns-in-Ok-clause-near : goal.returns-in-Ok-clause-near
 returns-in-Ok-clause-near g c = rw c.settle.ensures.journal
     (if_ok_map (ClosesAs c.args.round.now c.in-Ok.opened.0 c.work_all-worked.result.keeper)
-    (λ done. StaysNear g.D.Disk.seen g.D.Disk.may_leave c.args.journal done.words c.work_all-worked.result.journal) c.settle.result.result
-    (λ done closes. stays_near g.D.Disk.seen g.D.Disk.may_leave g.D.Disk.faults c.args.journal c.work_all-worked.result.journal c.work_all-worked.result.keeper done.words c.in-Ok.opened.0.openings
+    (λ done. StaysNear g.D.Disk.seen g.D.Disk.may_leave g.D.Disk.moment g.D.Disk.left_since c.args.journal done.words c.work_all-worked.result.journal) c.settle.result.result
+    (λ done closes. stays_near g.D.Disk.seen g.D.Disk.may_leave g.D.Disk.faults g.D.Disk.moment g.D.Disk.left_since c.args.journal c.work_all-worked.result.journal c.work_all-worked.result.keeper done.words c.in-Ok.opened.0.openings
     c.work_all-worked.ensures.since
     (ap (λ (imsis : List Identity). length imsis) c.requires.journal.subscribers ∙ length-map c.args.round.now.set.rows (λ (row : Row). row.imsi) ∙ sym c.requires.openings.0
     ∙ sym (ap (λ (os : List ℕ). length os) c.in-Ok.ensures.opens.numbers)) closes.looked)
@@ -86,5 +90,10 @@ returns-in-Ok-clause-stop g c = rw c.settle.ensures.journal
     (if_ok_map (ClosesAs c.args.round.now c.in-Ok.opened.0 c.work_all-worked.result.keeper)
     (λ done. TellsStop g.D.Disk.faults c.args.journal done.stop c.work_all-worked.result.journal) c.settle.result.result
     (λ done closes. subst (λ (stop : Option Stop). TellsStop g.D.Disk.faults c.args.journal stop c.work_all-worked.result.journal) (sym closes.stop)
-    (stop_told g.D.Disk.seen g.D.Disk.may_leave g.D.Disk.faults c.args.journal c.work_all-worked.result.journal c.work_all-worked.result.keeper done.jobs.records c.work_all-worked.ensures.since))
+    (stop_told g.D.Disk.seen g.D.Disk.may_leave g.D.Disk.faults g.D.Disk.moment g.D.Disk.left_since c.args.journal c.work_all-worked.result.journal c.work_all-worked.result.keeper done.jobs.records c.work_all-worked.ensures.since))
     c.settle.ensures.closes)
+
+pub returns-in-Err-clause-leaves : goal.returns-in-Err-clause-leaves
+returns-in-Err-clause-leaves g c =
+    let laws = g.met.D.Disk g.world.𝓛 g.world.𝓜 g.world.𝓡 ((λ s x. x), (λ x. x), (λ x. x), λ x. x) in
+    unserved_leaves g.D.Disk.seen g.D.Disk.may_leave g.D.Disk.moment g.D.Disk.left_since laws.only_now c.args.journal

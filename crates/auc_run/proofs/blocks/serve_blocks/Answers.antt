@@ -10,7 +10,7 @@ loop-init g c = record {
   text = c.requires.text;
   input = refl;
   room = refl;
-  goes = goes_same g.D.Disk.seen g.D.Disk.may_leave c.args.input.now.subs c.args.input.now.script c.args.ear.now.waiting.items c.args.stand.number c.args.stand.state c.args.stand.journal (g.W.Wire.turns c.args.wire.now);
+  goes = goes_same g.D.Disk.seen g.D.Disk.may_leave g.D.Disk.moment g.D.Disk.left_since c.args.input.now.subs c.args.input.now.script c.args.ear.now.waiting.items c.args.stand.number c.args.stand.state c.args.stand.journal (g.W.Wire.turns c.args.wire.now);
   quiet = refl;
   quiet_store = refl;
 }
@@ -30,7 +30,7 @@ serve_next-next-requires-clause-room g c κs within = let same = c.loop.invarian
 pub serve_next-next-requires-clause-serving : goal.serve_next-next-requires-clause-serving
 serve_next-next-requires-clause-serving g c κs within =
     rw c.loop.invariant.input
-    (serves_any g.D.Disk.seen g.D.Disk.may_leave c.args.input.now.subs c.args.input.now.script c.args.ear.now.waiting.items c.loop.ear.waiting.items c.args.stand.number c.loop.stand.number c.args.stand.state c.loop.stand.state
+    (serves_any g.D.Disk.seen g.D.Disk.may_leave g.D.Disk.moment g.D.Disk.left_since c.args.input.now.subs c.args.input.now.script c.args.ear.now.waiting.items c.loop.ear.waiting.items c.args.stand.number c.loop.stand.number c.args.stand.state c.loop.stand.state
     c.args.stand.journal c.loop.stand.journal c.loop.counter (g.W.Wire.turns c.args.wire.now) (g.W.Wire.turns c.loop.wire) c.requires.serving c.loop.invariant.goes)
 
 pub loop-preserved : goal.loop-preserved
@@ -46,10 +46,10 @@ loop-preserved g c =
       text = c.serve_next-next.ensures.text (rw c.in-Ok-true.is refl);
       input = c.serve_next-next.ensures.input ∙ before.input;
       room = c.serve_next-next.ensures.room ∙ before.room;
-      goes = goes_more g.D.Disk.seen g.D.Disk.may_leave c.args.input.now.subs c.args.input.now.script c.args.ear.now.waiting.items c.loop.ear.waiting.items c.serve_next-next.new.ear.waiting.items
+      goes = goes_more g.D.Disk.seen g.D.Disk.may_leave g.D.Disk.moment g.D.Disk.left_since c.args.input.now.subs c.args.input.now.script c.args.ear.now.waiting.items c.loop.ear.waiting.items c.serve_next-next.new.ear.waiting.items
           c.args.stand.number c.loop.stand.number c.serve_next-next.result.stand.number c.args.stand.state c.loop.stand.state c.serve_next-next.result.stand.state
           c.args.stand.journal c.loop.stand.journal c.serve_next-next.result.stand.journal c.loop.counter old now new before.goes
-          (turned_goes g.D.Disk.seen g.D.Disk.may_leave c.args.input.now.subs c.args.input.now.script [] c.loop.ear.waiting.items c.serve_next-next.new.ear.waiting.items c.loop.stand.number c.serve_next-next.result.stand.number c.loop.stand.state c.serve_next-next.result.stand.state
+          (turned_goes g.D.Disk.seen g.D.Disk.may_leave g.D.Disk.moment g.D.Disk.left_since c.args.input.now.subs c.args.input.now.script [] c.loop.ear.waiting.items c.serve_next-next.new.ear.waiting.items c.loop.stand.number c.serve_next-next.result.stand.number c.loop.stand.state c.serve_next-next.result.stand.state
           c.loop.stand.journal c.serve_next-next.result.stand.journal c.serve_next-next.result.result now new (cc (c.in-Ok-true.is, c.in-Ok-true.field-0-test)) turned);
       quiet = c.serve_next-next.ensures.quiet (λ same. cc (same, c.in-Ok-true.is)) (λ same. cc (same, c.in-Ok-true.is)) ∙ before.quiet;
       quiet_store = c.serve_next-next.ensures.quiet_store (λ same. cc (same, c.in-Ok-true.is)) (λ same. cc (same, c.in-Ok-true.is)) (λ same. cc (same, c.in-Ok-true.is)) ∙ before.quiet_store;
@@ -63,9 +63,9 @@ returns-in-Ok-false-clause-ends g c =
     let now = g.W.Wire.turns c.loop.wire in
     let new = g.W.Wire.turns c.serve_next-next.new.wire in
     rw c.into_disk.ensures
-    (ends_more g.D.Disk.seen g.D.Disk.may_leave c.args.input.now.subs c.args.input.now.script c.args.ear.now.waiting.items c.loop.ear.waiting.items c.args.stand.number c.loop.stand.number c.args.stand.state c.loop.stand.state
+    (ends_more g.D.Disk.seen g.D.Disk.may_leave g.D.Disk.moment g.D.Disk.left_since c.args.input.now.subs c.args.input.now.script c.args.ear.now.waiting.items c.loop.ear.waiting.items c.args.stand.number c.loop.stand.number c.args.stand.state c.loop.stand.state
     c.args.stand.journal c.loop.stand.journal status.Done c.serve_next-next.result.stand.journal.disk c.loop.counter old now new before.goes
-    (turned_stops g.D.Disk.seen g.D.Disk.may_leave c.args.input.now.subs c.args.input.now.script [] c.loop.ear.waiting.items c.serve_next-next.new.ear.waiting.items c.loop.stand.number c.serve_next-next.result.stand.number c.loop.stand.state c.serve_next-next.result.stand.state
+    (turned_stops g.D.Disk.seen g.D.Disk.may_leave g.D.Disk.moment g.D.Disk.left_since c.args.input.now.subs c.args.input.now.script [] c.loop.ear.waiting.items c.serve_next-next.new.ear.waiting.items c.loop.stand.number c.serve_next-next.result.stand.number c.loop.stand.state c.serve_next-next.result.stand.state
     c.loop.stand.journal c.serve_next-next.result.stand.journal c.serve_next-next.result.result now new (cc (c.in-Ok-false.is, c.in-Ok-false.field-0-test)) turned))
 
 pub returns-in-Ok-false-clause-quiet : goal.returns-in-Ok-false-clause-quiet
@@ -84,9 +84,9 @@ returns-in-Err-clause-ends g c =
     let now = g.W.Wire.turns c.loop.wire in
     let new = g.W.Wire.turns c.serve_next-next.new.wire in
     rw c.into_disk-in-Err.ensures
-    (ends_more g.D.Disk.seen g.D.Disk.may_leave c.args.input.now.subs c.args.input.now.script c.args.ear.now.waiting.items c.loop.ear.waiting.items c.args.stand.number c.loop.stand.number c.args.stand.state c.loop.stand.state
+    (ends_more g.D.Disk.seen g.D.Disk.may_leave g.D.Disk.moment g.D.Disk.left_since c.args.input.now.subs c.args.input.now.script c.args.ear.now.waiting.items c.loop.ear.waiting.items c.args.stand.number c.loop.stand.number c.args.stand.state c.loop.stand.state
     c.args.stand.journal c.loop.stand.journal (status_of c.in-Err.refusal) c.serve_next-next.result.stand.journal.disk c.loop.counter old now new before.goes
-    (turned_refused g.D.Disk.seen g.D.Disk.may_leave c.args.input.now.subs c.args.input.now.script [] c.loop.ear.waiting.items c.serve_next-next.new.ear.waiting.items c.loop.stand.number c.serve_next-next.result.stand.number c.loop.stand.state c.serve_next-next.result.stand.state
+    (turned_refused g.D.Disk.seen g.D.Disk.may_leave g.D.Disk.moment g.D.Disk.left_since c.args.input.now.subs c.args.input.now.script [] c.loop.ear.waiting.items c.serve_next-next.new.ear.waiting.items c.loop.stand.number c.serve_next-next.result.stand.number c.loop.stand.state c.serve_next-next.result.stand.state
     c.loop.stand.journal c.serve_next-next.result.stand.journal c.serve_next-next.result.result c.in-Err.refusal now new (cc c.in-Err.is) turned))
 
 pub returns-in-Err-clause-read_fault : goal.returns-in-Err-clause-read_fault
@@ -110,7 +110,7 @@ pub returns-clause-ends : goal.returns-clause-ends
 returns-clause-ends g c =
     let over = c.loop-test.false in
     rw c.into_disk-2.ensures
-    (ends_late g.D.Disk.seen g.D.Disk.may_leave c.args.input.now.subs c.args.input.now.script c.args.ear.now.waiting.items c.loop.ear.waiting.items c.args.stand.number c.loop.stand.number c.args.stand.state c.loop.stand.state
+    (ends_late g.D.Disk.seen g.D.Disk.may_leave g.D.Disk.moment g.D.Disk.left_since c.args.input.now.subs c.args.input.now.script c.args.ear.now.waiting.items c.loop.ear.waiting.items c.args.stand.number c.loop.stand.number c.args.stand.state c.loop.stand.state
     c.args.stand.journal c.loop.stand.journal c.loop.counter (g.W.Wire.turns c.args.wire.now) (g.W.Wire.turns c.loop.wire) (omega (arith, over)) c.loop.invariant.goes)
 
 pub returns-clause-quiet : goal.returns-clause-quiet

@@ -18,7 +18,7 @@ serve_block-requires-clause-serving g c κs within =
     let heard = c.in-Ok-Whole.ensures.heard in
     let next = rw c.in-Ok-Whole.field-0-is at heard.2 in
     let waits = c.hear_block.new.waiting.items in
-    (waits, serves_block g.D.Disk.seen g.D.Disk.may_leave rows header waiting heard.0 c.in-Ok-Whole.block waits c.args.stand.number c.args.stand.state c.args.stand.journal old mid split stand c.requires.serving heard.1 next.0)
+    (waits, serves_block g.D.Disk.seen g.D.Disk.may_leave g.D.Disk.moment g.D.Disk.left_since rows header waiting heard.0 c.in-Ok-Whole.block waits c.args.stand.number c.args.stand.state c.args.stand.journal old mid split stand c.requires.serving heard.1 next.0)
 
 pub returns-in-Ok-Whole-clause-turned : goal.returns-in-Ok-Whole-clause-turned
 returns-in-Ok-Whole-clause-turned g c =
@@ -34,8 +34,8 @@ returns-in-Ok-Whole-clause-turned g c =
     let waits = c.hear_block.new.waiting.items in
     let new = g.W.Wire.turns c.serve_block.new.wire in
     let result = c.serve_block.result in
-    turned_heard g.D.Disk.seen g.D.Disk.may_leave rows header waiting heard.0 waits c.args.stand.number result.stand.number c.args.stand.state result.stand.state c.args.stand.journal result.stand.journal result.result old mid new split stand heard.1
-    (turned_taken g.D.Disk.seen g.D.Disk.may_leave rows header heard.0 c.in-Ok-Whole.block waits c.args.stand.number result.stand.number c.args.stand.state result.stand.state c.args.stand.journal result.stand.journal result.result mid new split next.0
+    turned_heard g.D.Disk.seen g.D.Disk.may_leave g.D.Disk.moment g.D.Disk.left_since rows header waiting heard.0 waits c.args.stand.number result.stand.number c.args.stand.state result.stand.state c.args.stand.journal result.stand.journal result.result old mid new split stand heard.1
+    (turned_taken g.D.Disk.seen g.D.Disk.may_leave g.D.Disk.moment g.D.Disk.left_since rows header heard.0 c.in-Ok-Whole.block waits c.args.stand.number result.stand.number c.args.stand.state result.stand.state c.args.stand.journal result.stand.journal result.result mid new split next.0
     (c.serve_block.ensures.turned waits))
 
 pub returns-in-Ok-TooLong-clause-turned : goal.returns-in-Ok-TooLong-clause-turned
@@ -54,9 +54,9 @@ returns-in-Ok-TooLong-clause-turned g c =
     let new = g.W.Wire.turns c.reply_refusal-result.new.wire in
     let is = c.args.stand in
     rw (c.turned.ensures.answer, c.turned.ensures.stand)
-    (turned_heard g.D.Disk.seen g.D.Disk.may_leave rows header waiting heard.0 waits is.number is.number is.state is.state is.journal is.journal _ old mid new split stand heard.1
-    (turned_taken g.D.Disk.seen g.D.Disk.may_leave rows header heard.0 block waits is.number is.number is.state is.state is.journal is.journal _ mid new split next.1
-    (answered g.D.Disk.seen g.D.Disk.may_leave rows header waits (nothing_served block (refusal_reply 0 why.Limit)) is.number is.state is.journal c.reply_refusal-result.result mid new
+    (turned_heard g.D.Disk.seen g.D.Disk.may_leave g.D.Disk.moment g.D.Disk.left_since rows header waiting heard.0 waits is.number is.number is.state is.state is.journal is.journal _ old mid new split stand heard.1
+    (turned_taken g.D.Disk.seen g.D.Disk.may_leave g.D.Disk.moment g.D.Disk.left_since rows header heard.0 block waits is.number is.number is.state is.state is.journal is.journal _ mid new split next.1
+    (answered g.D.Disk.seen g.D.Disk.may_leave g.D.Disk.moment g.D.Disk.left_since rows header waits (nothing_served block (refusal_reply 0 why.Limit)) is.number is.state is.journal c.reply_refusal-result.result mid new
     (long_answer rows header block next.2) refl refl c.reply_refusal-result.ensures.said c.reply_refusal-result.ensures.stopped)))
 
 pub returns-in-Ok-Ended-clause-turned : goal.returns-in-Ok-Ended-clause-turned
@@ -75,8 +75,8 @@ returns-in-Ok-Ended-clause-turned g c =
     let is = c.args.stand in
     let whole = c.as_slice.ensures.value ∙ next.2 in
     rw (c.turned-in-Ok-Ended.ensures.answer, c.turned-in-Ok-Ended.ensures.stand)
-    (turned_heard g.D.Disk.seen g.D.Disk.may_leave rows header waiting heard.0 waits is.number is.number is.state is.state is.journal is.journal _ old mid new split stand heard.1
-    (ended g.D.Disk.seen g.D.Disk.may_leave rows header heard.0 waits is.number is.state is.journal c.reply_to_rest-result.result mid new split next.0
+    (turned_heard g.D.Disk.seen g.D.Disk.may_leave g.D.Disk.moment g.D.Disk.left_since rows header waiting heard.0 waits is.number is.number is.state is.state is.journal is.journal _ old mid new split stand heard.1
+    (ended g.D.Disk.seen g.D.Disk.may_leave g.D.Disk.moment g.D.Disk.left_since rows header heard.0 waits is.number is.state is.journal c.reply_to_rest-result.result mid new split next.0
     (rw whole at c.reply_to_rest-result.ensures.said) (rw whole at c.reply_to_rest-result.ensures.stopped)))
 
 pub returns-in-Ok-EndedTooLong-clause-turned : goal.returns-in-Ok-EndedTooLong-clause-turned
@@ -96,8 +96,8 @@ returns-in-Ok-EndedTooLong-clause-turned g c =
     let is = c.args.stand in
     let rest = sym (long_rest heard.0 next.3) in
     rw (c.turned-in-Ok-EndedTooLong.ensures.answer, c.turned-in-Ok-EndedTooLong.ensures.stand)
-    (turned_heard g.D.Disk.seen g.D.Disk.may_leave rows header waiting heard.0 waits is.number is.number is.state is.state is.journal is.journal _ old mid new split stand heard.1
-    (ended g.D.Disk.seen g.D.Disk.may_leave rows header heard.0 waits is.number is.state is.journal said.result mid new split next.0
+    (turned_heard g.D.Disk.seen g.D.Disk.may_leave g.D.Disk.moment g.D.Disk.left_since rows header waiting heard.0 waits is.number is.number is.state is.state is.journal is.journal _ old mid new split stand heard.1
+    (ended g.D.Disk.seen g.D.Disk.may_leave g.D.Disk.moment g.D.Disk.left_since rows header heard.0 waits is.number is.state is.journal said.result mid new split next.0
     (subst (λ (t : List ℕ). OnOk said.result (Says mid new t)) rest said.ensures.said) (subst (λ (t : List ℕ). IfErr said.result (IsSaidUpTo t mid new)) rest said.ensures.stopped)))
 
 pub returns-in-Err-clause-turned : goal.returns-in-Err-clause-turned
@@ -113,5 +113,5 @@ returns-in-Err-clause-turned g c =
     let waits = c.hear_block.new.waiting.items in
     let is = c.args.stand in
     rw (c.turned-in-Err.ensures.answer, c.turned-in-Err.ensures.stand, c.from.ensures)
-    (turned_heard g.D.Disk.seen g.D.Disk.may_leave rows header waiting heard.0 waits is.number is.number is.state is.state is.journal is.journal (turned_by (Err (trouble_refusal c.in-Err.trouble)) false) old mid mid split stand heard.1
-    (troubled g.D.Disk.seen g.D.Disk.may_leave rows header heard.0 waits is.number is.state is.journal c.in-Err.trouble mid split (g.W.Wire.faults c.args.wire.now) (g.W.Wire.faults c.hear_block.new.wire) heard.2.0 heard.2.2))
+    (turned_heard g.D.Disk.seen g.D.Disk.may_leave g.D.Disk.moment g.D.Disk.left_since rows header waiting heard.0 waits is.number is.number is.state is.state is.journal is.journal (turned_by (Err (trouble_refusal c.in-Err.trouble)) false) old mid mid split stand heard.1
+    (troubled g.D.Disk.seen g.D.Disk.may_leave g.D.Disk.moment g.D.Disk.left_since rows header heard.0 waits is.number is.state is.journal c.in-Err.trouble mid split (g.W.Wire.faults c.args.wire.now) (g.W.Wire.faults c.hear_block.new.wire) heard.2.0 heard.2.2))

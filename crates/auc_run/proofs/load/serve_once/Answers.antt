@@ -15,5 +15,5 @@ returns g c =
     let words = c.in_ok-state.ensures.words ∙ ap (λ (rows : List Row). map (λ (row : Row). row.seq) rows) (sym rows) in
     rw c.ran_of.ensures
     (IfOk-weaker c.serve.result.result _ _
-    (λ ran served. served_lawful _ _ set state c.serve.result.state c.args.jobs.now ran.round ran.stop c.in_ok-journal.journal c.serve.result.journal words (served [] (c.in_ok-state.ensures.stands set rows)))
+    (λ ran served. served_lawful _ _ _ _ set state c.serve.result.state c.args.jobs.now ran.round ran.stop c.in_ok-journal.journal c.serve.result.journal words (served [] (c.in_ok-state.ensures.stands set rows)))
     c.serve.ensures.served)

@@ -14,20 +14,20 @@ pub serve-journal-requires-clause-apart : goal.serve-journal-requires-clause-apa
 serve-journal-requires-clause-apart g c = λ κs within. subst (λ (jobs : List (List Line)). AllPairs AreApart jobs) (sym c.as_slice.ensures) c.requires.known.apart
 
 pub returns-in-Err-clause-ends : goal.returns-in-Err-clause-ends
-returns-in-Err-clause-ends g c = λ from reserved at on.
+returns-in-Err-clause-ends g c = λ from reserved at known on enough.
     let still = OnErr-at c.serve-journal.result.result c.in-Err.field-0 _ (cc c.in-Err.is) c.serve-journal.ensures.still in
-    covers_more g.D.Disk.seen g.D.Disk.may_leave c.args.settings.now.set.rows from reserved at c.args.stand.journal c.serve-journal.result.journal on.reserves c.serve-journal.ensures.subscribers still
+    covers_more g.D.Disk.seen g.D.Disk.may_leave g.D.Disk.moment g.D.Disk.left_since c.args.settings.now.set.rows from reserved at c.args.stand.journal c.serve-journal.result.journal on.reserves c.serve-journal.ensures.subscribers still
 
 pub append_round-result-requires-clause-named : goal.append_round-result-requires-clause-named
 append_round-result-requires-clause-named g c =
     let set = c.args.settings.now.set in
     let round = c.in-Ok.ran.round in
-    let at = c.requires.stands.2 in
-    let on = c.requires.stands.3 in
-    let serves = IfOk-ok c.serve-journal.result.result c.in-Ok.ran _ (cc c.in-Ok.is) c.serve-journal.ensures.served at.early on.stands in
-    let lawful : IsLawfulRound set c.in-Ok.ran.stop at.early c.args.stand.state.kept c.args.stand.state.words c.args.jobs.now round serves.words =
-    subst (λ (jobs : List (List Line)). IsLawfulRound set c.in-Ok.ran.stop at.early c.args.stand.state.kept c.args.stand.state.words jobs round serves.words) c.as_slice.ensures serves.lawful in
-    round_named set c.in-Ok.ran.stop at.early c.args.stand.state.kept c.args.stand.state.words c.args.jobs.now round serves.words on.stands.subscribers.size c.requires.known.known lawful
+    let known = c.requires.stands.3 in
+    let on = c.requires.stands.4 in
+    let serves = IfOk-ok c.serve-journal.result.result c.in-Ok.ran _ (cc c.in-Ok.is) c.serve-journal.ensures.served known on.stands in
+    let lawful : IsLawfulRound set c.in-Ok.ran.stop known c.args.stand.state.kept c.args.stand.state.words c.args.jobs.now round serves.words =
+    subst (λ (jobs : List (List Line)). IsLawfulRound set c.in-Ok.ran.stop known c.args.stand.state.kept c.args.stand.state.words jobs round serves.words) c.as_slice.ensures serves.lawful in
+    round_named set c.in-Ok.ran.stop known c.args.stand.state.kept c.args.stand.state.words c.args.jobs.now round serves.words on.stands.subscribers.size c.requires.known.known lawful
 
 pub returns-in-Ok-clause-made : goal.returns-in-Ok-clause-made
 returns-in-Ok-clause-made g c =
@@ -38,12 +38,12 @@ returns-in-Ok-clause-made g c =
     let next = c.serve-journal.result.state in
     let journal = c.args.stand.journal in
     let after = c.serve-journal.result.journal in
-    let each : EachLeads g.D.Disk.seen g.D.Disk.may_leave set c.args.stand.number state journal c.args.jobs.now round stop next after = λ from reserved at on.
-    round_leads g.D.Disk.seen g.D.Disk.may_leave set from reserved at c.args.stand.number state next journal after c.args.jobs.now round stop on
+    let each : EachLeads g.D.Disk.seen g.D.Disk.may_leave g.D.Disk.moment g.D.Disk.left_since set c.args.stand.number state journal c.args.jobs.now round stop next after = λ from reserved at known on enough.
+    round_leads g.D.Disk.seen g.D.Disk.may_leave g.D.Disk.moment g.D.Disk.left_since set from reserved at c.args.stand.number state next journal after c.args.jobs.now round stop known on enough
     (IfOk-ok c.serve-journal.result.result c.in-Ok.ran _ (cc c.in-Ok.is) c.serve-journal.ensures.number) c.serve-journal.ensures.subscribers
-    (subst (λ (jobs : List (List Line)). Serves g.D.Disk.seen g.D.Disk.may_leave set at.early state jobs round stop journal next after) c.as_slice.ensures
-    (IfOk-ok c.serve-journal.result.result c.in-Ok.ran _ (cc c.in-Ok.is) c.serve-journal.ensures.served at.early on.stands)) in
-    made_round g.D.Disk.seen g.D.Disk.may_leave set c.args.settings.now.full c.args.stand.number state next journal after c.args.jobs.now stop round c.append_round-result.result c.args.stand.text c.append_round-result.new.text
+    (subst (λ (jobs : List (List Line)). Serves g.D.Disk.seen g.D.Disk.may_leave g.D.Disk.moment g.D.Disk.left_since set known state jobs round stop journal next after) c.as_slice.ensures
+    (IfOk-ok c.serve-journal.result.result c.in-Ok.ran _ (cc c.in-Ok.is) c.serve-journal.ensures.served known on.stands)) in
+    made_round g.D.Disk.seen g.D.Disk.may_leave g.D.Disk.moment g.D.Disk.left_since set c.args.settings.now.full c.args.stand.number state next journal after c.args.jobs.now stop round c.append_round-result.result c.args.stand.text c.append_round-result.new.text
     each (IfOk-ok c.serve-journal.result.result c.in-Ok.ran _ (cc c.in-Ok.is) c.serve-journal.ensures.next) (IfOk-ok c.serve-journal.result.result c.in-Ok.ran _ (cc c.in-Ok.is) c.serve-journal.ensures.ready)
     (IfOk-ok c.serve-journal.result.result c.in-Ok.ran _ (cc c.in-Ok.is) c.serve-journal.ensures.full) c.append_round-result.ensures.stop c.append_round-result.ensures.appended c.append_round-result.ensures.fits
 
@@ -56,12 +56,12 @@ returns-in-Ok-clause-ends g c =
     let next = c.serve-journal.result.state in
     let journal = c.args.stand.journal in
     let after = c.serve-journal.result.journal in
-    let each : EachLeads g.D.Disk.seen g.D.Disk.may_leave set c.args.stand.number state journal c.args.jobs.now round stop next after = λ from reserved at on.
-    round_leads g.D.Disk.seen g.D.Disk.may_leave set from reserved at c.args.stand.number state next journal after c.args.jobs.now round stop on
+    let each : EachLeads g.D.Disk.seen g.D.Disk.may_leave g.D.Disk.moment g.D.Disk.left_since set c.args.stand.number state journal c.args.jobs.now round stop next after = λ from reserved at known on enough.
+    round_leads g.D.Disk.seen g.D.Disk.may_leave g.D.Disk.moment g.D.Disk.left_since set from reserved at c.args.stand.number state next journal after c.args.jobs.now round stop known on enough
     (IfOk-ok c.serve-journal.result.result c.in-Ok.ran _ (cc c.in-Ok.is) c.serve-journal.ensures.number) c.serve-journal.ensures.subscribers
-    (subst (λ (jobs : List (List Line)). Serves g.D.Disk.seen g.D.Disk.may_leave set at.early state jobs round stop journal next after) c.as_slice.ensures
-    (IfOk-ok c.serve-journal.result.result c.in-Ok.ran _ (cc c.in-Ok.is) c.serve-journal.ensures.served at.early on.stands)) in
-    covers_round g.D.Disk.seen g.D.Disk.may_leave set c.args.stand.number state next journal after c.args.jobs.now round stop c.append_round-result.result each
+    (subst (λ (jobs : List (List Line)). Serves g.D.Disk.seen g.D.Disk.may_leave g.D.Disk.moment g.D.Disk.left_since set known state jobs round stop journal next after) c.as_slice.ensures
+    (IfOk-ok c.serve-journal.result.result c.in-Ok.ran _ (cc c.in-Ok.is) c.serve-journal.ensures.served known on.stands)) in
+    covers_round g.D.Disk.seen g.D.Disk.may_leave g.D.Disk.moment g.D.Disk.left_since set c.args.stand.number state next journal after c.args.jobs.now round stop c.append_round-result.result each
 
 pub returns-in-Ok-clause-store_fault : goal.returns-in-Ok-clause-store_fault
 returns-in-Ok-clause-store_fault g c =

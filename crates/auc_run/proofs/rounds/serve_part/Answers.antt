@@ -16,7 +16,7 @@ returns-in-Round-clause-ends g c = rw c.in-Round.is c.serve_round.ensures.ends
 
 pub returns-in-Restart-clause-goes : goal.returns-in-Restart-clause-goes
 returns-in-Restart-clause-goes g c =
-    rw c.in-Restart.is (restart_goes g.D.Disk.seen g.D.Disk.may_leave c.args.settings.now.set c.args.settings.now.full c.args.stand.number c.restart-result.new.stand.number
+    rw c.in-Restart.is (restart_goes g.D.Disk.seen g.D.Disk.may_leave g.D.Disk.moment g.D.Disk.left_since c.args.settings.now.set c.args.settings.now.full c.args.stand.number c.restart-result.new.stand.number
     c.args.stand.state c.restart-result.new.stand.state c.args.stand.journal c.restart-result.new.stand.journal c.restart-result.result c.args.stand.text c.restart-result.new.stand.text
     (g.K.Sink.written c.args.out.now) c.restart-result.ensures.kept.0 c.restart-result.ensures.kept.1
     (subst (λ (settings : Settings). OnOk c.restart-result.result (c.restart-result.new.stand.state.words ≡ opened settings.set.rows (limits_of c.args.stand.journal))) c.settings.view_is c.restart-result.ensures.opened)
@@ -27,5 +27,5 @@ returns-in-Restart-clause-goes g c =
 
 pub returns-in-Restart-clause-ends : goal.returns-in-Restart-clause-ends
 returns-in-Restart-clause-ends g c =
-    rw c.in-Restart.is (restart_ends g.D.Disk.seen g.D.Disk.may_leave c.args.settings.now.set c.args.settings.now.full c.args.stand.number c.args.stand.state c.args.stand.journal c.restart-result.new.stand.journal
+    rw c.in-Restart.is (restart_ends g.D.Disk.seen g.D.Disk.may_leave g.D.Disk.moment g.D.Disk.left_since c.args.settings.now.set c.args.settings.now.full c.args.stand.number c.args.stand.state c.args.stand.journal c.restart-result.new.stand.journal
     c.restart-result.result c.args.stand.text (g.K.Sink.written c.args.out.now) c.restart-result.ensures.kept.0 c.restart-result.ensures.refused)

@@ -2,10 +2,12 @@ use Rattle.std.proofs.Common.{◌≡◌, ◌∙◌, inl, inr, refl, subst}
 use Rattle.auc_run.specs.Inner.{Tells}
 use Rattle.auc_run.specs.declared.refusal.Refusal.{Refusal}
 use Rattle.auc_run.specs.declared.refusal.Refusal.TheVariants as refused
+use Rattle.auc_run.specs.declared.status.Status.TheVariants as status
 use Rattle.auc_run.proofs.CauseLemmas.{comes_at}
-use Rattle.auc_run.specs.Crash.{MayLeave}
-use Rattle.auc_run.proofs.EndLemmas.{algorithm_may, algorithm_told, ran_told, reserved_told, usage_told, write_told}
+use Rattle.auc_run.proofs.EndLemmas.{algorithm_may, algorithm_told, ran_told, usage_told, write_told}
+use Rattle.auc_run.specs.Crash.{MayHaveLeft, MayLeave}
 use Rattle.auc_run.proofs.RememberLemmas.{remembers_told}
+use Rattle.auc_run.proofs.TellingLemmas.{journal_comes, long_comes, telling_told}
 use Rattle.auc_run.proofs.TopLemmas.{full_ends, full_runs, full_told, load_told, read_told, refused_told}
 use Rattle.auc_run.proofs.top_call.run.Goals as goal
 
@@ -14,7 +16,7 @@ returns-in-Ok-clause-ran g c = λ files named. inl (rw c.in-Ok.is at (c.perform-
 
 pub returns-in-Err-clause-ran : goal.returns-in-Err-clause-ran
 returns-in-Err-clause-ran g c = λ files named.
-    ran_told c.args.words.now (g.H.Shelf.files c.args.shelf.now) files (g.D.Disk.seen c.args.disk) (MayLeave g.D.Disk.seen g.D.Disk.may_leave c.args.disk c.perform-disk.result.disk) c.in-Err.refusal c.tell.result
+    ran_told c.args.words.now (g.H.Shelf.files c.args.shelf.now) files (g.D.Disk.seen c.args.disk) (MayLeave g.D.Disk.seen g.D.Disk.may_leave c.args.disk c.perform-disk.result.disk) (MayHaveLeft g.D.Disk.seen g.D.Disk.may_leave g.D.Disk.moment g.D.Disk.left_since c.args.disk c.perform-disk.result.disk) c.in-Err.refusal c.tell.result
     (g.K.Sink.written c.args.out.now) (g.K.Sink.written c.perform-disk.new.out) (g.K.Sink.written c.tell.new.out) named (rw c.in-Err.is at c.perform-disk.ensures.refused)
     (rw c.in-Err.is at (c.perform-disk.ensures.ran files named)) c.tell.ensures.told c.tell.ensures.front c.tell.ensures.spared
 
@@ -27,7 +29,7 @@ returns-in-Err-clause-refused g c =
 pub returns-in-Err-clause-store_full : goal.returns-in-Err-clause-store_full
 returns-in-Err-clause-store_full g c = λ full.
     let is = full_told c.in-Err.refusal c.tell.result (g.K.Sink.written c.perform-disk.new.out) (g.K.Sink.written c.tell.new.out) c.tell.ensures.told full in (
-      full_runs c.args.words.now (g.H.Shelf.files c.args.shelf.now) (g.D.Disk.seen c.args.disk) (MayLeave g.D.Disk.seen g.D.Disk.may_leave c.args.disk c.perform-disk.result.disk) c.in-Err.refusal c.tell.result
+      full_runs c.args.words.now (g.H.Shelf.files c.args.shelf.now) (g.D.Disk.seen c.args.disk) (MayLeave g.D.Disk.seen g.D.Disk.may_leave c.args.disk c.perform-disk.result.disk) (MayHaveLeft g.D.Disk.seen g.D.Disk.may_leave g.D.Disk.moment g.D.Disk.left_since c.args.disk c.perform-disk.result.disk) c.in-Err.refusal c.tell.result
           (g.K.Sink.written c.args.out.now) (g.K.Sink.written c.perform-disk.new.out) (g.K.Sink.written c.tell.new.out)
           (rw c.in-Err.is at c.perform-disk.ensures.refused) (rw c.in-Err.is at c.perform-disk.ensures.ran) c.tell.ensures.told is,
       (rw (c.in-Err.is, is) at c.perform-disk.ensures.store_full) refl,
@@ -60,14 +62,30 @@ pub returns-in-Err-clause-algorithm_comes : goal.returns-in-Err-clause-algorithm
 returns-in-Err-clause-algorithm_comes g c = λ form named.
     algorithm_may form c.tell.result (g.K.Sink.written c.args.out.now) (g.K.Sink.written c.tell.new.out) (returns-in-Err-clause-algorithm_ran g c form named)
 
-pub returns-in-Ok-clause-reserved_ran : goal.returns-in-Ok-clause-reserved_ran
-returns-in-Ok-clause-reserved_ran g c = λ asks. rw c.in-Ok.is at (c.perform-disk.ensures.limits_ran asks)
+pub returns-in-Ok-clause-journal_ran : goal.returns-in-Ok-clause-journal_ran
+returns-in-Ok-clause-journal_ran g c = λ form named. rw c.in-Ok.is at (c.perform-disk.ensures.limits_ran form named)
 
-pub returns-in-Err-clause-reserved_ran : goal.returns-in-Err-clause-reserved_ran
-returns-in-Err-clause-reserved_ran g c = λ asks.
-    reserved_told c.args.words.now (g.H.Shelf.files c.args.shelf.now) (g.D.Disk.seen c.args.disk) c.in-Err.refusal c.tell.result
-    (g.K.Sink.written c.args.out.now) (g.K.Sink.written c.perform-disk.new.out) (g.K.Sink.written c.tell.new.out) asks (rw c.in-Err.is at c.perform-disk.ensures.refused)
-    (rw c.in-Err.is at (c.perform-disk.ensures.limits_ran asks)) c.tell.ensures.told c.tell.ensures.front c.tell.ensures.spared
+pub returns-in-Err-clause-journal_ran : goal.returns-in-Err-clause-journal_ran
+returns-in-Err-clause-journal_ran g c = λ form named.
+    telling_told c.args.words.now (g.H.Shelf.files c.args.shelf.now) (g.D.Disk.seen c.args.disk) form c.in-Err.refusal c.tell.result
+    (g.K.Sink.written c.args.out.now) (g.K.Sink.written c.perform-disk.new.out) (g.K.Sink.written c.tell.new.out) named (rw c.in-Err.is at c.perform-disk.ensures.refused)
+    (rw c.in-Err.is at (c.perform-disk.ensures.limits_ran form named)) c.tell.ensures.told c.tell.ensures.front c.tell.ensures.spared
+
+pub returns-in-Ok-clause-journal_comes : goal.returns-in-Ok-clause-journal_comes
+returns-in-Ok-clause-journal_comes g c = λ form found reading named told read.
+    journal_comes form (g.D.Disk.seen c.args.disk) found reading status.Done (g.K.Sink.written c.args.out.now) (g.K.Sink.written c.perform-disk.new.out) told read (returns-in-Ok-clause-journal_ran g c form named)
+
+pub returns-in-Err-clause-journal_comes : goal.returns-in-Err-clause-journal_comes
+returns-in-Err-clause-journal_comes g c = λ form found reading named told read.
+    journal_comes form (g.D.Disk.seen c.args.disk) found reading c.tell.result (g.K.Sink.written c.args.out.now) (g.K.Sink.written c.tell.new.out) told read (returns-in-Err-clause-journal_ran g c form named)
+
+pub returns-in-Ok-clause-long_comes : goal.returns-in-Ok-clause-long_comes
+returns-in-Ok-clause-long_comes g c = λ form found named told long.
+    long_comes form (g.D.Disk.seen c.args.disk) found status.Done (g.K.Sink.written c.args.out.now) (g.K.Sink.written c.perform-disk.new.out) told long (returns-in-Ok-clause-journal_ran g c form named)
+
+pub returns-in-Err-clause-long_comes : goal.returns-in-Err-clause-long_comes
+returns-in-Err-clause-long_comes g c = λ form found named told long.
+    long_comes form (g.D.Disk.seen c.args.disk) found c.tell.result (g.K.Sink.written c.args.out.now) (g.K.Sink.written c.tell.new.out) told long (returns-in-Err-clause-journal_ran g c form named)
 
 pub returns-in-Err-clause-usage_ran : goal.returns-in-Err-clause-usage_ran
 returns-in-Err-clause-usage_ran g c = λ unknown.
@@ -96,6 +114,6 @@ returns-in-Err-clause-quiet_output g c = λ not_write.
 
 pub returns-in-Err-clause-refused_comes : goal.returns-in-Err-clause-refused_comes
 returns-in-Err-clause-refused_comes g c = λ there found cause told_is seen_is is.
-    comes_at c.args.words.now (g.H.Shelf.files c.args.shelf.now) (g.D.Disk.seen c.args.disk) there found (MayLeave g.D.Disk.seen g.D.Disk.may_leave c.args.disk c.perform-disk.result.disk)
+    comes_at c.args.words.now (g.H.Shelf.files c.args.shelf.now) (g.D.Disk.seen c.args.disk) there found (MayLeave g.D.Disk.seen g.D.Disk.may_leave c.args.disk c.perform-disk.result.disk) (MayHaveLeft g.D.Disk.seen g.D.Disk.may_leave g.D.Disk.moment g.D.Disk.left_since c.args.disk c.perform-disk.result.disk)
     cause c.in-Err.refusal c.tell.result (g.K.Sink.written c.args.out.now) (g.K.Sink.written c.perform-disk.new.out) (g.K.Sink.written c.tell.new.out)
     told_is seen_is is (rw c.in-Err.is at c.perform-disk.ensures.refused) (rw c.in-Err.is at c.perform-disk.ensures.ran) c.tell.ensures.told

@@ -1,4 +1,4 @@
-use Rattle.std.proofs.Common.{◌≡◌, ◌∙◌, ap, sym, subst, rules, length, true, ℕ}
+use Rattle.std.proofs.Common.{◌≡◌, ◌∙◌, ap, sym, subst, rules, true, ℕ}
 use Rattle.auc_lines.specs.Part.{holds}
 use Rattle.auc_world.specs.Setting.{Setting}
 use Rattle.auc_jobs.specs.InnerSharing.{IsServable, Shared}

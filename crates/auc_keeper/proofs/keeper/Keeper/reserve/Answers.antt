@@ -47,10 +47,10 @@ returns-in-Ok-clause-since g c =
     let near : c.args.n ≤ slice_index c.self.inside.pass.seen c.args.sub = rw (← c.self.view_is) at c.requires.seen in
     rw (← c.self.view_is)
     (λ opening was.
-    subst (λ (p : KeeperValue). Since g.D.Disk.seen g.D.Disk.may_leave g.D.Disk.faults opening (record { journal = c.append.new.self; pass = p })) (sym c.raise.ensures)
-    (reserved_since g.D.Disk.seen g.D.Disk.may_leave g.D.Disk.faults opening (record { journal = c.self.inside.journal; pass = c.self.inside.pass }) c.append.new.self c.args.sub c.next_limit-limit.result
+    subst (λ (p : KeeperValue). Since g.D.Disk.seen g.D.Disk.may_leave g.D.Disk.faults g.D.Disk.moment g.D.Disk.left_since opening (record { journal = c.append.new.self; pass = p })) (sym c.raise.ensures)
+    (reserved_since g.D.Disk.seen g.D.Disk.may_leave g.D.Disk.faults g.D.Disk.moment g.D.Disk.left_since opening (record { journal = c.self.inside.journal; pass = c.self.inside.pass }) c.append.new.self c.args.sub c.next_limit-limit.result
     running c.self.invariant.differ there less (omega (arith, near, c.next_limit-limit.ensures)) c.append.ensures.subscribers (not_failed c.append.new.self.failed c.append.result _ _ c.in-Ok.is c.append.ensures.failed)
-    (c.append.ensures.quiet (λ is. ok_err c.append.result _ _ c.in-Ok.is is)) c.in-Ok.ensures.limits c.append.ensures.bounded was))
+    (c.append.ensures.quiet (λ is. ok_err c.append.result _ _ c.in-Ok.is is)) c.in-Ok.ensures.limits c.append.ensures.bounded c.append.ensures.any_moment was))
 
 pub returns-in-Err-clause-since : goal.returns-in-Err-clause-since
 returns-in-Err-clause-since g c =
@@ -60,11 +60,11 @@ returns-in-Err-clause-since g c =
     let above : reserved_at c.self.inside.journal c.args.sub < c.args.n = rw (← c.self.view_is) at c.requires.above in
     rw (← c.self.view_is)
     (λ opening was.
-    subst (λ (p : KeeperValue). Since g.D.Disk.seen g.D.Disk.may_leave g.D.Disk.faults opening (record { journal = c.append.new.self; pass = p })) (sym c.stop.ensures)
-    (stopped_since g.D.Disk.seen g.D.Disk.may_leave g.D.Disk.faults opening (record { journal = c.self.inside.journal; pass = c.self.inside.pass }) c.append.new.self c.args.sub c.next_limit-limit.result c.cause_of-why.result
+    subst (λ (p : KeeperValue). Since g.D.Disk.seen g.D.Disk.may_leave g.D.Disk.faults g.D.Disk.moment g.D.Disk.left_since opening (record { journal = c.append.new.self; pass = p })) (sym c.stop.ensures)
+    (stopped_since g.D.Disk.seen g.D.Disk.may_leave g.D.Disk.faults g.D.Disk.moment g.D.Disk.left_since opening (record { journal = c.self.inside.journal; pass = c.self.inside.pass }) c.append.new.self c.args.sub c.next_limit-limit.result c.cause_of-why.result
     running c.self.invariant.differ there (omega (arith, near, c.next_limit-limit.ensures)) (omega (arith, above, near)) c.append.ensures.subscribers c.in-Err.ensures.kept.0
     (λ is. c.cause_of-why.ensures.fault.1 (grind (arith, common_steps)), λ is. c.append.ensures.failed.1 (c.in-Err.is ∙ ap Err (c.cause_of-why.ensures.fault.0 is)))
     (λ is. grind (arith, common_steps))
     (λ other. c.append.ensures.quiet (λ is. grind (arith, common_steps)))
     (λ is. full_place c.in-Err.refusal c.append.new.self.place (c.cause_of-why.ensures.full is) (λ len full. grind (arith, common_steps)))
-    c.append.ensures.bounded was))
+    c.append.ensures.bounded c.append.ensures.any_moment was))

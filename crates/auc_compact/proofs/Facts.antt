@@ -1,0 +1,2 @@
+-- What other crates may cite of the proofs here; every other module is private.
+pub use Rattle.auc_compact.proofs.LengthLemmas.{same_length}

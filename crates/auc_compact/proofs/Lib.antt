@@ -1,0 +1,4 @@
+pub mod Facts
+mod FoundLemmas
+mod ImageLemmas
+mod LengthLemmas
