@@ -6,8 +6,8 @@
 Each time is the least of three runs, on the clock, from the program's beginning to its end. It has the making of the
 subscribers and the hashing of the digest, which one thread does, so the ratios say less than the workers' part alone. The
 vectors of the digest are made by as many threads as there are workers, while one more hashes them. The lines of the runs
-with the same numbers must be the same for each number of workers, except the line `workers`. On a busy machine with four
-processors, while one thread still made the vectors, the ratios were 1.09 and 1.22 over 4 subscribers, and 0.90 and 0.93
+with the same numbers must be the same for each number of workers, except the line `workers`. With four processors, one of
+them busy with another test, 2 and 4 workers took 1.04 and 0.74 of one worker's time over 4 subscribers, and 1.09 and 1.21
 over 4,096.
 """
 import subprocess
