@@ -96,8 +96,8 @@ def begin(play, *given):
     threading.Thread(target=play, args=given, daemon=True).start()
 
 
-def wait_until(test, what):
-    for _ in range(200):
+def wait_until(test, what, seconds=10):
+    for _ in range(20 * seconds):
         if test():
             return
         time.sleep(0.05)

@@ -1,7 +1,7 @@
 #!/usr/bin/env python3
 """Lets hostapd's EAP server authenticate eapol_test through tools/gateway, and kills the gateway and the program under load.
 
-    bench/live.py [--program PROGRAM] [--kills N] [--seconds N] [--seed N]
+    bench/live.py [--program PROGRAM] [--hlr-auc-gw FILE] [--kills N] [--seconds N] [--seed N] [--write]
 
 PROGRAM is crates/auc_cli/out/auc_cli, unless it is given. hostapd and eapol_test come from Debian's packages hostapd and
 eapoltest; without them the sessions are left out. All is on the loopback, in a folder of its own.
@@ -10,10 +10,14 @@ sessions    EAP-AKA, EAP-AKA' and EAP-SIM, each three times, before and after th
             first, so the first session by EAP-AKA and EAP-AKA' has a resynchronisation.
 kills       four clients ask for vectors of twelve subscribers, some of them with AUTS that are right, replayed or wrong. The
             gateway, or the program that it keeps, is killed at random moments. Each SQN that a client received is counted.
+            hostapd's hlr_auc_gw is asked and killed in the same way, over its text file and over SQLite. FILE is it;
+            bench/peers.py --help says how it is built, and without it the two are left out.
 
-The exit status is 0 only if each session succeeded and no SQN came twice.
+--write puts what came of it into README.md, between its marks. The exit status is 0 only if each session succeeded and no SQN of
+tools/gateway came twice.
 """
 import argparse
+import datetime
 import os
 import random
 import signal
@@ -28,6 +32,9 @@ from pathlib import Path
 import hostapd
 from journal import imsi
 from measure import HEADER, KEYS, TOP
+from peers import gateway_version
+from repository import version_of, write_part
+from rivals import Sqlite, TextFile
 
 sys.path.append(str(TOP / "tools"))
 from eap.usim import seq_of, sqn_of
@@ -36,17 +43,19 @@ from gateway_centre import Subscriber
 
 # The leading digit of the permanent identity of each method, and where its USIM is opened.
 METHODS = {"AKA": ("0", 500), "AKA'": ("6", 5000), "SIM": ("1", 0)}
-SESSIONS, CLIENTS, SUBSCRIBERS = 3, 4, 12
+SCRIPT, SESSIONS, CLIENTS, SUBSCRIBERS = "bench/live.py", 3, 4, 12
 MOST_ANSWERS, LONGEST_WAIT = 100, 3
 
 
 def options():
     parser = argparse.ArgumentParser(description=__doc__, formatter_class=argparse.RawDescriptionHelpFormatter)
     parser.add_argument("--program", type=Path, default=TOP / "crates/auc_cli/out/auc_cli")
-    parser.add_argument("--kills", type=int, default=200)
+    parser.add_argument("--hlr-auc-gw", type=Path, help="the program that was built from hostapd's sources")
+    parser.add_argument("--kills", type=int, default=200, help="of each one (default 200)")
     parser.add_argument("--seconds", type=int, default=300, help="the kills end after this time, however many there were")
     parser.add_argument("--seed", type=int, default=1)
     parser.add_argument("--patience", type=float, default=1.0, help="tools/gateway's option")
+    parser.add_argument("--write", action="store_true", help="put what came of it into README.md")
     return parser.parse_args()
 
 
@@ -100,6 +109,23 @@ class Gateway:
         if self.child and self.child.poll() is None:
             self.child.terminate()
             self.child.wait(60)
+
+
+class Rival:
+    """hlr_auc_gw over its files in a folder, which can be killed and started again. It is one process."""
+
+    def __init__(self, kind, folder, given):
+        self.made, self.running = kind(given.hlr_auc_gw, folder), None
+        self.made.store(imsis=[imsi(it) for it in range(SUBSCRIBERS)])
+
+    def start(self):
+        self.running = self.made.start()
+        self.path = self.running.path
+
+    def kill(self):
+        self.running.end()
+
+    end = kill
 
 
 # ---- sessions
@@ -156,9 +182,9 @@ def all_sessions(given):
 class Client(threading.Thread):
     """Asks for vectors, one after the other, until it is told to end, and keeps each SQN that it received."""
 
-    def __init__(self, folder, place, seed, subscribers=SUBSCRIBERS):
+    def __init__(self, folder, place, seed, subscribers=SUBSCRIBERS, path=None):
         super().__init__(daemon=True)
-        self.gateway, self.own = str(folder / "centre"), folder / f"client{place}"
+        self.gateway, self.own = str(path or folder / "centre"), folder / f"caller{place}"
         self.chance, self.rows = random.Random(seed), [row_of(it) for it in range(subscribers)]
         self.sqns, self.auts, self.refused, self.ending = [], {}, 0, False
 
@@ -209,12 +235,12 @@ def wait_for_answers(clients, count):
 
 
 def killed(gateway, clients, given):
-    """Kills the gateway or the program at random moments: how often each of them."""
+    """Kills the gateway or, if it keeps one, the program at random moments: how often each of them."""
     chance, until, counts = random.Random(given.seed), time.monotonic() + given.seconds, {"gateway": 0, "program": 0}
     while sum(counts.values()) < given.kills and time.monotonic() < until:
         wait_for_answers(clients, chance.randrange(MOST_ANSWERS))
         time.sleep(chance.uniform(0, 0.05))
-        if chance.random() < 0.5:
+        if chance.random() < 0.5 or isinstance(gateway, Rival):
             gateway.kill()
             gateway.start()
             counts["gateway"] += 1
@@ -227,35 +253,73 @@ def killed(gateway, clients, given):
     return counts
 
 
+class Kills:
+    """What four clients received while something was killed."""
+
+    def __init__(self, name, counts, clients):
+        sqns = [it for client in clients for it in client.sqns]
+        self.name, self.counts, self.received, self.again = name, counts, len(sqns), len(sqns) - len(set(sqns))
+        self.refused = sum(client.refused for client in clients)
+
+    def times(self):
+        of = "of the gateway", "of the program"
+        return " and ".join(f"{count} {part}" for part, count in zip(of, self.counts.values()) if count)
+
+    def said(self):
+        return (f"{self.name}: kills: {self.times()}; {self.received} SQNs received, {self.again} came again; "
+                f"{self.refused} requests refused")
+
+    def cell(self):
+        again = f"{self.again:,} of {self.received:,} SQNs came again" if self.again else f"holds: none of {self.received:,} SQNs came again"
+        return f"killed {self.times()}: {again}"
+
+
+def kills_of(name, gateway, folder, given):
+    clients = []
+    try:
+        gateway.start()
+        clients = [Client(folder, place, given.seed + place, path=gateway.path) for place in range(CLIENTS)]
+        for client in clients:
+            client.start()
+        counts = killed(gateway, clients, given)
+    finally:
+        gateway.end()
+    found = Kills(name, counts, clients)
+    print(found.said(), flush=True)
+    return found
+
+
 def all_kills(given):
+    """What came of the kills of tools/gateway, and of the rivals that are there."""
     with tempfile.TemporaryDirectory(dir="/tmp") as name:
-        folder = Path(name)
-        gateway = Gateway(folder, given, SUBSCRIBERS)
-        clients = [Client(folder, place, given.seed + place) for place in range(CLIENTS)]
-        try:
-            gateway.start()
-            for client in clients:
-                client.start()
-            counts = killed(gateway, clients, given)
-        finally:
-            gateway.end()
-    sqns = [it for client in clients for it in client.sqns]
-    again = len(sqns) - len(set(sqns))
-    print(f"kills: {counts['gateway']} of the gateway and {counts['program']} of the program; {len(sqns)} SQNs received, "
-          f"{again} came again; {sum(client.refused for client in clients)} requests refused")
-    return again == 0 and len(sqns) > 0
+        found = [kills_of("`tools/gateway` over `auc serve`", Gateway(Path(name), given, SUBSCRIBERS), Path(name), given)]
+    for kind in (TextFile, Sqlite) if given.hlr_auc_gw else ():
+        with tempfile.TemporaryDirectory(dir="/tmp") as name:
+            found.append(kills_of(kind.name, Rival(kind, name, given), Path(name), given))
+    return found
+
+
+def table(found, sessions, given):
+    version = f"; hlr_auc_gw of hostapd {gateway_version(given.hlr_auc_gw)}" if given.hlr_auc_gw else ""
+    rows = [[it.name for it in found], ["---"] * len(found), [it.cell() for it in found]]
+    text = "".join(f"| {' | '.join(row)} |\n" for row in rows)
+    return (f"{text}\n{CLIENTS} clients at once, {SUBSCRIBERS} subscribers, AUTS that are right, wrong or replayed. {sessions}"
+            f"Version {version_of(TOP)}{version}; {datetime.date.today()}. `{SCRIPT}` runs the trial.\n")
 
 
 def main():
     given = options()
     given.program = given.program.resolve()
-    good = True
+    good, sessions = True, ""
     if hostapd.are_there():
         good = all_sessions(given)
+        sessions = f"All {2 * SESSIONS * len(METHODS)} sessions of a stock hostapd succeeded, before and after a kill. " if good else ""
     else:
         print("sessions: hostapd and eapol_test aren't there")
-    good = all_kills(given) and good
-    return 0 if good else 1
+    found = all_kills(given)
+    if given.write:
+        write_part(TOP / "README.md", SCRIPT, table(found, sessions, given))
+    return 0 if good and not found[0].again and found[0].received else 1
 
 
 if __name__ == "__main__":

@@ -4,9 +4,10 @@
 
     bench/milenage.py [PROGRAM]     PROGRAM: crates/auc_vector_rate/out/auc_vector_rate, unless it is given
 
-`rt run` in crates/auc_vector_rate builds PROGRAM. Each side makes two different numbers of vectors, and the difference of
-the processor times is taken, so that the time to start doesn't count. The goal of a vector alone is 2.9: an AES by tables in C with one key
-schedule and five blocks a vector. If libosmocore-dev or a C compiler is missing, the script says so and ends.
+`rt run` in crates/auc_vector_rate builds PROGRAM, and `rt run --cpu=x86-64-v3` for processors with AVX2. Each side makes two
+different numbers of vectors, and the difference of the processor times is taken, so that the time to start doesn't count. The goals
+are 5 alone, 8 in bulk and, for x86-64-v3, 14 in bulk, against an AES by tables in C with one key schedule and five blocks a vector. If
+libosmocore-dev or a C compiler is missing, the script says so and ends.
 """
 import resource
 import shutil

@@ -13,9 +13,9 @@ again. All clients are one process. Two that answer them are measured in turns o
 on the disk     tools/gateway over a journal, and hlr_auc_gw over SQLite
 in memory       tools/gateway over a journal, and hlr_auc_gw over its text file, which it reads once and writes at its end
 
-The gateway's program reserves numbers for each subscriber when it is asked for it the first time, and for every 64th vector after
-that. So many subscribers are measured twice: nearly all are asked for the first time; and after each was asked for once. An answer
-without a vector ends the measurement. --write puts the table into docs/HOSTAPD.md, between its marks.
+The gateway draws a vector ahead for each subscriber when it starts, and is asked after that; a note says how long it took. What it
+draws ahead meanwhile is in its time. An answer without a vector ends the measurement. --write puts the table into docs/HOSTAPD.md,
+between its marks.
 """
 import argparse
 import datetime
@@ -31,6 +31,7 @@ from pathlib import Path
 from statistics import median
 
 import live
+from hostapd import wait_until
 from journal import imsi
 from measure import TOP
 from peers import gateway_version
@@ -40,9 +41,9 @@ from rivals import LONGEST_WAIT, Sqlite, TextFile
 sys.path.append(str(TOP / "tools"))
 from ends import run_main
 
-SCRIPT, SEED = "bench/rates.py", 1
-# How many requests wait at once while each subscriber is asked for once, and the shortest answer with a vector.
-AT_ONCE, SHORTEST = 200, 100
+SCRIPT, SEED, LONGEST_START = "bench/rates.py", 1, 60
+# The shortest answer with a vector.
+SHORTEST = 100
 HEAD = ("| Subscribers | Clients | Disk: gateway | SQLite | Ratio | Memory: gateway | Text file | Ratio | Processor µs: gateway | Text file"
         " |\n|---|---:|---:|---:|---:|---:|---:|---:|---:|---:|\n")
 TICKS = os.sysconf("SC_CLK_TCK")
@@ -131,32 +132,16 @@ def by_chance(subscribers):
         yield chance.choice(requests)
 
 
-def ask_each(path, subscribers):
-    """Asks for each subscriber once."""
-    with clients(min(AT_ONCE, subscribers), path) as sockets:
-        some, waiting = ready(sockets), set()
-        requests = map(request, range(subscribers))
-        for it, first in zip(sockets.values(), requests):
-            it.send(first)
-            waiting.add(it)
-        while waiting:
-            for it in some():
-                take(it)
-                following = next(requests, None)
-                if following is None:
-                    waiting.discard(it)
-                else:
-                    it.send(following)
-
-
 # ---- what answers them
 
 @contextmanager
 def own(given, folder, subscribers):
-    gateway = live.Gateway(folder, given, subscribers)
+    """The gateway after its start, and how long that took."""
+    gateway, began = live.Gateway(folder, given, subscribers), time.monotonic()
     try:
         gateway.start()
-        yield gateway.path, gateway.child.pid
+        wait_until(lambda: "are ready" in (folder / "gateway.log").read_text(), "vectors that were drawn ahead", LONGEST_START)
+        yield Measured(gateway.path, gateway.child.pid, time.monotonic() - began)
     finally:
         gateway.end()
 
@@ -167,7 +152,7 @@ def rival(kind, given, folder, subscribers):
     made.store(imsis=[imsi(it) for it in range(subscribers)])
     gateway = made.start()
     try:
-        yield gateway.path, gateway.child.pid
+        yield Measured(gateway.path, gateway.child.pid)
     finally:
         gateway.end()
 
@@ -182,8 +167,9 @@ def processor_time(process):
 class Measured:
     """What was measured of one that answers."""
 
-    def __init__(self, path, process):
-        self.path, self.process, self.rates, self.answers, self.spent = path, process, [], 0, 0
+    def __init__(self, path, process, start=0):
+        self.path, self.process, self.start = path, process, start
+        self.rates, self.answers, self.spent = [], 0, 0
 
     def ask(self, count, requests):
         before = processor_time(self.process)
@@ -209,13 +195,11 @@ def in_turns(count, both, subscribers, turns):
     return both
 
 
-def measured(kind, place, count, subscribers, are_known, given):
+def measured(kind, place, count, subscribers, given):
     """The gateway and a rival, over files in a folder."""
     with tempfile.TemporaryDirectory(dir=place) as name, own(given, Path(name), subscribers) as first, \
             tempfile.TemporaryDirectory(dir=place) as other, rival(kind, given, Path(other), subscribers) as second:
-        if are_known:
-            ask_each(first[0], subscribers)
-        return in_turns(count, (Measured(*first), Measured(*second)), subscribers, given.turns)
+        return in_turns(count, (first, second), subscribers, given.turns)
 
 
 # ---- the table
@@ -225,33 +209,33 @@ def cells(both):
     return f"{ours:,.0f} | {theirs:,.0f} | {ours / theirs:.2f}"
 
 
-def row(subscribers, count, are_known, given):
-    disk = measured(Sqlite, given.disk, count, subscribers, are_known, given)
-    memory = measured(TextFile, given.memory, count, subscribers, are_known, given)
-    known = "" if subscribers == 1 else ", each asked for before" if are_known else ", nearly each for the first time"
+def row(subscribers, count, given):
+    """A row, and how long the gateway took to start on the disk."""
+    disk = measured(Sqlite, given.disk, count, subscribers, given)
+    memory = measured(TextFile, given.memory, count, subscribers, given)
     spent = " | ".join(f"{it.microseconds():,.0f}" for it in memory)
-    return f"| {subscribers:,}{known} | {count} | {cells(disk)} | {cells(memory)} | {spent} |\n"
+    return f"| {subscribers:,} | {count} | {cells(disk)} | {cells(memory)} | {spent} |\n", disk[0].start
 
 
 def table(given):
-    rows = [HEAD]
+    rows, starts = [HEAD], {}
     for subscribers in given.subscribers:
-        # One subscriber is asked for the first time once.
-        for are_known in (False, True)[:1 if subscribers == 1 else 2]:
-            for count in given.clients:
-                rows.append(row(subscribers, count, are_known, given))
-                print(rows[-1], end="", flush=True)
-    return "".join(rows)
+        for count in given.clients:
+            text, starts[subscribers] = row(subscribers, count, given)
+            rows.append(text)
+            print(text, end="", flush=True)
+    return "".join(rows), ", ".join(f"{seconds:.1f} s for {count:,}" for count, seconds in starts.items())
 
 
 def main():
     given = options()
     before = os.getloadavg()[0]
-    text = table(given)
+    text, starts = table(given)
     text += (f"\nAnswers a second, each the middle one of {given.turns} turns of a second; and the processor time of an answer in memory,"
-             f" of the gateway with its program. {os.cpu_count()} processors, and a load of {before:.0f} by `uptime` before and"
+             f" of the gateway with its program. On the disk the gateway had drawn a vector ahead for each subscriber after {starts}."
+             f" {os.cpu_count()} processors, and a load of {before:.0f} by `uptime` before and"
              f" {os.getloadavg()[0]:.0f} after. Version {version_of(TOP)}; hlr_auc_gw of hostapd"
-             f" {gateway_version(given.hlr_auc_gw)}; {datetime.date.today()}. `bench/rates.py` measures it.\n")
+             f" {gateway_version(given.hlr_auc_gw)}; {datetime.date.today()}. `{SCRIPT}` measures it.\n")
     print(text, end="")
     if given.write:
         write_part(TOP / "docs/HOSTAPD.md", SCRIPT, text)

@@ -9,12 +9,13 @@ import os
 import re
 import subprocess
 import time
-from collections import defaultdict, deque
+from collections import defaultdict
 from itertools import islice
 from typing import NamedTuple
 
 from eap.milenage import Aes, Functions, opc_of
 from eap.usim import BITS, Usim, seq_of, top_of, triplet
+from gateway_stock import Stock
 
 # Seconds from the start of the program to its next start at the earliest, and for its end.
 BETWEEN_STARTS, LONGEST_END = 1, 5
@@ -243,8 +244,8 @@ def lines_by_subscriber(text):
     """The lines that were printed of each subscriber, as words: `vector` with its bytes behind it, `sync`, `withheld` and
     `exhausted`. A last line without its end isn't whole, and doesn't count."""
     found = defaultdict(list)
-    for vector, octets, other in PRINTED.findall(text):
-        words = [*vector.split(), *octets.split(), *other.split()]
+    for line, octets, other in PRINTED.findall(text):
+        words = f"{line} {octets}".split() if line else other.split()
         found[words[1]].append(words)
     return found
 
@@ -287,41 +288,58 @@ def vector_in(words):
 
 
 class Job(NamedTuple):
-    """What a block asks of a subscriber: AUTS with their RANDs, and behind them requests."""
+    """What a block asks of a subscriber: AUTS with their RANDs, and behind them the vectors of requests, and how many more."""
     auts: tuple
     requests: tuple
+    more: int
 
     def lines(self, imsi):
-        return ["job", *(f"auts {imsi} {it} 0" for it in self.auts), *(f"draw {imsi} {it.count}" for it in self.requests)]
+        counts = [*(it.count for it in self.requests), *([self.more] if self.more else [])]
+        return ["job", *(f"auts {imsi} {it} 0" for it in self.auts), *(f"draw {imsi} {it}" for it in counts)]
 
 
 class Centre:
-    """What the service is asked for those who wait, and what they get of its replies. Each request draws the numbers that it asks
-    for, and no others."""
+    """What the service is asked for those who wait and for the stock, and what they get of its replies."""
 
-    def __init__(self, subscribers):
+    def __init__(self, subscribers, ahead=0):
         self.subscribers = frozenset(subscribers)
         # By subscriber, the AUTS that the program has still to be told, in their order; and by request, what the last reply gave.
         self.auts, self.ready = defaultdict(dict), {}
+        self.stock = Stock(subscribers, ahead)
         # The greatest number of each subscriber: later ones are above it, unless somebody put an older journal back.
         self.floors = {}
 
     def take(self, request):
-        """The vectors of a request, or nothing if it has none yet."""
-        return self.ready.pop(request, None)
+        """The vectors of a request, or nothing if it has none yet. Behind an AUTS it needs new ones."""
+        found = self.ready.pop(request, None)
+        if found or request.imsi in self.auts:
+            return found
+        return self.stock.take(request.imsi, request.count)
 
     def take_auts(self, imsi, auts, rand):
-        """Keeps an AUTS for the subscriber's next block, so that a number above it is reserved there, and the AUTS needn't be told
-        again. Of too many the last ones are kept. What an AUTS is, the program's reply tells."""
+        """Keeps an AUTS for the subscriber's next request, so that a number above it is reserved there, and the AUTS needn't be told
+        again. Of too many the last ones are kept. What an AUTS is, the program's reply tells. Nothing of before is handed out then."""
         kept = self.auts[imsi]
         kept[f"{auts} {rand}"] = True
         if len(kept) > MOST_AUTS:
             del kept[next(iter(kept))]
+        self.stock.pop(imsi)
 
-    def batch(self, waiting, most):
-        """What the next block asks of those who wait, at most of so many."""
-        found = islice(waiting.items(), min(most, MOST_JOBS))
-        return {imsi: Job(tuple(self.auts.get(imsi, ())), tuple(requests)) for imsi, requests in found}
+    def is_low(self):
+        """Whether more is to be drawn although nobody waits for it."""
+        return bool(self.stock.low)
+
+    def batch(self, waiting, most, spare):
+        """What the next block asks: of those who wait, at most of so many; and behind them for the stock, if there is room."""
+        most = min(most, MOST_JOBS)
+        batch = {imsi: self.job(imsi, requests) for imsi, requests in islice(waiting.items(), most)}
+        for imsi in self.stock.pop_low(min(spare, most - len(batch))):
+            if imsi not in batch and imsi not in self.auts and self.stock.lack(imsi):
+                batch[imsi] = self.job(imsi, ())
+        return batch
+
+    def job(self, imsi, requests):
+        return Job(tuple(self.auts.get(imsi, ())), tuple(requests), self.stock.lack(imsi))
 
     def needs(self, waiting):
         """What has to be asked elsewhere: nothing, since the journal has the numbers."""
@@ -340,19 +358,21 @@ class Centre:
         for imsi, job in batch.items():
             if job.auts:
                 self.forget(imsi, job.auts)
-            sentences += [told(words) for words in found[imsi] if words[0] != "vector"]
-            numbers = [int(words[2]) for words in found[imsi] if words[0] == "vector"]
-            if not self.rises(imsi, numbers):
+            vectors = [vector_in(words) for words in found[imsi] if words[0] == "vector"]
+            others = [words for words in found[imsi] if words[0] != "vector"]
+            sentences += map(told, others)
+            if not self.rises(imsi, vectors):
                 sentences.append(("again", f"numbers of {imsi} came again: somebody put an older journal back"))
-            elif self.give(job.requests, found[imsi]):
+            # Behind a number that is out of its reach the USIM would refuse each of them.
+            elif not any(words[2] == "beyond" for words in others) and self.give(imsi, job.requests, vectors):
                 given.add(imsi)
-        return given, sentences
+        return given, sentences + self.stock.news()
 
-    def rises(self, imsi, numbers):
+    def rises(self, imsi, vectors):
         """Whether all numbers are above those that came before."""
         floor = self.floors.get(imsi, 0)
-        self.floors[imsi] = max([floor, *numbers])
-        return all(number > floor for number in numbers)
+        self.floors[imsi] = max([floor, *(it.number for it in vectors)])
+        return all(it.number > floor for it in vectors)
 
     def forget(self, imsi, auts):
         """Forgets the AUTS that the program was told."""
@@ -361,13 +381,13 @@ class Centre:
         if left:
             self.auts[imsi] = left
 
-    def give(self, requests, lines):
-        """Gives the vectors of some lines to requests, in their order: whether there was one. Behind a number that is out of its
-        reach the USIM would refuse each of them."""
-        if any(words[0] == "sync" and words[2] == "beyond" for words in lines):
-            return False
-        vectors = deque(vector_in(words) for words in lines if words[0] == "vector")
+    def give(self, imsi, requests, vectors):
+        """Gives the vectors of the stock and these to requests, in their order, and what is left to the stock: whether there was one.
+        Behind an AUTS that came meanwhile the USIM would refuse what is left."""
+        vectors = self.stock.pop(imsi) + vectors
         for request in requests:
             if request.count <= len(vectors):
-                self.ready[request] = [vectors.popleft() for _ in range(request.count)]
-        return any(request in self.ready for request in requests)
+                self.ready[request], vectors = vectors[:request.count], vectors[request.count:]
+        if imsi not in self.auts:
+            self.stock.put(imsi, vectors)
+        return any(request in self.ready for request in requests) if requests else bool(vectors)

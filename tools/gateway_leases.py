@@ -279,7 +279,11 @@ class LeasedCentre:
 
     # The runs
 
-    def batch(self, waiting, most):
+    def is_low(self):
+        """Whether the store has to be asked although nobody waits, since it doesn't know of an AUTS."""
+        return any(not self.has_lease(imsi) for imsi in self.moves)
+
+    def batch(self, waiting, most, spare):
         """Those who wait and whom the next run can serve, at most so many."""
         return list(islice(filter(self.has_lease, waiting), most))
 

@@ -124,7 +124,9 @@ class Client:
 
 
 class Gateways(unittest.TestCase):
-    """A folder for each test, and the gateways and clients in it."""
+    """A folder for each test, and the gateways and clients in it. Nothing is drawn ahead, so that each number is known."""
+
+    ahead = "--ahead", "0"
 
     def setUp(self):
         folder = tempfile.TemporaryDirectory(prefix="gateway")
@@ -137,7 +139,7 @@ class Gateways(unittest.TestCase):
 
     def begin(self, *options, folder=None, path=None, program=None):
         words = [TOOLS / "gateway", self.file, "--socket", path or self.path, "--folder", folder or self.folder, "--program",
-                 program or PROGRAM, "--patience", str(SOON), *options]
+                 program or PROGRAM, "--patience", str(SOON), *self.ahead, *options]
         with self.log.open("a") as log:
             child = subprocess.Popen([str(word) for word in words], stderr=log)
         self.addCleanup(self.kill, child)
@@ -232,8 +234,8 @@ class Gateways(unittest.TestCase):
 class Asked:
     """A request that waits."""
 
-    def __init__(self, count):
-        self.count = count
+    def __init__(self, count, imsi=A):
+        self.count, self.imsi = count, imsi
 
 
 class Subscribers(unittest.TestCase):
@@ -261,7 +263,7 @@ class Blocks(unittest.TestCase):
 
     def asked(self, *requests, **more):
         """The block for these requests of A and what more waits, as lines, and its batch."""
-        self.batch = self.centre.batch({A: requests, **more}, 10)
+        self.batch = self.centre.batch({A: requests, **more}, 10, 10)
         return self.centre.scenario(self.batch).decode().splitlines()
 
     def given(self, *lines):
@@ -270,7 +272,7 @@ class Blocks(unittest.TestCase):
         given, told = self.centre.learn(self.batch, text)
         vectors = [self.centre.take(it) for it in self.batch[A].requests]
         self.assertEqual(A in given, any(vectors))
-        return [it and [vector.number for vector in it] for it in vectors], [sentence for _, sentence in told]
+        return [it and [vector.number for vector in it] for it in vectors], [sentence for cause, sentence in told if cause != "ready"]
 
     def vectors(self, *numbers):
         return [line for number in numbers for line in (f"vector {A} {number}", "bytes 0 1 2 3 4")]
@@ -280,8 +282,8 @@ class Blocks(unittest.TestCase):
         lines = self.asked(*self.requests, **{B: [Asked(1)]})
         draws = f"draw {A} 1", f"draw {A} 3", f"draw {A} 1"
         self.assertEqual(lines, ["round", "job", f"auts {A} 11 22 0", *draws, "job", f"draw {B} 1", "end"])
-        self.assertEqual(list(self.centre.batch({A: [], B: []}, 1)), [A])
-        self.assertEqual(self.centre.scenario(self.centre.batch({}, 1)), b"")
+        self.assertEqual(list(self.centre.batch({A: [], B: []}, 1, 1)), [A])
+        self.assertEqual(self.centre.scenario(self.centre.batch({}, 1, 1)), b"")
 
     def test_each_request_gets_its_vectors_once(self):
         self.asked(*self.requests)
@@ -319,7 +321,7 @@ class Blocks(unittest.TestCase):
         self.assertEqual(self.given(f"sync {A} beyond 268435500 0", *self.vectors(268435501))[0], [None])
 
     def test_number_that_came_before_is_not_handed_out(self):
-        for numbers, wanted in (((1, 2), [1]), ((2, 3), None), ((3, 4), None), ((5,), [5])):
+        for numbers, wanted in (((2,), [2]), ((2, 3), None), ((3, 4), None), ((5,), [5])):
             self.asked(Asked(1))
             found, told = self.given(*self.vectors(*numbers))
             self.assertEqual((found, len(told)), ([wanted], 0 if wanted else 1), numbers)
@@ -330,6 +332,90 @@ class Blocks(unittest.TestCase):
         given, told = self.centre.learn(self.batch, "refused scenario 3 hex\nend\n")
         self.assertEqual((given, told), (set(), [("refused", "the program said: refused scenario 3 hex")]))
         self.assertEqual(self.asked(Asked(1))[2:], [f"draw {A} 1", "end"])
+
+
+class Stocks(unittest.TestCase):
+    """What is drawn ahead, and who gets it."""
+
+    def setUp(self):
+        self.centre, self.number = Centre([A, B, FAR], 2), 0
+
+    def serve(self, *requests, spare=2, without=()):
+        """Serves a block for these requests and the stock, with a new number for each vector but those of some subscribers: how many
+        each subscriber gets."""
+        waiting = {}
+        for it in requests:
+            waiting.setdefault(it.imsi, []).append(it)
+        batch, lines = self.centre.batch(waiting, 9, spare), []
+        for imsi, job in batch.items():
+            for _ in range(0 if imsi in without else sum(it.count for it in job.requests) + job.more):
+                self.number += 1
+                lines.append(f"vector {imsi} {self.number}\nbytes 0 1 2 3 4\n")
+        self.given, told = self.centre.learn(batch, "".join(lines))
+        self.told = [sentence for _, sentence in told]
+        return {imsi: sum(f"vector {imsi} " in line for line in lines) for imsi in batch}
+
+    def numbers(self, count=1, imsi=A):
+        found = self.centre.take(Asked(count, imsi))
+        return found and [it.number for it in found]
+
+    def test_one_vector_is_drawn_ahead_for_each_of_so_many_subscribers(self):
+        self.assertTrue(self.centre.is_low())
+        self.assertEqual((self.serve(spare=1), self.told), ({A: 1}, []))
+        self.assertEqual((self.serve(), self.told), ({B: 1}, ["vectors of 2 subscribers are ready"]))
+        self.assertFalse(self.centre.is_low())
+        self.assertEqual((self.numbers(imsi=B), self.numbers(), self.numbers(imsi=FAR)), ([2], [1], None))
+        # Another one is drawn for each who took one; for the third subscriber there is no place.
+        self.assertEqual((self.serve(Asked(1, FAR)), self.told), ({FAR: 1, B: 1, A: 1}, []))
+
+    def test_nothing_is_drawn_ahead_for_none(self):
+        self.centre = Centre([A, B], 0)
+        self.assertFalse(self.centre.is_low())
+        for _ in range(3):
+            self.assertEqual((self.serve(Asked(1)), self.told), ({A: 1}, []))
+
+    def test_subscriber_that_finds_too_few_has_more(self):
+        self.serve()
+        self.numbers()
+        for wanted in (2, 4, 8, 16, 32, 32):
+            request, ready = Asked(1), len(self.centre.stock.vectors[A])
+            self.assertIsNone(self.numbers(33))
+            self.assertEqual(self.serve(request)[A], 1 + wanted - ready)
+            self.assertEqual(len(self.centre.take(request)), 1)
+        self.assertEqual(len(self.centre.stock.vectors[A]), 32)
+        self.assertEqual([len(self.centre.take(Asked(1))) for _ in range(15)], [1] * 15)
+        self.assertFalse(self.centre.is_low())
+        self.numbers()
+        self.assertEqual(self.serve(), {A: 16})
+
+    def test_request_for_more_than_is_ready_gets_the_lowest_numbers(self):
+        self.serve()
+        self.assertIsNone(self.numbers(3))
+        request = Asked(3)
+        self.assertEqual(self.serve(request), {A: 4})
+        self.assertEqual([it.number for it in self.centre.take(request)], [1, 3, 4])
+        self.assertEqual((self.numbers(), self.numbers()), ([5], [6]))
+
+    def test_vectors_before_an_auts_are_dropped(self):
+        self.serve()
+        self.centre.take_auts(A, "11", "22")
+        self.assertIsNone(self.numbers())
+        # It waits for a request, and what is drawn meanwhile isn't kept.
+        self.centre.stock.low[A] = None
+        self.assertEqual(self.serve(), {})
+        request = Asked(1)
+        batch = self.centre.batch({A: [request]}, 9, 9)
+        self.centre.take_auts(A, "33", "44")
+        self.centre.learn(batch, "".join(f"vector {A} {it}\nbytes 0 1 2 3 4\n" for it in (10, 11, 12)))
+        self.assertEqual([it.number for it in self.centre.take(request)], [10])
+        self.assertIsNone(self.numbers())
+
+    def test_draw_that_gave_nothing_is_not_repeated_by_itself(self):
+        self.assertEqual(self.serve(without=(A, B)), {A: 0, B: 0})
+        self.assertEqual((self.given, self.centre.is_low()), (set(), False))
+        request = Asked(1)
+        self.assertEqual(self.serve(request, without=(A,)), {A: 0})
+        self.assertEqual((self.given, self.centre.take(request)), (set(), None))
 
 
 # ---- answers
@@ -552,6 +638,92 @@ for place in range(10**6):
             child.wait(SOON)
             with self.journal_in_other_hands():
                 pass
+
+
+class Ahead(Gateways):
+    """Vectors that were drawn ahead."""
+
+    ahead = ()
+
+    def ready(self, *options, **places):
+        """A gateway with a vector of each subscriber, and a client of it."""
+        child, client = self.start(*options, **places)
+        until = time.monotonic() + SOON
+        while self.log.read_text().count("vectors of 3 subscribers are ready") < self.times_served():
+            self.assertLess(time.monotonic(), until)
+            time.sleep(0.01)
+        return child, client
+
+    def test_ready_vectors_are_handed_out_while_the_program_stands_still(self):
+        child, client = self.ready("--patience", "0.5")
+        program = self.program_of(child)
+        os.kill(program, signal.SIGSTOP)
+        self.assertEqual((seq_in(client.vector(B)), seq_in(client.vector())), (41, 1))
+        self.assertEqual(client.vector(), f"AKA-RESP-AUTH {A} FAILURE")
+        os.kill(program, signal.SIGCONT)
+        self.assertGreater(seq_in(self.served(client)), 1)
+        self.assertEqual(self.end(child), 0)
+
+    def test_requests_are_answered_in_order_and_by_each_number_once(self):
+        _, client = self.start()
+        numbers = []
+        for place in range(500):
+            if place % 50 == 49:
+                self.assertEqual(len(client.ask(f"SIM-REQ-AUTH {A}").split()), 5)
+            else:
+                numbers.append(seq_in(client.vector()))
+        self.assertEqual(numbers, [it for it in range(1, 521) if it % 52 not in (50, 51, 0)])
+
+    def test_right_auts_moves_the_number_and_a_replayed_one_never_back(self):
+        _, client = self.ready()
+        numbers = [seq_in(client.vector()) for _ in range(40)]
+        answer = client.vector()
+        said = f"AKA-AUTS {A} {auts(answer.split()[2], 5000)} {answer.split()[2]}"
+        for more in (40, 3, 1):
+            client.say(said)
+            numbers += [seq_in(client.vector()) for _ in range(more)]
+        self.assertEqual(numbers, sorted(set(numbers)))
+        self.assertEqual(numbers[:41], [*range(1, 41), 5001])
+
+    def test_number_out_of_reach_is_told(self):
+        _, client = self.ready()
+        rand = client.vector(FAR).split()[2]
+        client.say(f"AKA-AUTS {FAR} {auts(rand, 0)} {rand}")
+        self.assertEqual(client.vector(FAR), f"AKA-RESP-AUTH {FAR} FAILURE")
+        self.assertIn("beyond", self.log.read_text())
+
+    def test_no_number_comes_twice_over_kills_of_gateway_and_program(self):
+        chance, numbers = random.Random(SEED), {A: [], B: []}
+        for _ in range(PROGRAM_KILLS):
+            child, client = self.start()
+            for _ in range(PROGRAM_KILLS):
+                for _ in range(chance.choice((0, 1, 2, 30, 70))):
+                    imsi = chance.choice((A, A, A, B))
+                    numbers[imsi].append(sqn_in(client.vector(imsi)))
+                self.kill_program(child)
+            child.kill()
+            child.wait()
+            client.end()
+        for sqns in numbers.values():
+            self.assertGreater(len(sqns), PROGRAM_KILLS)
+            self.assertEqual(sqns, sorted(set(sqns)))
+
+    def test_slow_program_serves_those_who_ask(self):
+        program = self.script(BESIDE + """
+while True:
+    asked = block()
+    time.sleep(asked.count(b"job") / 5)
+    text = reply(asked)
+    if not text:
+        break
+    say(text)
+""")
+        imsis = [f"00101{place:010}" for place in range(100, 140)]
+        self.file.write_text(SUBSCRIBERS + "".join(f"{imsi},{K},opc,{OPC},8000,0,0\n" for imsi in imsis))
+        _, client = self.start("--patience", "1.5", program=program)
+        self.served(client, imsis[-1])
+        answers = [client.vector(imsi) for imsi in reversed(imsis[-6:-1])]
+        self.assertEqual([it for it in answers if it.endswith("FAILURE")], [])
 
 
 class Restarted(Gateways):

@@ -159,9 +159,9 @@ class Leased(unittest.TestCase):
             needs = self.centre.needs([A])
             self.centre.resynchronise(A, seq)
             self.centre.grant(needs, f"leased {A}:{lease}")
-            self.assertEqual((self.centre.batch([A], 9), self.centre.needs([A])), ([], {A: (seq, seq)}))
+            self.assertEqual((self.centre.batch([A], 9, 0), self.centre.needs([A])), ([], {A: (seq, seq)}))
         self.grant(f"leased {A}:744:751:714")
-        self.assertEqual((self.centre.batch([A], 9), self.centre.leases[A]), ([A], Lease(744, 751, 714)))
+        self.assertEqual((self.centre.batch([A], 9, 0), self.centre.leases[A]), ([A], Lease(744, 751, 714)))
 
     def test_auts_of_another_gateway_drops_what_is_at_or_below_it(self):
         self.grant(f"leased {A}:8:15:0")

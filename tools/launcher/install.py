@@ -23,8 +23,8 @@ PROGRAM = f"{HOME}/program"
 PAGES = "share/doc/auc"
 TOOLS = ("import", "chart", "pcap", "report", "transcript", "gateway", "master", "usim", "seqs", "foreign")
 MODULES = ("ends.py", "transcript.py", "transcript_lines.py", "report_numbers.py", "report_packets.py", "report_page.html",
-           "ladders.py", "picture.py", "gateway_centre.py", "gateway_leases.py", "import_stores.py", "foreign_ours.py",
-           "foreign_radius.py", "foreign_trial.py", "foreign_verdict.py")
+           "ladders.py", "picture.py", "gateway_centre.py", "gateway_leases.py", "gateway_stock.py", "import_stores.py",
+           "foreign_ours.py", "foreign_radius.py", "foreign_trial.py", "foreign_verdict.py")
 # Folders of which each module is installed.
 PACKAGES = ("launcher", "eap")
 PLAIN, RUN = 0o644, 0o755
