@@ -262,16 +262,14 @@ class Kills:
         self.refused = sum(client.refused for client in clients)
 
     def times(self):
-        of = "of the gateway", "of the program"
-        return " and ".join(f"{count} {part}" for part, count in zip(of, self.counts.values()) if count)
+        return f"{self.counts['gateway']} kills of the gateway" + (f", {self.counts['program']} of the program" if self.counts["program"] else "")
 
     def said(self):
-        return (f"{self.name}: kills: {self.times()}; {self.received} SQNs received, {self.again} came again; "
-                f"{self.refused} requests refused")
+        return f"{self.name}: {self.times()}; {self.received} SQNs received, {self.again} came again; {self.refused} requests refused"
 
     def cell(self):
-        again = f"{self.again:,} of {self.received:,} SQNs came again" if self.again else f"holds: none of {self.received:,} SQNs came again"
-        return f"killed {self.times()}: {again}"
+        verdict = f"{self.again:,}" if self.again else "holds: none"
+        return f"{verdict} of {self.received:,} SQNs came again; {self.times()}"
 
 
 def kills_of(name, gateway, folder, given):

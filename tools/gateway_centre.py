@@ -21,6 +21,8 @@ from gateway_stock import Stock
 BETWEEN_STARTS, LONGEST_END = 1, 5
 # Of a block: the most subscribers, and AUTS of a subscriber. Both keep it below its limit of 1048576 bytes.
 MOST_JOBS, MOST_AUTS = 1024, 4
+# How much longer than a block the rest before the next one is, if nobody waits.
+REST = 4
 HEADER = "imsi,k,kind,op,amf,seq,usim".split(",")
 # The header of a file whose records also have the index length and the age limit, and what the others stand for.
 LONG_HEADER, USUAL = [*HEADER, "bits", "age"], (str(BITS), "-")
@@ -329,13 +331,19 @@ class Centre:
         """Whether more is to be drawn although nobody waits for it."""
         return bool(self.stock.low)
 
+    def rest(self, seconds):
+        """How long a block for the stock alone is held after one that took so long: so more subscribers share what a block costs, and the
+        program is busy with them for a fifth of the time. The first ones aren't held."""
+        return 0 if self.stock.empty > 0 else REST * seconds
+
     def batch(self, waiting, most, spare):
         """What the next block asks: of those who wait, at most of so many; and behind them for the stock, if there is room."""
         most = min(most, MOST_JOBS)
         batch = {imsi: self.job(imsi, requests) for imsi, requests in islice(waiting.items(), most)}
         for imsi in self.stock.pop_low(min(spare, most - len(batch))):
-            if imsi not in batch and imsi not in self.auts and self.stock.lack(imsi):
-                batch[imsi] = self.job(imsi, ())
+            job = self.job(imsi, ())
+            if imsi not in batch and job.more and not job.auts:
+                batch[imsi] = job
         return batch
 
     def job(self, imsi, requests):
@@ -370,9 +378,10 @@ class Centre:
 
     def rises(self, imsi, vectors):
         """Whether all numbers are above those that came before."""
-        floor = self.floors.get(imsi, 0)
-        self.floors[imsi] = max([floor, *(it.number for it in vectors)])
-        return all(it.number > floor for it in vectors)
+        floor, numbers = self.floors.get(imsi, 0), [it.number for it in vectors]
+        if numbers:
+            self.floors[imsi] = max(floor, *numbers)
+        return not numbers or min(numbers) > floor
 
     def forget(self, imsi, auts):
         """Forgets the AUTS that the program was told."""

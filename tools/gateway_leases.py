@@ -283,6 +283,10 @@ class LeasedCentre:
         """Whether the store has to be asked although nobody waits, since it doesn't know of an AUTS."""
         return any(not self.has_lease(imsi) for imsi in self.moves)
 
+    def rest(self, seconds):
+        """The store is asked at once."""
+        return 0
+
     def batch(self, waiting, most, spare):
         """Those who wait and whom the next run can serve, at most so many."""
         return list(islice(filter(self.has_lease, waiting), most))
