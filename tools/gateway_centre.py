@@ -346,6 +346,10 @@ class Centre:
                 batch[imsi] = job
         return batch
 
+    def put_back(self, batch):
+        """Has drawn again what a block asked for the stock alone and didn't get, since the program ended."""
+        self.stock.put_back([imsi for imsi, job in batch.items() if not job.requests])
+
     def job(self, imsi, requests):
         return Job(tuple(self.auts.get(imsi, ())), tuple(requests), self.stock.lack(imsi))
 

@@ -291,6 +291,9 @@ class LeasedCentre:
         """Those who wait and whom the next run can serve, at most so many."""
         return list(islice(filter(self.has_lease, waiting), most))
 
+    def put_back(self, batch):
+        """Nothing is asked for again by itself."""
+
     def scenario(self, batch):
         """One round with a job for each subscriber. Its RANDs follow from bytes that no other run has."""
         lines = [f"randkey {os.urandom(32).hex()}", "print full", *map(self.row, batch), "round"]

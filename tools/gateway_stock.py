@@ -6,7 +6,8 @@ A network's own node does the same: it takes several vectors of a subscriber at 
 from collections import OrderedDict
 from itertools import islice
 
-# Of a subscriber: how many vectors are ready if it seldom asks, and at most. 32 numbers, one behind the other, have 32 indices.
+# Of a subscriber: how many vectors are ready if it seldom asks, and at most. With an index of 5 bits, the usual one, 32 numbers, one
+# behind the other, have 32 indices.
 FEW, MANY = 1, 32
 # How many subscribers may have more than few.
 OFTEN = 1024
@@ -28,7 +29,8 @@ class Stock:
         """The next vectors of a subscriber, or nothing if fewer are ready."""
         ready = self.vectors.get(imsi, ())
         if len(ready) < count:
-            self.want_more(imsi)
+            if self.has_place(imsi):
+                self.want_more(imsi)
             return None
         taken, self.vectors[imsi] = ready[:count], ready[count:]
         if 2 * (len(ready) - count) <= self.wanted.get(imsi, FEW):
@@ -39,7 +41,8 @@ class Stock:
         """Has twice as many ready from now on."""
         self.wanted[imsi] = min(2 * self.wanted.pop(imsi, FEW), MANY)
         if len(self.wanted) > OFTEN:
-            self.wanted.popitem(last=False)
+            seldom, _ = self.wanted.popitem(last=False)
+            self.put(seldom, self.pop(seldom)[:FEW])
 
     def put(self, imsi, vectors):
         """Takes vectors of a subscriber for whom none is ready."""
@@ -50,10 +53,13 @@ class Stock:
         """Gives all that is ready for a subscriber."""
         return self.vectors.pop(imsi, [])
 
+    def has_place(self, imsi):
+        """Whether vectors of a subscriber are kept. Those who had one keep their place."""
+        return len(self.vectors) - (imsi in self.vectors) < self.most
+
     def lack(self, imsi):
         """How many are to be drawn for a subscriber."""
-        others = len(self.vectors) - (imsi in self.vectors)
-        return 0 if others >= self.most else max(0, self.wanted.get(imsi, FEW) - len(self.vectors.get(imsi, ())))
+        return max(0, self.wanted.get(imsi, FEW) - len(self.vectors.get(imsi, ()))) if self.has_place(imsi) else 0
 
     def pop_low(self, most):
         """The next ones for whom more are to be drawn, at most so many."""
@@ -62,6 +68,11 @@ class Stock:
             del self.low[imsi]
         self.empty -= len(found)
         return found
+
+    def put_back(self, imsis):
+        """Lets these be the next ones again."""
+        self.low = {**dict.fromkeys(imsis), **self.low}
+        self.empty += len(imsis)
 
     def news(self):
         """What is told once: that for each subscriber one was drawn."""

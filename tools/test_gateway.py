@@ -23,6 +23,7 @@ from eap.session import Subscriber
 from eap.usim import MAX_SEQ, sqn_of, top_of, triplet
 from ends import run_main
 from gateway_centre import BETWEEN_STARTS, LONG_HEADER, MOST_AUTS, Centre, Refused, Service, read_subscribers
+from gateway_stock import OFTEN
 from trial import HEADER, K, OPC
 
 TOOLS = Path(__file__).resolve().parent
@@ -52,6 +53,9 @@ def block():
     return lines_to_end(sys.stdin.buffer)
 
 def reply(block):
+    if not block:
+        program.stdin.close()
+        return b""
     program.stdin.write(block)
     program.stdin.flush()
     return lines_to_end(program.stdout)
@@ -410,6 +414,23 @@ class Stocks(unittest.TestCase):
         self.assertEqual([it.number for it in self.centre.take(request)], [10])
         self.assertIsNone(self.numbers())
 
+    def test_draw_without_a_reply_is_repeated(self):
+        request = Asked(1, B)
+        batch = self.centre.batch({B: [request]}, 9, 9)
+        self.centre.put_back(batch)
+        # B waits for itself, and isn't put back.
+        self.assertEqual((self.serve(request), self.told), ({B: 2, A: 1}, ["vectors of 2 subscribers are ready"]))
+
+    def test_many_are_kept_only_for_those_who_found_too_few_last(self):
+        imsis = [f"00101{place:010}" for place in range(OFTEN + 1)]
+        self.centre = Centre(imsis, len(imsis))
+        self.serve(spare=len(imsis))
+        for imsi in imsis:
+            self.assertIsNone(self.numbers(9, imsi))
+            self.serve(Asked(1, imsi))
+        ready = [len(self.centre.stock.vectors[imsi]) for imsi in imsis]
+        self.assertEqual(ready, [1] + [2] * OFTEN)
+
     def test_draw_that_gave_nothing_is_not_repeated_by_itself(self):
         self.assertEqual(self.serve(without=(A, B)), {A: 0, B: 0})
         self.assertEqual((self.given, self.centre.is_low()), (set(), False))
@@ -707,6 +728,61 @@ class Ahead(Gateways):
         for sqns in numbers.values():
             self.assertGreater(len(sqns), PROGRAM_KILLS)
             self.assertEqual(sqns, sorted(set(sqns)))
+
+    def test_first_vectors_are_drawn_although_the_program_is_killed(self):
+        program = self.script(BESIDE + """
+is_first = not os.path.exists("killed")
+open("killed", "w").close()
+for place in range(10**6):
+    text = reply(block())
+    if is_first and place == 1:
+        program.kill()
+        os.kill(os.getpid(), signal.SIGKILL)
+    if not text:
+        break
+    say(text)
+""")
+        child, client = self.ready(program=program)
+        self.assertEqual((seq_in(client.vector(B)), seq_in(client.vector())), (105, 65))
+        self.assertIn("the program was ended by signal 9", self.log.read_text())
+        self.assertEqual(self.end(child), 0)
+
+    def test_blocks_that_all_take_long_have_many_subscribers(self):
+        # As on a disk whose syncs take long, of however many reservations.
+        program = self.script(BESIDE + """
+noted = open("blocks", "a", buffering=1)
+while True:
+    asked = block()
+    time.sleep(0.1)
+    text = reply(asked)
+    if not text:
+        break
+    noted.write(".")
+    say(text)
+""")
+        imsis = [f"00101{place:010}" for place in range(100, 300)]
+        self.file.write_text(f"{HEADER}\n" + "".join(f"{imsi},{K},opc,{OPC},8000,0,0\n" for imsi in imsis))
+        self.start("--patience", "0.5", program=program)
+        until = time.monotonic() + SOON
+        while "vectors of 200 subscribers are ready" not in self.log.read_text():
+            self.assertLess(time.monotonic(), until)
+            time.sleep(0.01)
+        self.assertLess((self.folder / "blocks").stat().st_size, 40)
+
+    def test_end_in_a_block_for_the_stock_is_no_alarm(self):
+        program = self.script(BESIDE + """
+say(reply(block()))
+asked = block()
+open("begun", "w").close()
+time.sleep(60)
+""")
+        child, _ = self.start(program=program)
+        until = time.monotonic() + SOON
+        while not (self.folder / "begun").exists():
+            self.assertLess(time.monotonic(), until)
+            time.sleep(0.01)
+        self.assertEqual(self.end(child), 0)
+        self.assertNotIn("signal", self.log.read_text())
 
     def test_slow_program_serves_those_who_ask(self):
         program = self.script(BESIDE + """
