@@ -65,6 +65,17 @@ def say(text):
     sys.stdout.flush()
 """
 
+# One that takes a fifth of a second for each subscriber, so that eight of them take longer than a request waits in a test.
+SLOW = BESIDE + """
+while True:
+    asked = block()
+    time.sleep(asked.count(b"job") / 5)
+    text = reply(asked)
+    if not text:
+        break
+    say(text)
+"""
+
 
 def functions(rand):
     return Subscriber().functions(bytes.fromhex(rand))
@@ -169,6 +180,18 @@ class Gateways(unittest.TestCase):
     def times_served(self):
         """How many gateways have said that they serve."""
         return self.log.read_text().count("gateway: serves ") if self.log.exists() else 0
+
+    def wait_until(self, test):
+        until = time.monotonic() + SOON
+        while not test():
+            self.assertLess(time.monotonic(), until, self.log.read_text())
+            time.sleep(0.01)
+
+    def write_many(self, count):
+        """Writes a file of so many subscribers: their IMSIs."""
+        imsis = [f"00101{place:010}" for place in range(100, 100 + count)]
+        self.file.write_text(f"{HEADER}\n" + "".join(f"{imsi},{K},opc,{OPC},8000,0,0\n" for imsi in imsis))
+        return imsis
 
     def program_of(self, child):
         """The process of the program that a gateway keeps."""
@@ -669,10 +692,7 @@ class Ahead(Gateways):
     def ready(self, *options, **places):
         """A gateway with a vector of each subscriber, and a client of it."""
         child, client = self.start(*options, **places)
-        until = time.monotonic() + SOON
-        while self.log.read_text().count("vectors of 3 subscribers are ready") < self.times_served():
-            self.assertLess(time.monotonic(), until)
-            time.sleep(0.01)
+        self.wait_until(lambda: self.log.read_text().count("vectors of 3 subscribers are ready") == self.times_served())
         return child, client
 
     def test_ready_vectors_are_handed_out_while_the_program_stands_still(self):
@@ -760,13 +780,9 @@ while True:
     noted.write(".")
     say(text)
 """)
-        imsis = [f"00101{place:010}" for place in range(100, 300)]
-        self.file.write_text(f"{HEADER}\n" + "".join(f"{imsi},{K},opc,{OPC},8000,0,0\n" for imsi in imsis))
+        self.write_many(200)
         self.start("--patience", "0.5", program=program)
-        until = time.monotonic() + SOON
-        while "vectors of 200 subscribers are ready" not in self.log.read_text():
-            self.assertLess(time.monotonic(), until)
-            time.sleep(0.01)
+        self.wait_until(lambda: "vectors of 200 subscribers are ready" in self.log.read_text())
         self.assertLess((self.folder / "blocks").stat().st_size, 40)
 
     def test_end_in_a_block_for_the_stock_is_no_alarm(self):
@@ -777,26 +793,13 @@ open("begun", "w").close()
 time.sleep(60)
 """)
         child, _ = self.start(program=program)
-        until = time.monotonic() + SOON
-        while not (self.folder / "begun").exists():
-            self.assertLess(time.monotonic(), until)
-            time.sleep(0.01)
+        self.wait_until((self.folder / "begun").exists)
         self.assertEqual(self.end(child), 0)
         self.assertNotIn("signal", self.log.read_text())
 
     def test_slow_program_serves_those_who_ask(self):
-        program = self.script(BESIDE + """
-while True:
-    asked = block()
-    time.sleep(asked.count(b"job") / 5)
-    text = reply(asked)
-    if not text:
-        break
-    say(text)
-""")
-        imsis = [f"00101{place:010}" for place in range(100, 140)]
-        self.file.write_text(SUBSCRIBERS + "".join(f"{imsi},{K},opc,{OPC},8000,0,0\n" for imsi in imsis))
-        _, client = self.start("--patience", "1.5", program=program)
+        imsis = self.write_many(40)
+        _, client = self.start("--patience", "1.5", program=self.script(SLOW))
         self.served(client, imsis[-1])
         answers = [client.vector(imsi) for imsi in reversed(imsis[-6:-1])]
         self.assertEqual([it for it in answers if it.endswith("FAILURE")], [])
@@ -864,19 +867,8 @@ os.execv(PROGRAM, [PROGRAM, *sys.argv[1:]])
 
 class Slow(Gateways):
     def test_slow_program_gets_fewer_subscribers_a_block(self):
-        # A fifth of a second for each subscriber, so that eight of them take longer than a request waits.
-        program = self.script(BESIDE + """
-while True:
-    asked = block()
-    time.sleep(asked.count(b"job") / 5)
-    text = reply(asked)
-    if not text:
-        break
-    say(text)
-""")
-        imsis = [f"00101{place:010}" for place in range(100, 140)]
-        self.file.write_text(SUBSCRIBERS + "".join(f"{imsi},{K},opc,{OPC},8000,0,0\n" for imsi in imsis))
-        _, first = self.start("--patience", "1.5", program=program)
+        imsis = self.write_many(40)
+        _, first = self.start("--patience", "1.5", program=self.script(SLOW))
         clients = [first, *(self.client() for _ in range(7))]
         served = []
         for place in range(0, len(imsis), len(clients)):
