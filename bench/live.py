@@ -262,7 +262,8 @@ class Kills:
         self.refused = sum(client.refused for client in clients)
 
     def times(self):
-        return f"{self.counts['gateway']} kills of the gateway" + (f", {self.counts['program']} of the program" if self.counts["program"] else "")
+        program = f", {self.counts['program']} of the program" if self.counts["program"] else ""
+        return f"{self.counts['gateway']} kills of the gateway{program}"
 
     def said(self):
         return f"{self.name}: {self.times()}; {self.received} SQNs received, {self.again} came again; {self.refused} requests refused"

@@ -14,12 +14,13 @@ OFTEN = 1024
 
 
 class Stock:
-    """Vectors by subscriber, in the order of their numbers, for a number of subscribers."""
+    """Vectors by subscriber, in the order of their numbers, for the first ones of the subscribers."""
 
     def __init__(self, subscribers, most):
-        self.most, self.vectors = most, {}
+        self.vectors = {}
         # For whom more are to be drawn, in this order.
         self.low = dict.fromkeys(islice(subscribers, most))
+        self.places = frozenset(self.low)
         # How many are to be ready for those who found too few, the last one of them at the end.
         self.wanted = OrderedDict()
         # For how many none has been drawn yet.
@@ -29,7 +30,7 @@ class Stock:
         """The next vectors of a subscriber, or nothing if fewer are ready."""
         ready = self.vectors.get(imsi, ())
         if len(ready) < count:
-            if self.has_place(imsi):
+            if imsi in self.places:
                 self.want_more(imsi)
             return None
         taken, self.vectors[imsi] = ready[:count], ready[count:]
@@ -46,20 +47,16 @@ class Stock:
 
     def put(self, imsi, vectors):
         """Takes vectors of a subscriber for whom none is ready."""
-        if vectors:
+        if vectors and imsi in self.places:
             self.vectors[imsi] = vectors
 
     def pop(self, imsi):
         """Gives all that is ready for a subscriber."""
         return self.vectors.pop(imsi, [])
 
-    def has_place(self, imsi):
-        """Whether vectors of a subscriber are kept. Those who had one keep their place."""
-        return len(self.vectors) - (imsi in self.vectors) < self.most
-
     def lack(self, imsi):
         """How many are to be drawn for a subscriber."""
-        return max(0, self.wanted.get(imsi, FEW) - len(self.vectors.get(imsi, ()))) if self.has_place(imsi) else 0
+        return max(0, self.wanted.get(imsi, FEW) - len(self.vectors.get(imsi, ()))) if imsi in self.places else 0
 
     def pop_low(self, most):
         """The next ones for whom more are to be drawn, at most so many."""

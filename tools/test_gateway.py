@@ -299,7 +299,7 @@ class Blocks(unittest.TestCase):
         given, told = self.centre.learn(self.batch, text)
         vectors = [self.centre.take(it) for it in self.batch[A].requests]
         self.assertEqual(A in given, any(vectors))
-        return [it and [vector.number for vector in it] for it in vectors], [sentence for cause, sentence in told if cause != "ready"]
+        return [it and [vector.number for vector in it] for it in vectors], [sentence for _, sentence in told]
 
     def vectors(self, *numbers):
         return [line for number in numbers for line in (f"vector {A} {number}", "bytes 0 1 2 3 4")]
