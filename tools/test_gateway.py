@@ -76,6 +76,15 @@ while True:
     say(text)
 """
 
+# One whose journal has room for one frame, as long as there is a file of this name.
+FULL_DISK = """
+import resource
+if os.path.exists("full"):
+    signal.signal(signal.SIGXFSZ, signal.SIG_IGN)
+    resource.setrlimit(resource.RLIMIT_FSIZE, (36, resource.getrlimit(resource.RLIMIT_FSIZE)[1]))
+os.execv(PROGRAM, [PROGRAM, *sys.argv[1:]])
+"""
+
 
 def functions(rand):
     return Subscriber().functions(bytes.fromhex(rand))
@@ -785,6 +794,17 @@ while True:
         self.wait_until(lambda: "vectors of 200 subscribers are ready" in self.log.read_text())
         self.assertLess((self.folder / "blocks").stat().st_size, 40)
 
+    def test_answers_while_the_disk_fails(self):
+        (self.folder / "full").touch()
+        child, client = self.start("--patience", "1", program=self.script(FULL_DISK))
+        answers = [client.vector(imsi) for imsi in (A, B, A, B)]
+        (self.folder / "full").unlink()
+        answers += [self.served(client, imsi) for imsi in (A, B, A, B)]
+        for imsi in A, B:
+            sqns = [sqn_in(it) for it in answers if it.split()[1] == imsi and not it.endswith("FAILURE")]
+            self.assertEqual(sqns, sorted(set(sqns)))
+        self.assertEqual(self.end(child), 0)
+
     def test_end_in_a_block_for_the_stock_is_no_alarm(self):
         program = self.script(BESIDE + """
 say(reply(block()))
@@ -841,16 +861,8 @@ os.execv(PROGRAM, [PROGRAM, *sys.argv[1:]])
         self.assertEqual(seq_in(client.vector()), 1)
 
     def test_answers_while_the_disk_fails(self):
-        # The journal has room for one frame, as long as there is a file of this name.
-        program = self.script("""
-import resource
-if os.path.exists("full"):
-    signal.signal(signal.SIGXFSZ, signal.SIG_IGN)
-    resource.setrlimit(resource.RLIMIT_FSIZE, (36, resource.getrlimit(resource.RLIMIT_FSIZE)[1]))
-os.execv(PROGRAM, [PROGRAM, *sys.argv[1:]])
-""")
         (self.folder / "full").touch()
-        child, client = self.start("--patience", "3", program=program)
+        child, client = self.start("--patience", "3", program=self.script(FULL_DISK))
         sqns = [sqn_in(client.vector()), sqn_in(client.vector())]
         self.assertEqual(client.vector(B), f"AKA-RESP-AUTH {B} FAILURE")
         self.assertEqual(client.vector(), f"AKA-RESP-AUTH {A} FAILURE")
