@@ -2,3 +2,4 @@
 pub use Rattle.auc_jobs.proofs.HappenLemmas.{Applied, event_serves, placed_after, remember_pasts, secrets_after}
 pub use Rattle.auc_jobs.proofs.LineLemmas.{entries_of_lines-append, held_of-append, numbers_of-append, some_at}
 pub use Rattle.auc_jobs.proofs.PlaceLemmas.{same_known}
+pub use Rattle.auc_jobs.proofs.SettleLemmas.{job_releasable}

@@ -15,15 +15,14 @@ use Rattle.auc_history.specs.Split.{all_entries}
 use Rattle.auc_history.proofs.Facts.{AllPairs-cons, AllPairs-head, AllPairs-tail}
 use Rattle.auc_journal.specs.Image.{reserved_in}
 use Rattle.auc_journal.specs.Journal.{JournalState, limits_of}
-use Rattle.auc_journal.proofs.Facts.{durable_more}
-use Rattle.auc_keeper.specs.Keeper.{IsLeft, Since}
-use Rattle.auc_keeper.proofs.Facts.{begins_left, leaves_less, left_more}
+use Rattle.auc_keeper.specs.Keeper.{IsAbove, Since}
+use Rattle.auc_keeper.proofs.Facts.{begins_left}
 use Rattle.auc_lines.specs.declared.part.Line.{Line}
 use Rattle.auc_subs.specs.Subscriber.{AreSubscribers}
 use Rattle.auc_subs.specs.declared.row.Row.{Row}
 use Rattle.auc_world.specs.declared.record.LineRecord.{LineRecord}
 use Rattle.auc_world.specs.declared.record.RoundRecord.{RoundRecord}
-use Rattle.auc_world.specs.Limits.{Raises, least_step}
+use Rattle.auc_world.specs.Limits.{Raises}
 use Rattle.auc_world.specs.Entries.{entries_of_jobs}
 use Rattle.auc_world.specs.Lines.{all_lines, held_of, withheld_of}
 use Rattle.auc_world.specs.Setting.{Setting}
@@ -62,42 +61,59 @@ pub served_ok : {A : Type 0} (served : Result A NoMemory) (P : Type 0) → IsOk 
 served_ok (Ok a) P is holds = holds
 served_ok (Err e) P is holds = cc
 
+-- a bound that admits the words admits what the keeper saw
+above_seen : (imsis : List Identity) (seen words : List ℕ) (most more : Identity → ℕ) → ((i : ℕ) → i < length imsis → slice_index seen i ≤ slice_index words i) → IsAbove imsis words most more → IsAbove imsis seen most more
+above_seen imsis seen words most more looked above = record {
+  keeps = above.keeps;
+  admits = λ i inside. let low = looked i inside in let high = above.admits i inside in omega (arith, low, high);
+}
+
 -- a crash leaves nothing above the words, if the keeper saw nothing above them
 pub stays_near : {D : Type 0} (seen : D → Option (List ℕ)) (may_leave : D → List ℕ → Type 0) (faults moment : D → ℕ) (left_since : D → ℕ → List ℕ → Type 0) (journal after : JournalState D) (pass : KeeperValue) (words openings : List ℕ)
     → Since seen may_leave faults moment left_since journal (record { journal = after; pass = pass }) → length journal.imsis ≡ length openings
     → ((i : ℕ) → i < length openings → slice_index pass.seen i ≤ slice_index words i) → StaysNear seen may_leave moment left_since journal words after
-stays_near seen may_leave faults moment left_since journal after pass words openings since sized looked = record {
-  durable = λ from most durable.
-      durable_more seen may_leave from (λ i. max (most i) (slice_index pass.seen i + 64)) (λ i. max (most i) (slice_index words i + least_step)) after
-      (λ i inside.
-      let same = ap (λ (imsis : List Identity). length imsis) since.subscribers in
-      let low = looked i (omega (arith, inside, same, sized)) in
-      higher (most i) (slice_index pass.seen i) (slice_index words i) low)
-      (since.durable from most durable);
-  always = λ from most durable told.
-      leaves_less moment left_since journal.disk after.disk (IsLeft told.0 journal (λ i. max (most i) (slice_index pass.seen i + 64))) (IsLeft told.0 journal (λ i. max (most i) (slice_index words i + least_step)))
-      (left_more told.0 journal (λ i. max (most i) (slice_index pass.seen i + 64)) (λ i. max (most i) (slice_index words i + least_step))
-      (λ i inside. let low = looked i (omega (arith, inside, sized)) in higher (most i) (slice_index pass.seen i) (slice_index words i) low))
-      (since.always from most durable told);
+stays_near seen may_leave faults moment left_since journal after pass words openings since sized looked =
+    let seen_below : (i : ℕ) → i < length journal.imsis → slice_index pass.seen i ≤ slice_index words i = λ i inside. looked i (omega (arith, inside, sized)) in
+    record {
+      others = since.others;
+      durable = λ from most more above. since.durable from most more (above_seen journal.imsis pass.seen words most more seen_below above);
+      always = λ from most more above. since.always from most more (above_seen journal.imsis pass.seen words most more seen_below above);
+    }
+
+-- the greatest of some numbers
+abbrev greatest : List ℕ → ℕ
+greatest [] = 0
+greatest (n ∷ numbers) = max n (greatest numbers)
+
+greatest_is : (numbers : List ℕ) (i : ℕ) → slice_index numbers i ≤ greatest numbers
+greatest_is [] i = omega arith
+greatest_is (n ∷ numbers) zero = omega arith
+greatest_is (n ∷ numbers) (suc i) = let less = greatest_is numbers i in omega (arith, less)
+
+-- a bound for all that the keeper saw
+abbrev above_all : List ℕ → (Identity → ℕ) → Identity → ℕ
+above_all seen most imsi = max (most imsi) (greatest seen + 64)
+
+above_all_is : (imsis : List Identity) (seen : List ℕ) (most : Identity → ℕ) → IsAbove imsis seen most (above_all seen most)
+above_all_is imsis seen most = record {
+  keeps = λ imsi. omega arith;
+  admits = λ i inside. let less = greatest_is seen i in omega (arith, less);
 }
-  where
-    higher : (m a b : ℕ) → a ≤ b → max m (a + 64) ≤ max m (b + 64)
-    higher m a b low = omega (arith, low)
 
 -- what a crash leaves when the workers have ended, whether or not memory ran out
 pub worked_leaves : {D : Type 0} (seen : D → Option (List ℕ)) (may_leave : D → List ℕ → Type 0) (faults moment : D → ℕ) (left_since : D → ℕ → List ℕ → Type 0) (journal after : JournalState D) (pass : KeeperValue)
     → Since seen may_leave faults moment left_since journal (record { journal = after; pass = pass }) → LeavesMore seen may_leave moment left_since journal after
 worked_leaves seen may_leave faults moment left_since journal after pass since = record {
   rises = since.rises;
-  durable = λ from most durable. (λ i. max (most i) (slice_index pass.seen i + 64), since.durable from most durable);
-  always = λ from most durable told. (λ i. max (most i) (slice_index pass.seen i + 64), since.always from most durable told);
+  durable = λ from most durable. (above_all pass.seen most, since.durable from most (above_all pass.seen most) (above_all_is journal.imsis pass.seen most) durable);
+  always = λ from most durable told. (above_all pass.seen most, since.always from most (above_all pass.seen most) (above_all_is journal.imsis pass.seen most) durable told);
 }
 
 -- and if they didn't begin
 pub unserved_leaves : {D : Type 0} (seen : D → Option (List ℕ)) (may_leave : D → List ℕ → Type 0) (moment : D → ℕ) (left_since : D → ℕ → List ℕ → Type 0) → ((disk : D) (image : List ℕ) → left_since disk (moment disk) image → may_leave disk image)
     → (journal : JournalState D) → LeavesMore seen may_leave moment left_since journal journal
 unserved_leaves seen may_leave moment left_since only_now journal = record {
-  rises = λ i inside. omega arith;
+  rises = λ imsi. omega arith;
   durable = λ from most durable. (most, durable);
   always = λ from most durable told. (most, begins_left seen may_leave moment left_since only_now from most journal durable told);
 }
@@ -187,6 +203,7 @@ served_round seen may_leave moment left_since set state next jobs journal after 
           (subst (λ (limit : ℕ). All (λ n. limit < n) (withheld_of sub (all_lines done.jobs.records))) (limit_of_row set.rows after sub row subscribers there)
           (limits.above sub (slice_get_within set.rows sub row there)));
       needs = λ full. drew_above set done.stop ran.round done.jobs.records (limits_of journal) done.words after subscribers parts.0 limits (sym parts.2 ∙ full);
+      others = near.others;
       durable = near.durable;
       always = near.always;
     }

@@ -1,20 +1,21 @@
 -- Inner facts: what only private contracts of this crate cite. Here: the keeper of a round, from its journal to the journal
 -- after it.
-use Rattle.std.specs.Prelude.{◌≡◌, ◌≢◌, ◌↔◌, ℕ, ◌+◌, ◌<◌, ◌^◌, AllPairs, Bool, false, true, List, Option, Some, None, max, slice_index, if◌then◌else◌}
+use Rattle.std.specs.Prelude.{◌≡◌, ◌≢◌, ◌↔◌, ℕ, ◌+◌, ◌<◌, ◌^◌, All, AllPairs, Bool, false, true, List, Option, Some, None, if◌then◌else◌}
 use Rattle.std.specs.List.{list_any}
 use Rattle.atomic_table.specs.Seated.{TableId}
 use Rattle.auc_draw.specs.Values.{KeeperValue}
 use Rattle.auc_edge.specs.Faults.{Rose}
+use Rattle.auc_edge.specs.Identity.{Identity}
 use Rattle.auc_edge.specs.declared.stop.Stop.{Stop}
 use Rattle.auc_edge.specs.declared.stop.Stop.TheVariants.{Fault, Full}
 use Rattle.auc_journal.specs.Durable.{IsDurable, IsTold}
+use Rattle.auc_journal.specs.Image.{reserved_in}
 use Rattle.auc_journal.specs.Journal.{JournalState, limits_of}
 use Rattle.auc_journal.specs.Settled.{LeavesOnly}
-use Rattle.auc_keeper.specs.Keeper.{IsLeft}
+use Rattle.auc_keeper.specs.Keeper.{IsAbove, IsLeft}
 use Rattle.auc_vector.specs.declared.notes.NumberNote.{NumberNote}
 use Rattle.auc_vector.specs.declared.notes.NumberNote.TheVariants as number
 use Rattle.auc_world.specs.Event.{number_in}
-use Rattle.auc_world.specs.Limits.{least_step}
 use Rattle.auc_world.specs.declared.record.LineRecord.{LineRecord}
 use Rattle.auc_world.specs.declared.record.LineRecord.TheVariants.{Vector, Withheld, Exhausted, Sync, Give, Further, Event}
 
@@ -36,11 +37,13 @@ pub record TellsStop {D : Type 0} (faults : D → ℕ) (journal : JournalState D
   pub quiet : stop ≢ Some Fault → faults after.disk ≡ faults journal.disk
   pub full : stop ≡ Some Full → 2 ^ 30 < after.place + 20
 
--- a crash leaves no limit above that of before and a step above the word, now and at any moment since the round began
+-- the limits of all other identities stand, and a crash leaves no limit above that of before and a step above the word, now and at
+-- any moment since the round began
 pub record StaysNear {D : Type 0} (seen : D → Option (List ℕ)) (may_leave : D → List ℕ → Type 0) (moment : D → ℕ) (left_since : D → ℕ → List ℕ → Type 0) (journal : JournalState D) (words : List ℕ) (after : JournalState D) : Type 0 where
-  pub durable : (from : D) (most : ℕ → ℕ) → IsDurable seen may_leave from most journal → IsDurable seen may_leave from (λ i. max (most i) (slice_index words i + least_step)) after
-  pub always : (from : D) (most : ℕ → ℕ) → IsDurable seen may_leave from most journal → (told : IsTold seen may_leave from)
-      → LeavesOnly moment left_since journal.disk after.disk (IsLeft told.0 journal (λ i. max (most i) (slice_index words i + least_step)))
+  pub others : (imsi : Identity) → All (λ own. own ≢ imsi) journal.imsis → reserved_in after.limits imsi ≡ reserved_in journal.limits imsi
+  pub durable : (from : D) (most more : Identity → ℕ) → IsAbove journal.imsis words most more → IsDurable seen may_leave from most journal → IsDurable seen may_leave from more after
+  pub always : (from : D) (most more : Identity → ℕ) → IsAbove journal.imsis words most more → IsDurable seen may_leave from most journal → (told : IsTold seen may_leave from)
+      → LeavesOnly moment left_since journal.disk after.disk (IsLeft told.0 journal more)
 
 -- whether a note says that a number was withheld
 abbrev pub is_withheld : Option NumberNote → Bool

@@ -1,16 +1,17 @@
 -- A round that is served with a journal.
-use Rattle.std.specs.Prelude.{◌≡◌, ℕ, ◌+◌, ◌<◌, ◌≤◌, max, false, List, All, Contains, length, map, slice_get, slice_index, Option, Some}
+use Rattle.std.specs.Prelude.{◌≡◌, ◌≢◌, ℕ, ◌<◌, ◌≤◌, false, List, All, Contains, map, slice_get, Option, Some}
+use Rattle.auc_edge.specs.Identity.{Identity}
 use Rattle.auc_edge.specs.declared.stop.Stop.{Stop}
 use Rattle.auc_edge.specs.declared.stop.Stop.TheVariants.{Full}
 use Rattle.auc_history.specs.History.{drawn}
 use Rattle.auc_journal.specs.Durable.{IsDurable, IsTold}
 use Rattle.auc_journal.specs.Image.{reserved_in}
-use Rattle.auc_journal.specs.Journal.{JournalState, limits_of, reserved_at}
+use Rattle.auc_journal.specs.Journal.{JournalState, limits_of}
 use Rattle.auc_journal.specs.Settled.{LeavesOnly}
-use Rattle.auc_keeper.specs.Keeper.{IsLeft}
+use Rattle.auc_keeper.specs.Keeper.{IsAbove, IsLeft}
 use Rattle.auc_lines.specs.declared.part.Line.{Line}
 use Rattle.auc_subs.specs.declared.row.Row.{Row}
-use Rattle.auc_world.specs.Limits.{Raises, least_step}
+use Rattle.auc_world.specs.Limits.{Raises}
 use Rattle.auc_world.specs.Lines.{all_lines, held_of, withheld_of}
 use Rattle.auc_world.specs.Round.{IsLawfulRound}
 use Rattle.auc_world.specs.Setting.{Setting}
@@ -49,17 +50,19 @@ pub record Serves {D : Type 0} (seen : D → Option (List ℕ)) (may_leave : D �
   pub withheld : (sub : ℕ) (row : Row) → slice_get set.rows sub ≡ Some row → All (λ n. reserved_in after.limits row.imsi < n) (withheld_of sub (all_lines round.jobs))
   -- reservations ended as full only if the round drew a number above what the journal reserves for its subscriber
   pub needs : stop ≡ Some Full → (drew : DrewFull set.rows round) × (reserved_in after.limits drew.row.imsi < drew.number)
+  -- the limits of all other identities stand
+  pub others : (imsi : Identity) → All (λ own. own ≢ imsi) journal.imsis → reserved_in after.limits imsi ≡ reserved_in journal.limits imsi
   -- a crash leaves these limits at least, and none above that of before and a step above the word
-  pub durable : (from : D) (most : ℕ → ℕ) → IsDurable seen may_leave from most journal → IsDurable seen may_leave from (λ i. max (most i) (slice_index words i + least_step)) after
+  pub durable : (from : D) (most more : Identity → ℕ) → IsAbove journal.imsis words most more → IsDurable seen may_leave from most journal → IsDurable seen may_leave from more after
   -- and at any moment since the round began, while its threads run too, a crash leaves the limits of before at least, and none
   -- above that bound
-  pub always : (from : D) (most : ℕ → ℕ) → IsDurable seen may_leave from most journal → (told : IsTold seen may_leave from)
-      → LeavesOnly moment left_since journal.disk after.disk (IsLeft told.0 journal (λ i. max (most i) (slice_index words i + least_step)))
+  pub always : (from : D) (most more : Identity → ℕ) → IsAbove journal.imsis words most more → IsDurable seen may_leave from most journal → (told : IsTold seen may_leave from)
+      → LeavesOnly moment left_since journal.disk after.disk (IsLeft told.0 journal more)
 
--- if memory ran out: no limit fell, and a crash leaves journals with the limits at least; at any moment since the round began it
--- leaves those of before at least
+-- what a round leaves of its journal, also if memory ran out: no limit fell, and a crash leaves journals with the limits at least; at
+-- any moment since the round began it leaves those of before at least
 pub record LeavesMore {D : Type 0} (seen : D → Option (List ℕ)) (may_leave : D → List ℕ → Type 0) (moment : D → ℕ) (left_since : D → ℕ → List ℕ → Type 0) (journal after : JournalState D) : Type 0 where
-  pub rises : (i : ℕ) → i < length journal.imsis → reserved_at journal i ≤ reserved_at after i
-  pub durable : (from : D) (most : ℕ → ℕ) → IsDurable seen may_leave from most journal → (more : ℕ → ℕ) × IsDurable seen may_leave from more after
-  pub always : (from : D) (most : ℕ → ℕ) → IsDurable seen may_leave from most journal → (told : IsTold seen may_leave from)
-      → (more : ℕ → ℕ) × LeavesOnly moment left_since journal.disk after.disk (IsLeft told.0 journal more)
+  pub rises : (imsi : Identity) → reserved_in journal.limits imsi ≤ reserved_in after.limits imsi
+  pub durable : (from : D) (most : Identity → ℕ) → IsDurable seen may_leave from most journal → (more : Identity → ℕ) × IsDurable seen may_leave from more after
+  pub always : (from : D) (most : Identity → ℕ) → IsDurable seen may_leave from most journal → (told : IsTold seen may_leave from)
+      → (more : Identity → ℕ) × LeavesOnly moment left_since journal.disk after.disk (IsLeft told.0 journal more)

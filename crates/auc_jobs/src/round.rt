@@ -94,13 +94,14 @@ pub fn serve<D: Disk + Drop + Send, G: Gate + Sync, R: Threads + Wait + Sync>(
 
     // The journal is of the same subscribers. An append failed exactly if reservations ended for a fault.
     ensures subscribers { result.journal.imsis ≡ journal.imsis }
+    ensures all { result.journal.all ≡ journal.all }
     ensures ready { IfOk result.result (λ ran. (result.journal.failed ≡ true) ↔ (ran.stop ≡ Some Fault)) }
     ensures fault { IfOk result.result (λ ran. ran.stop ≡ Some Fault
         → Rose (D.faults journal.disk) (D.faults result.journal.disk)) }
     ensures quiet { IfOk result.result (λ ran. ran.stop ≢ Some Fault
         → D.faults result.journal.disk ≡ D.faults journal.disk) }
     ensures full { IfOk result.result (λ ran. ran.stop ≡ Some Full → 2 ^ 30 < result.journal.place + 20) }
-    ensures still { OnErr result.result (LeavesMore D.seen D.may_leave D.moment D.left_since journal result.journal) }
+    ensures leaves { LeavesMore D.seen D.may_leave D.moment D.left_since journal result.journal }
 {
     let pieces = pieces(rt, alloc, jobs, set, full, &state, journal, workers, gate);
     let Pieces { journal, result } = pieces;
@@ -144,6 +145,7 @@ fn pieces<D: Disk + Drop + Send, G: Gate + Sync, R: Threads + Wait + Sync>(
         ≡ (if full then map (vectors_in set.now) done.jobs.records else [])) }
     ensures bound { IfOk result.result (λ done. All (λ word. word ≤ max_seq + 64) done.words) }
     ensures subscribers { result.journal.imsis ≡ journal.imsis }
+    ensures all { result.journal.all ≡ journal.all }
     ensures leaves { LeavesMore D.seen D.may_leave D.moment D.left_since journal result.journal }
     ensures near { IfOk result.result (λ done.
         StaysNear D.seen D.may_leave D.moment D.left_since journal done.words result.journal) }

@@ -1,7 +1,9 @@
 //! What passes from round to round.
 
-ghost use Rattle.std.specs.Prelude.{◌≡◌, ◌≤◌, ◌<◌, ℕ, [], List, length, map, slice_index, IfOk, OnErr, OnOk};
+ghost use Rattle.std.specs.Prelude.{◌≡◌, ◌≤◌, ◌<◌, ◌++◌, ℕ, [], List, length, map, slice_index, slice_set, IfOk, OnErr, OnOk};
 ghost use Rattle.auc_subs.specs.Subscriber.{top_at};
+ghost use Rattle.auc_world.specs.Lines.{all_lines};
+ghost use Rattle.auc_world.specs.Released.{AreReleased};
 ghost use Rattle.auc_world.specs.Setting.{Setting};
 ghost use Rattle.auc_world.specs.Start.{fresh_kept};
 ghost use Rattle.auc_world.specs.declared.record.LineRecord.{LineRecord};
@@ -9,7 +11,7 @@ ghost use Rattle.auc_jobs.specs.InnerRound.{IsAdvanced};
 ghost use Rattle.auc_jobs.specs.State.{AcceptNothing, StandsAt};
 
 use auc_cards::{JobDevices, Stores, Usims};
-use auc_edge::{Items, NoMemory};
+use auc_edge::NoMemory;
 use auc_released::Numbers;
 use auc_subs::Subscribers;
 use auc_world::{JobRecord, note_all, reopened};
@@ -20,7 +22,7 @@ use std::marker::Model;
 /// homes and devices keep of their names (RFC 4187 §4.1.1.7), and the numbers whose vectors were released.
 #[derive(Drop)]
 pub struct State {
-    pub(crate) words: Items<u64>,
+    pub(crate) words: Vec<u64>,
     pub(crate) usims: Usims,
     pub(crate) stores: Stores,
     pub(crate) released: Numbers,
@@ -32,7 +34,7 @@ impl Model for State {
     ghost Value = { Standing };
 
     ghost view = { λ state. record {
-      words = state.words;
+      words = state.words.items;
       usims = state.usims;
       kept = state.stores;
       released = state.released;
@@ -55,14 +57,40 @@ impl State {
     }
 
     /// Opens the next round at other words, as a restart does. All else stays.
-    pub fn open_at(&mut self, words: Items<u64>)
-        requires { length words ≡ length self.old.words }
-        ensures opened { self.new ≡ record self.old { words = words } }
+    pub fn open_at(&mut self, words: Vec<u64>)
+        requires { length words.items ≡ length self.old.words }
+        ensures opened { self.new ≡ record self.old { words = words.items } }
         ensures stands { (set : Setting) (early : List LineRecord)
-            → ((sub : ℕ) → sub < length set.rows → slice_index words sub ≤ top_at set.rows sub)
+            → ((sub : ℕ) → sub < length set.rows → slice_index words.items sub ≤ top_at set.rows sub)
             → StandsAt set early self.old → StandsAt set early self.new }
     {
         self.words = words;
+    }
+
+    /// The word at which the next round opens a subscriber.
+    pub fn word(&self, sub: u32) -> u64
+        requires { sub < length self.now.words }
+        ensures { result ≡ slice_index self.now.words sub }
+    {
+        self.words[sub as usize]
+    }
+
+    /// Opens a subscriber at another word in the next round. All else stays.
+    pub fn set_word(&mut self, sub: u32, word: u64)
+        requires { sub < length self.old.words }
+        ensures { self.new ≡ record self.old { words = slice_set self.old.words sub word } }
+    {
+        self.words[sub as usize] = word;
+    }
+
+    /// Notes the numbers whose vectors the lines of some jobs released.
+    pub fn note(&mut self, records: &[JobRecord]) -> Result<(), NoMemory>
+        ensures same { self.new ≡ record self.old { released = self.new.released } }
+        ensures noted { OnOk result ((before : List LineRecord) → AreReleased self.old.released before
+            → AreReleased self.new.released (before ++ all_lines records.now)) }
+        ensures kept { OnErr result (self.new ≡ self.old) }
+    {
+        note_all(&mut self.released, records)
     }
 
     /// Forgets which vectors were released. Rounds whose lines only draw and resynchronise never ask.
@@ -87,7 +115,8 @@ impl State {
         ensures advanced { OnOk result (IsAdvanced subs.now self.old records.now devices.now words.now self.new) }
         ensures kept { OnErr result (self.new ≡ self.old) }
     {
-        let openings = reopened(alloc, subs, words)?;
+        let opened = reopened(alloc, subs, words)?;
+        let openings = opened.as_slice().to_vec(alloc)?;
         note_all(&mut self.released, records)?;
         self.usims.put_back(devices);
         self.stores.put_back(devices);
@@ -97,12 +126,12 @@ impl State {
 }
 
 /// The numbers at which the rows say that the centre stands.
-fn first_words(alloc: Global, subs: &Subscribers) -> Result<Items<u64>, NoMemory>
-    ensures value { IfOk result (λ words. words ≡ map (λ row. row.seq) subs.now) }
+fn first_words(alloc: Global, subs: &Subscribers) -> Result<Vec<u64>, NoMemory>
+    ensures value { IfOk result (λ words. words.items ≡ map (λ row. row.seq) subs.now) }
     ensures bound { IfOk result (λ words. (sub : ℕ) → sub < length subs.now
-        → slice_index words sub ≤ top_at subs.now sub) }
+        → slice_index words.items sub ≤ top_at subs.now sub) }
 {
-    let mut words = Items::new(alloc);
+    let mut words = Vec::new(alloc);
     for sub in 0..subs.len() {
         words.push(subs.row(sub).seq)?;
     }

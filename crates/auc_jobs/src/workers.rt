@@ -358,6 +358,7 @@ pub(crate) fn serve_pieces<D: Disk + Drop + Send, G: Gate + Sync, R: Threads + W
 
     // The journal is of the same subscribers, and no limit of it fell.
     ensures subscribers { result.journal.imsis ≡ journal.imsis }
+    ensures all { result.journal.all ≡ journal.all }
     ensures leaves { LeavesMore D.seen D.may_leave D.moment D.left_since journal result.journal }
     ensures near { IfOk result.result (λ done.
         StaysNear D.seen D.may_leave D.moment D.left_since journal done.words result.journal) }

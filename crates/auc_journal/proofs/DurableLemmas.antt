@@ -1,11 +1,11 @@
 -- How an opening and an append keep what a crash may leave: for the journal.
-use Rattle.std.proofs.Common.{◌≡◌, inl, inr, ⊎_elim, ℕ, ◌+◌, ◌≤◌, ◌<◌, List, [], ◌∷◌, ◌++◌, length, Option, Some, None, is_some, refl, sym, ◌∙◌, ap, subst, arith, true≢false}
+use Rattle.std.proofs.Common.{◌≡◌, inl, inr, ⊎_elim, ℕ, ◌+◌, ◌≤◌, List, [], ◌∷◌, ◌++◌, Option, Some, None, is_some, refl, sym, ◌∙◌, ap, subst, arith, true≢false}
 use Rattle.std.specs.Prelude.{Bool, true, false, max, if◌then◌else◌, Result, Ok}
 use Rattle.auc_edge.specs.Identity.{Identity}
 use Rattle.auc_disk.specs.Disk.{Puts}
 use Rattle.auc_journal.specs.Durable.{AdmitsAll, AreBetween, IsBetween, IsDurable, IsReady, IsTold}
 use Rattle.auc_journal.specs.Image.{Frame, Keeps, Reading, read_image, reserved_as, reserved_by, reserved_in, same_identity}
-use Rattle.auc_journal.specs.Journal.{JournalState, imsi_at, reserved_at}
+use Rattle.auc_journal.specs.Journal.{JournalState}
 use Rattle.auc_journal.specs.Limits.{AreLimits}
 use Rattle.auc_journal.specs.Opening.{Opens}
 use Rattle.auc_journal.specs.Settled.{AtRest, IsAppendingAll, IsBeforeOrAfter, IsClosable, IsSettled, LeavesOnly}
@@ -44,29 +44,26 @@ keeps_append file image frames place added size low (inr after) = keeps_read fil
 
 module _ {D : Type 0} (seen : D → Option (List ℕ)) (may_leave : D → List ℕ → Type 0) where
   -- an image of a journal that is ready is at rest with its frames
-  ready_rests : (file : List ℕ) (most : ℕ → ℕ) (journal : JournalState D) (ready : IsReady seen may_leave file most journal) → (image : List ℕ) → may_leave journal.disk image → AtRest image ready.frames journal.place
+  ready_rests : (file : List ℕ) (most : Identity → ℕ) (journal : JournalState D) (ready : IsReady seen may_leave file most journal) → (image : List ℕ) → may_leave journal.disk image → AtRest image ready.frames journal.place
   ready_rests file most journal ready image now =
       let told = told_file (seen journal.disk) ready.tells in
       subst (λ (l : List ℕ). AtRest l ready.frames journal.place) (sym (ready.settled.durable told.0 told.1 image now)) (ready.settled.at_rest told.0 told.1)
 
   -- and keeps what was found
-  pub ready_keeps : (file : List ℕ) (most : ℕ → ℕ) (journal : JournalState D) → IsReady seen may_leave file most journal → (image : List ℕ) → may_leave journal.disk image → Keeps file image × IsClosable image
+  pub ready_keeps : (file : List ℕ) (most : Identity → ℕ) (journal : JournalState D) → IsReady seen may_leave file most journal → (image : List ℕ) → may_leave journal.disk image → Keeps file image × IsClosable image
   ready_keeps file most journal ready image now =
       let rest = ready_rests file most journal ready image now in
       (keeps_read file image ready.frames journal.place ready.keeps rest.read, rest_closable image ready.frames journal.place rest)
 
   -- a journal that is ready leaves what is between
-  pub ready_images : (file : List ℕ) (most : ℕ → ℕ) (journal : JournalState D) → IsReady seen may_leave file most journal → (image : List ℕ) → may_leave journal.disk image → IsBetween journal most image
+  pub ready_images : (file : List ℕ) (most : Identity → ℕ) (journal : JournalState D) → IsReady seen may_leave file most journal → (image : List ℕ) → may_leave journal.disk image → IsBetween journal most image
   ready_images file most journal ready image now = (
     record { frames = ready.frames; end = journal.place },
     (ready_rests file most journal ready image now).read,
-    λ i inside. (
-      subst (λ (n : ℕ). reserved_at journal i ≤ n) (ready.same (imsi_at journal.imsis i)) (omega arith),
-      subst (λ (n : ℕ). n ≤ most i) (ready.same (imsi_at journal.imsis i)) (ready.below i inside),
-    ),
+    λ imsi. (omega (arith, ready.same imsi), omega (arith, ready.same imsi, ready.below imsi)),
   )
 
-  ready_durable : (from : D) (most : ℕ → ℕ) (journal : JournalState D) → ((told : IsTold seen may_leave from) → IsReady seen may_leave told.0 most journal) → IsDurable seen may_leave from most journal
+  ready_durable : (from : D) (most : Identity → ℕ) (journal : JournalState D) → ((told : IsTold seen may_leave from) → IsReady seen may_leave told.0 most journal) → IsDurable seen may_leave from most journal
   ready_durable from most journal ready = record {
     images = λ told image now. ready_images told.0 most journal (ready told) image now;
     keeps = λ told image now. ready_keeps told.0 most journal (ready told) image now;
@@ -74,34 +71,45 @@ module _ {D : Type 0} (seen : D → Option (List ℕ)) (may_leave : D → List �
   }
 
   -- a greater bound is one too
-  pub durable_more : (from : D) (most more : ℕ → ℕ) (journal : JournalState D) → ((i : ℕ) → i < length journal.imsis → most i ≤ more i)
+  pub durable_more : (from : D) (most more : Identity → ℕ) (journal : JournalState D) → ((imsi : Identity) → most imsi ≤ more imsi)
       → IsDurable seen may_leave from most journal → IsDurable seen may_leave from more journal
   durable_more from most more journal le is = record {
     images = λ told image now.
         let was = is.images told image now in
-        (was.0, was.1, λ i inside. ((was.2 i inside).0, omega (arith, le i inside, (was.2 i inside).1)));
+        (was.0, was.1, λ imsi. ((was.2 imsi).0, omega (arith, le imsi, (was.2 imsi).1)));
     keeps = is.keeps;
     ready = λ told kept.
         let was = is.ready told kept in
-        record { frames = was.frames; settled = was.settled; keeps = was.keeps; same = was.same; below = λ i inside. omega (arith, le i inside, was.below i inside); tells = was.tells };
+        record { frames = was.frames; settled = was.settled; keeps = was.keeps; same = was.same; below = λ imsi. omega (arith, le imsi, was.below imsi); tells = was.tells };
+  }
+
+  -- it doesn't matter which subscribers have places
+  pub durable_named : (from : D) (most : Identity → ℕ) (journal : JournalState D) (imsis : List Identity) → IsDurable seen may_leave from most journal
+      → IsDurable seen may_leave from most (record journal { imsis = imsis })
+  durable_named from most journal imsis is = record {
+    images = is.images;
+    keeps = is.keeps;
+    ready = λ told kept.
+        let was = is.ready told kept in
+        record { frames = was.frames; settled = was.settled; keeps = was.keeps; same = was.same; below = was.below; tells = was.tells };
   }
 
   -- a journal that was opened
   pub opened_durable : (from : D) (journal : JournalState D) → Opens seen may_leave from journal.disk journal.limits journal.place → is_some (seen journal.disk) ≡ is_some (seen from)
-      → IsDurable seen may_leave from (λ i. reserved_at journal i) journal
-  opened_durable from journal opens tells = ready_durable from (λ i. reserved_at journal i) journal (λ told. record {
+      → IsDurable seen may_leave from (λ imsi. reserved_in journal.limits imsi) journal
+  opened_durable from journal opens tells = ready_durable from (λ imsi. reserved_in journal.limits imsi) journal (λ told. record {
     frames = opens.frames;
     settled = opens.settled;
     keeps = λ imsi. subst (λ (n : ℕ). n ≤ reserved_in opens.frames imsi) (sym (reserved-read told.0 opens.frames journal.place imsi (opens.read told.0 told.1))) (omega arith);
     same = opens.are.same;
-    below = λ i inside. omega arith;
+    below = λ imsi. omega arith;
     tells = tells ∙ ap is_some told.1;
   })
 
-  module _ (from : D) (most : ℕ → ℕ) (old new : JournalState D) (added : List Frame) (going : old.failed ≡ false) (imsis : new.imsis ≡ old.imsis)
-      (top : AdmitsAll old added most) (was : IsDurable seen may_leave from most old) where
-    below_after : (file : List ℕ) → IsReady seen may_leave file most old → (i : ℕ) → i < length old.imsis → max (reserved_at old i) (reserved_in added (imsi_at old.imsis i)) ≤ most i
-    below_after file ready i inside = omega (arith, ready.below i inside, top i inside)
+  module _ (from : D) (most : Identity → ℕ) (old new : JournalState D) (added : List Frame) (going : old.failed ≡ false)
+      (top : AdmitsAll added most) (was : IsDurable seen may_leave from most old) where
+    below_after : (file : List ℕ) → IsReady seen may_leave file most old → (imsi : Identity) → max (reserved_in old.limits imsi) (reserved_in added imsi) ≤ most imsi
+    below_after file ready imsi = omega (arith, ready.below imsi, top imsi)
 
     -- after an append that succeeded
     pub appended_durable : AreLimits new.limits (old.limits ++ added)
@@ -117,35 +125,26 @@ module _ {D : Type 0} (seen : D → Option (List ℕ)) (may_leave : D → List �
               are.same imsi ∙ reserved-append old.limits added imsi
               ∙ ap (λ (n : ℕ). max n (reserved_in added imsi)) (ready.same imsi)
               ∙ sym (reserved-append ready.frames added imsi);
-          below = λ i inside.
-              subst (λ (l : List Identity). reserved_in new.limits (imsi_at l i) ≤ most i) (sym imsis)
-              (subst (λ (n : ℕ). n ≤ most i) (sym (are.same (imsi_at old.imsis i) ∙ reserved-append old.limits added (imsi_at old.imsis i))) (below_after told.0 ready i (subst (λ (l : List Identity). i < length l) imsis inside)));
+          below = λ imsi. subst (λ (n : ℕ). n ≤ most imsi) (sym (are.same imsi ∙ reserved-append old.limits added imsi)) (below_after told.0 ready imsi);
           tells = tells ∙ ready.tells;
         })
 
-    abbrev Between : List Frame → List Identity → List Frame → Type 0
-    Between limits identities frames =
-        (i : ℕ) → i < length identities → (reserved_in limits (imsi_at identities i) ≤ reserved_in frames (imsi_at identities i)) × (reserved_in frames (imsi_at identities i) ≤ most i)
+    abbrev Between : List Frame → List Frame → Type 0
+    Between limits frames = (imsi : Identity) → (reserved_in limits imsi ≤ reserved_in frames imsi) × (reserved_in frames imsi ≤ most imsi)
 
-    between_old : (frames : List Frame) → new.limits ≡ old.limits → Between old.limits old.imsis frames → AreBetween new most frames
-    between_old frames limits are = subst (λ (l : List Identity). Between new.limits l frames) (sym imsis) (subst (λ (l : List Frame). Between l old.imsis frames) (sym limits) are)
+    between_old : (frames : List Frame) → new.limits ≡ old.limits → Between old.limits frames → AreBetween new most frames
+    between_old frames limits are = subst (λ (l : List Frame). Between l frames) (sym limits) are
 
     -- the frames from before are between
-    before_is : (file : List ℕ) (ready : IsReady seen may_leave file most old) → Between old.limits old.imsis ready.frames
-    before_is file ready i inside = (
-      subst (λ (n : ℕ). reserved_at old i ≤ n) (ready.same (imsi_at old.imsis i)) (omega arith),
-      subst (λ (n : ℕ). n ≤ most i) (ready.same (imsi_at old.imsis i)) (ready.below i inside),
-    )
+    before_is : (file : List ℕ) (ready : IsReady seen may_leave file most old) → Between old.limits ready.frames
+    before_is file ready imsi = (omega (arith, ready.same imsi), omega (arith, ready.same imsi, ready.below imsi))
 
     -- and so are these with the new ones
-    after_is : (file : List ℕ) (ready : IsReady seen may_leave file most old) → Between old.limits old.imsis (ready.frames ++ added)
-    after_is file ready i inside =
-        let imsi = imsi_at old.imsis i in
-        let is : max (reserved_at old i) (reserved_in added imsi) ≡ reserved_in (ready.frames ++ added) imsi =
-        ap (λ (n : ℕ). max n (reserved_in added imsi)) (ready.same imsi) ∙ sym (reserved-append ready.frames added imsi) in (
-          subst (λ (n : ℕ). reserved_at old i ≤ n) is (omega arith),
-          subst (λ (n : ℕ). n ≤ most i) is (below_after file ready i inside),
-        )
+    after_is : (file : List ℕ) (ready : IsReady seen may_leave file most old) → Between old.limits (ready.frames ++ added)
+    after_is file ready imsi =
+        let is : max (reserved_in old.limits imsi) (reserved_in added imsi) ≡ reserved_in (ready.frames ++ added) imsi =
+        ap (λ (n : ℕ). max n (reserved_in added imsi)) (ready.same imsi) ∙ sym (reserved-append ready.frames added imsi) in
+        (omega (arith, is), subst (λ (n : ℕ). n ≤ most imsi) is (below_after file ready imsi))
 
     -- after one that failed
     pub failed_durable : (size : ℕ) (moment : D → ℕ) (left_since : D → ℕ → List ℕ → Type 0) (counts_now : (disk : D) (t : ℕ) (image : List ℕ) → t ≤ moment disk → may_leave disk image → left_since disk t image)
@@ -172,12 +171,10 @@ module _ {D : Type 0} (seen : D → Option (List ℕ)) (may_leave : D → List �
             let is = left told.0 ready image now in
             (keeps_append told.0 image ready.frames old.place added size ready.keeps is.0, is.1)
 
--- a bound for a subscriber's limit is one for its frame
-pub admits_frame : (imsis : List Identity) (sub : ℕ) (frame : Frame) (most : ℕ → ℕ) → frame.imsi ≡ imsi_at imsis sub → ((i : ℕ) → i < length imsis → imsi_at imsis i ≡ imsi_at imsis sub → frame.limit ≤ most i)
-    → (i : ℕ) → i < length imsis → reserved_in (frame ∷ []) (imsi_at imsis i) ≤ most i
-admits_frame imsis sub frame most own admits i inside =
-    by (same_identity frame.imsi (imsi_at imsis i)) (λ same. admits i inside (sym (same_is frame.imsi (imsi_at imsis i) same) ∙ own))
+-- a bound for an identity's limit is one for its frame
+pub admits_frame : (frame : Frame) (most : Identity → ℕ) → frame.limit ≤ most frame.imsi → AdmitsAll (frame ∷ []) most
+admits_frame frame most admits imsi = by (same_identity frame.imsi imsi) (λ same. subst (λ (i : Identity). frame.limit ≤ most i) (same_is frame.imsi imsi same) admits)
   where
-    by : (b : Bool) → (b ≡ true → frame.limit ≤ most i) → (if b then max frame.limit 0 else 0) ≤ most i
+    by : (b : Bool) → (b ≡ true → frame.limit ≤ most imsi) → (if b then max frame.limit 0 else 0) ≤ most imsi
     by true low = omega (arith, low refl)
     by false low = omega arith

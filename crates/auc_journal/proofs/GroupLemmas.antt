@@ -7,7 +7,6 @@ use Rattle.std.proofs.lemmas.List.Elements.{All-append}
 use Rattle.auc_edge.specs.Identity.{Identity, IsIdentity}
 use Rattle.auc_sqn.specs.Number.{max_seq}
 use Rattle.auc_journal.specs.InnerBody.{IsBody, IsFrame}
-use Rattle.auc_journal.specs.Limits.{AreLimits}
 use Rattle.auc_journal.specs.Settled.{IsAppendingAll, IsSettled, LeavesOnly}
 use Rattle.auc_journal.specs.Image.{Frame, group_of}
 use Rattle.auc_journal.specs.Journal.{frame_at, frames_at}
@@ -54,10 +53,6 @@ pub group_body : (imsis : List Identity) (items : List (ℕ × ℕ)) → (2 ≤ 
 group_body imsis items count fit =
     let l = length-map items (frame_at imsis) in
     group_good (frames_at imsis items) (omega (arith, l, count.0)) (omega (arith, l, count.1)) fit
-
--- the limits with theirs
-pub group_limits : (limits after : List Frame) (imsis own : List Identity) (items : List (ℕ × ℕ)) → imsis ≡ own → AreLimits after (limits ++ frames_at imsis items) → AreLimits after (limits ++ frames_at own items)
-group_limits limits after imsis own items is = subst (λ (l : List Identity). AreLimits after (limits ++ frames_at l items)) is
 
 module _ {D : Type 0} (seen : D → Option (List ℕ)) (may_leave : D → List ℕ → Type 0) (moment : D → ℕ) (left_since : D → ℕ → List ℕ → Type 0)
     (old new : D) (place : ℕ) (imsis own : List Identity) (is : imsis ≡ own) (items : List (ℕ × ℕ)) where

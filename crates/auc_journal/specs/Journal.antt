@@ -8,7 +8,9 @@ pub record JournalState (D : Type 0) : Type 0 where
   pub disk : D
   -- the place of the closed gate
   pub place : ℕ
-  -- the identities of the subscribers, in their order
+  -- the identities of the subscribers for which it was opened
+  pub all : List Identity
+  -- the identities of those that have places now, in their order
   pub imsis : List Identity
   -- each identity of the file once, with its limit
   pub limits : List Frame

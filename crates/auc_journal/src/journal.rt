@@ -1,8 +1,9 @@
 //! Journals.
 
-ghost use Rattle.std.specs.Prelude.{◌≡◌, ◌≢◌, ◌≤◌, ◌<◌, ◌+◌, ◌*◌, ◌^◌, ◌++◌, [], ◌∷◌, ◌↔◌, ℕ, List, Some, Err, false, true, length, All, ◌==◌, if◌then◌else◌, IfOk, IfErr, OnOk, OnErr, IsErrOf};
+ghost use Rattle.std.specs.Prelude.{◌≡◌, ◌≢◌, ◌≤◌, ◌<◌, ◌+◌, ◌*◌, ◌^◌, ◌++◌, [], ◌∷◌, ◌↔◌, ℕ, List, Some, Err, false, true, length, All, Contains, ◌==◌, if◌then◌else◌, IfOk, IfErr, OnOk, OnErr, IsErrOf};
 ghost use Rattle.std.specs.Option.{is_some};
 ghost use Rattle.auc_edge.specs.Faults.{Rose};
+ghost use Rattle.auc_edge.specs.Identity.{Identity};
 ghost use Rattle.auc_sqn.specs.Number.{max_seq};
 ghost use Rattle.auc_journal.specs.Image.{Frame, read_image, reserved_in};
 ghost use Rattle.auc_journal.specs.Durable.{Admits, AdmitsAll, IsDurable};
@@ -19,18 +20,19 @@ use crate::log::Log;
 use crate::open_refused::OpenRefused;
 use crate::open_why::OpenWhy;
 use crate::opening::open_file;
+use crate::places::Places;
 use crate::spelling::spell;
 use auc_disk::Disk;
 use auc_edge::Imsi;
 use std::alloc::Global;
 use std::marker::Model;
 
-/// A journal on a disk, for subscribers that have the places 0, 1 and so on. After an append that answered
-/// `StoreFault` it takes no further one.
+/// A journal on a disk, for subscribers that have the places 0, 1 and so on: those for which it was opened, or
+/// some of them that were named since. After an append that answered `StoreFault` it takes no further one.
 #[derive(Drop)]
 pub struct Journal<D: Disk + Drop> {
     log: Log<D>,
-    imsis: Vec<Imsi>,
+    places: Places,
     limits: LimitList,
     failed: bool,
 }
@@ -42,9 +44,9 @@ impl<D: Disk + Drop> Model for Journal<D> {
 
     ghost Value = { JournalState D };
 
-    ghost view = { λ j. record { disk = j.log.disk; place = j.log.place; imsis = j.imsis.items; limits = j.limits.written; failed = j.failed } };
+    ghost view = { λ j. record { disk = j.log.disk; place = j.log.place; all = j.places.all; imsis = j.places.imsis; limits = j.limits.written; failed = j.failed } };
 
-    ghost invariant = { λ j. (j.log.place ≤ 2 ^ 30) × (missing j.imsis.items j.limits.written ≤ j.limits.left) };
+    ghost invariant = { λ j. (j.log.place ≤ 2 ^ 30) × (missing j.places.all j.limits.written ≤ j.limits.left) };
 }
 
 impl<D: Disk + Drop> Journal<D> {
@@ -53,14 +55,14 @@ impl<D: Disk + Drop> Journal<D> {
     pub fn open(alloc: Global, disk: D, imsis: &[Imsi]) -> Result<Journal<D>, OpenRefused<D>>
         ensures opened { IfOk result (λ journal.
             Opens D.seen D.may_leave disk journal.disk journal.limits journal.place) }
+        ensures all { IfOk result (λ journal. journal.all ≡ imsis.now) }
         ensures subscribers { IfOk result (λ journal. journal.imsis ≡ imsis.now) }
         ensures ready { IfOk result (λ journal. journal.failed ≡ false) }
         ensures quiet { IfOk result (λ journal. D.faults journal.disk ≡ D.faults disk) }
 
-        // If the disk told its bytes, a crash leaves journals with just these limits, and with those that the file reserves for
-        // any other identity.
+        // If the disk told its bytes, a crash leaves journals with just these limits.
         ensures durable { IfOk result (λ journal.
-            IsDurable D.seen D.may_leave disk (λ sub. reserved_at journal sub) journal) }
+            IsDurable D.seen D.may_leave disk (λ imsi. reserved_in journal.limits imsi) journal) }
 
         // If the file is no journal, it says where. It answers StoreFault only if the count of faults rose.
         ensures not_journal { IfErr result (λ refused. (place : ℕ) → refused.why ≡ why.NotJournal place
@@ -93,7 +95,7 @@ impl<D: Disk + Drop> Journal<D> {
         ensures value { result ≡ reserved_at self.now sub }
         ensures number { result ≤ max_seq }
     {
-        self.limits.limit_of(self.imsis[sub as usize])
+        self.limits.limit_of(self.places.at(sub))
     }
 
     /// Each identity of the file with its limit, in the order of their first frames.
@@ -101,6 +103,23 @@ impl<D: Disk + Drop> Journal<D> {
         ensures { result.now.written ≡ self.now.limits }
     {
         &self.limits
+    }
+
+    /// From now on these subscribers have the places 0, 1 and so on, and no other has one. The journal was opened
+    /// for each of them. It takes no memory, and the limits stay.
+    pub fn name_some(&mut self, imsis: Vec<Imsi>)
+        requires { All (Contains self.old.all) imsis.items }
+        ensures { self.new ≡ record self.old { imsis = imsis.items } }
+    {
+        self.places.name_some(imsis);
+    }
+
+    /// From now on all subscribers for which the journal was opened have places, as after its opening. It takes no
+    /// memory, and the limits stay.
+    pub fn name_all(&mut self)
+        ensures { self.new ≡ record self.old { imsis = self.old.all } }
+    {
+        self.places.name_all();
     }
 
     /// The disk, as the last call left it.
@@ -122,6 +141,7 @@ impl<D: Disk + Drop> Journal<D> {
         ensures limits { OnOk result
             (AreLimits self.new.limits (self.old.limits ++ frame_for self.old sub limit ∷ [])) }
         ensures place { OnOk result (self.new.place ≡ self.old.place + 19) }
+        ensures all { self.new.all ≡ self.old.all }
         ensures subscribers { self.new.imsis ≡ self.old.imsis }
         ensures kept { OnErr result
             ((self.new.limits ≡ self.old.limits) × (self.new.place ≡ self.old.place)) }
@@ -141,7 +161,7 @@ impl<D: Disk + Drop> Journal<D> {
 
         // Whatever it answers, a crash leaves limits that are no lower, and none above a bound that admits the
         // new one.
-        ensures bounded { (from : D) (most : ℕ → ℕ) → Admits self.old sub limit most
+        ensures bounded { (from : D) (most : Identity → ℕ) → Admits self.old sub limit most
             → IsDurable D.seen D.may_leave from most self.old
             → IsDurable D.seen D.may_leave from most self.new }
 
@@ -158,7 +178,7 @@ impl<D: Disk + Drop> Journal<D> {
         // It makes four calls of the disk at most.
         ensures calls { D.calls self.new.disk ≤ D.calls self.old.disk + 4 }
     {
-        let imsi = self.imsis[sub as usize];
+        let imsi = self.places.at(sub);
         match self.log.append(imsi, limit) {
             Ok(()) => {
                 raise(&mut self.limits, imsi, limit);
@@ -184,6 +204,7 @@ impl<D: Disk + Drop> Journal<D> {
         ensures limits { OnOk result
             (AreLimits self.new.limits (self.old.limits ++ frames_for self.old items.now)) }
         ensures place { OnOk result (self.new.place ≡ self.old.place + (4 + 17 * length items.now)) }
+        ensures all { self.new.all ≡ self.old.all }
         ensures subscribers { self.new.imsis ≡ self.old.imsis }
         ensures kept { OnErr result
             ((self.new.limits ≡ self.old.limits) × (self.new.place ≡ self.old.place)) }
@@ -203,7 +224,7 @@ impl<D: Disk + Drop> Journal<D> {
 
         // Whatever it answers, a crash leaves limits that are no lower, and none above a bound that admits the
         // new ones.
-        ensures bounded { (from : D) (most : ℕ → ℕ) → AdmitsAll self.old (frames_for self.old items.now) most
+        ensures bounded { (from : D) (most : Identity → ℕ) → AdmitsAll (frames_for self.old items.now) most
             → IsDurable D.seen D.may_leave from most self.old
             → IsDurable D.seen D.may_leave from most self.new }
 
@@ -220,10 +241,10 @@ impl<D: Disk + Drop> Journal<D> {
         // It makes four calls of the disk at most.
         ensures calls { D.calls self.new.disk ≤ D.calls self.old.disk + 4 }
     {
-        let group = spell(&self.imsis, items);
+        let group = spell(self.places.imsis(), items);
         match self.log.append_bytes(&group.bytes[..group.len]) {
             Ok(()) => {
-                raise_group(&mut self.limits, &self.imsis, items);
+                raise_group(&mut self.limits, &self.places, items);
                 Ok(())
             }
             Err(AppendRefusal::StoreFault) => {
@@ -241,6 +262,7 @@ impl<D: Disk + Drop> Journal<D> {
         ensures { result ≡ record {
           disk = disk;
           place = opened.place;
+          all = opened.imsis.items;
           imsis = opened.imsis.items;
           limits = opened.limits.written;
           failed = false;
@@ -253,7 +275,7 @@ impl<D: Disk + Drop> Journal<D> {
         } = opened;
         Journal {
             log: Log { disk, place },
-            imsis,
+            places: Places::of(imsis),
             limits,
             failed: false,
         }
@@ -311,15 +333,15 @@ fn raise(limits: &mut LimitList, imsi: Imsi, limit: u64)
 }
 
 // Raises the limits of several subscribers, for which there is room.
-fn raise_group(limits: &mut LimitList, imsis: &[Imsi], items: &[(u32, u64)])
+fn raise_group(limits: &mut LimitList, places: &Places, items: &[(u32, u64)])
     requires some { 1 ≤ length items.now }
-    requires subs { All (λ item. item.0 < length imsis.now) items.now }
+    requires subs { All (λ item. item.0 < length places.now.imsis) items.now }
     requires limits { All (λ item. (1 ≤ item.1) × (item.1 ≤ max_seq)) items.now }
-    requires room { missing imsis.now limits.old.written ≤ limits.old.left }
-    ensures are { AreLimits limits.new.written (limits.old.written ++ frames_at imsis.now items.now) }
-    ensures room { missing imsis.now limits.new.written ≤ limits.new.left }
+    requires room { missing places.now.all limits.old.written ≤ limits.old.left }
+    ensures are { AreLimits limits.new.written (limits.old.written ++ frames_at places.now.imsis items.now) }
+    ensures room { missing places.now.all limits.new.written ≤ limits.new.left }
 {
     for item in items {
-        raise(limits, imsis[item.0 as usize], item.1);
+        raise(limits, places.at(item.0), item.1);
     }
 }

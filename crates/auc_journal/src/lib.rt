@@ -5,10 +5,10 @@
 //! next run begins above every number that was released. docs/journal.md draws the format, and says what a
 //! crash may leave and why.
 //!
-//! Contracts see a [`Journal`] as its disk, the place of its closed gate, its subscribers, the limit of each
-//! identity, and whether an append has failed. What is read of a file is defined on its bytes
-//! (`specs/Image`); what a crash may leave, while a journal is opened or appended to and after that, is said
-//! for every disk.
+//! Contracts see a [`Journal`] as its disk, the place of its closed gate, the subscribers for which it was
+//! opened and those that have places, the limit of each identity, and whether an append has failed. What is
+//! read of a file is defined on its bytes (`specs/Image`); what a crash may leave, while a journal is opened
+//! or appended to and after that, is said for every disk.
 //!
 //! An opening takes memory for the whole file and for the limits; an append takes none and makes at most
 //! four calls of the disk. Nothing here waits for another thread. The tests stand in `auc_number_tests`.
@@ -23,6 +23,7 @@ mod log;
 mod open_refused;
 mod open_why;
 mod opening;
+mod places;
 mod reading;
 mod spelling;
 

@@ -6,6 +6,7 @@ use Rattle.std.proofs.lemmas.Grind.{get_or-set_at}
 use Rattle.std.proofs.lemmas.List.{ext_get_or, get_or-set_other, length-map, length-set}
 use Rattle.std.proofs.lemmas.List.Elements.{All-head, All-tail}
 use Rattle.auc_edge.specs.Identity.{Identity}
+use Rattle.auc_journal.specs.Durable.{AdmitsAll}
 use Rattle.auc_journal.specs.Image.{reserved_in, same_identity}
 use Rattle.auc_journal.specs.Journal.{JournalState, frames_at, frames_for, imsi_at, limits_of, reserved_at}
 use Rattle.auc_journal.specs.Limits.{AreLimits}
@@ -90,22 +91,33 @@ set_before (item ∷ items) base (suc i) d apart inside =
     ∙ get_or-set_other base item.0 (get_or items i d).0 item.1 0 (λ at. apart_head item items apart i d (omega (arith, inside)) (sym at))
 
 -- a bound for each item's subscriber is one for what their frames reserve
-pub admits_group : (imsis : List Identity) → AllPairs (λ a b. a ≢ b) imsis → (most : ℕ → ℕ) (items : List (ℕ × ℕ)) → All (λ item. item.0 < length imsis) items → All (λ item. item.1 ≤ most item.0) items
-    → (i : ℕ) → i < length imsis → reserved_in (frames_at imsis items) (imsi_at imsis i) ≤ most i
-admits_group imsis differ most [] known below i inside = omega arith
-admits_group imsis differ most (item ∷ items) known below i inside =
-    by (same_identity (imsi_at imsis item.0) (imsi_at imsis i)) refl
-    (admits_group imsis differ most items (All-tail (λ (x : ℕ × ℕ). x.0 < length imsis) item items known) (All-tail (λ (x : ℕ × ℕ). x.1 ≤ most x.0) item items below) i inside)
+pub admits_group : (imsis : List Identity) (most : Identity → ℕ) (items : List (ℕ × ℕ)) → All (λ item. item.1 ≤ most (imsi_at imsis item.0)) items → AdmitsAll (frames_at imsis items) most
+admits_group imsis most [] below imsi = omega arith
+admits_group imsis most (item ∷ items) below imsi =
+    by (same_identity (imsi_at imsis item.0) imsi) refl (admits_group imsis most items (All-tail (λ (x : ℕ × ℕ). x.1 ≤ most (imsi_at imsis x.0)) item items below) imsi)
   where
     rest : ℕ
-    rest = reserved_in (frames_at imsis items) (imsi_at imsis i)
+    rest = reserved_in (frames_at imsis items) imsi
 
-    by : (test : Bool) → same_identity (imsi_at imsis item.0) (imsi_at imsis i) ≡ test → rest ≤ most i → (if test then max item.1 rest else rest) ≤ most i
+    by : (test : Bool) → same_identity (imsi_at imsis item.0) imsi ≡ test → rest ≤ most imsi → (if test then max item.1 rest else rest) ≤ most imsi
     by true same low =
-        let there = All-head (λ (x : ℕ × ℕ). x.0 < length imsis) item items known in
-        let at : item.0 ≡ i = one_place imsis differ item.0 i there inside (same_is (imsi_at imsis item.0) (imsi_at imsis i) same) in
-        omega (arith, low, All-head (λ (x : ℕ × ℕ). x.1 ≤ most x.0) item items below, ap most at)
+        let here = All-head (λ (x : ℕ × ℕ). x.1 ≤ most (imsi_at imsis x.0)) item items below in
+        omega (arith, low, here, ap most (same_is (imsi_at imsis item.0) imsi same))
     by false same low = low
+
+-- of an identity without a place they reserve nothing
+pub reserved_none : (imsis : List Identity) (items : List (ℕ × ℕ)) (imsi : Identity) → All (λ own. own ≢ imsi) imsis → All (λ item. item.0 < length imsis) items → reserved_in (frames_at imsis items) imsi ≡ 0
+reserved_none imsis [] imsi others known = refl
+reserved_none imsis (item ∷ items) imsi others known =
+    by (same_identity (imsi_at imsis item.0) imsi) refl (reserved_none imsis items imsi others (All-tail (λ (x : ℕ × ℕ). x.0 < length imsis) item items known))
+  where
+    rest : ℕ
+    rest = reserved_in (frames_at imsis items) imsi
+
+    by : (test : Bool) → same_identity (imsi_at imsis item.0) imsi ≡ test → rest ≡ 0 → (if test then max item.1 rest else rest) ≡ 0
+    by true same none =
+        absurd (others item.0 (record { digits = 0; number = 0 }) (All-head (λ (x : ℕ × ℕ). x.0 < length imsis) item items known) (same_is (imsi_at imsis item.0) imsi same))
+    by false same none = none
 
 length-set_all : (items : List (ℕ × ℕ)) (base : List ℕ) → length (set_all base items) ≡ length base
 length-set_all [] base = refl

@@ -1,6 +1,6 @@
 -- What holds since a round began, after a limit was reserved: for the keeper.
 use Rattle.std.proofs.Common.{◌≡◌, ◌≢◌, ℕ, zero, suc, ◌+◌, ◌*◌, ◌≤◌, ◌<◌, List, [], ◌∷◌, ◌++◌, All, get_or, length, ◌↔◌, refl, sym, ◌∙◌, ap, subst, arith, true≢false}
-use Rattle.std.specs.Prelude.{AllPairs, Bool, true, false, max, map, ◌^◌, slice_index, slice_set, Option, Some, None, Result, Ok, Err}
+use Rattle.std.specs.Prelude.{AllPairs, Bool, true, false, map, ◌^◌, slice_index, slice_set, Option, Some, None, Result, Ok, Err}
 use Rattle.std.proofs.lemmas.List.{length-map}
 use Rattle.std.proofs.lemmas.List.Elements.{All-cons, All-nil}
 use Rattle.auc_edge.specs.Faults.{Rose}
@@ -15,9 +15,9 @@ use Rattle.auc_journal.specs.Durable.{Admits, AdmitsAll, IsDurable, IsTold}
 use Rattle.auc_journal.specs.Journal.{JournalState, frame_for, frames_for, imsi_at, limits_of, reserved_at}
 use Rattle.auc_journal.specs.Limits.{AreLimits}
 use Rattle.auc_journal.specs.Settled.{IsAppendingAll, IsSettled, LeavesOnly}
-use Rattle.auc_journal.proofs.Facts.{durable_more, limits_at, limits_raised, one_place, reserved_rises}
-use Rattle.auc_keeper.specs.Keeper.{IsLeft, KeeperState, MayRise, Since, set_all}
-use Rattle.auc_keeper.proofs.GroupLemmas.{AreApart, admits_group, limits_set, reserved_all, set_own}
+use Rattle.auc_journal.proofs.Facts.{durable_more, limits_at, limits_raised, reserved-append}
+use Rattle.auc_keeper.specs.Keeper.{IsAbove, IsLeft, KeeperState, MayRise, Since, set_all}
+use Rattle.auc_keeper.proofs.GroupLemmas.{AreApart, admits_group, limits_set, reserved_none, set_own}
 use Rattle.auc_keeper.proofs.MomentLemmas.{append_left, begins_left, leaves_less, left_more}
 
 none_some : (stop : Option Stop) (why : Stop) → stop ≡ None → stop ≡ Some why → ⊥
@@ -31,9 +31,11 @@ pub not_failed : {T E : Type 0} (failed : Bool) (result : Result T E) (value : T
 not_failed true result value why ok both = absurd (ok_err result value why ok (both.0 refl))
 not_failed false result value why ok both = refl
 
--- a bound for the subscriber is one for each of its identity
-near_each : (seen : List ℕ) (most : ℕ → ℕ) (limit sub i : ℕ) → i ≡ sub → limit ≤ slice_index seen sub + 64 → limit ≤ max (most i) (slice_index seen i + 64)
-near_each seen most limit sub i at near = omega (arith, ap (slice_index seen) at, near)
+-- a bound above the number words is one for a subscriber's limit
+near_own : (own imsis : List Identity) (seen : List ℕ) (most more : Identity → ℕ) (limit sub : ℕ) → own ≡ imsis → IsAbove imsis seen most more → sub < length own → limit ≤ slice_index seen sub + 64 → limit ≤ more (imsi_at own sub)
+near_own own imsis seen most more limit sub same above there near =
+    let high = above.admits sub (subst (λ (l : List Identity). sub < length l) same there) in
+    omega (arith, near, high, ap (λ (l : List Identity). more (imsi_at l sub)) same)
 
 some_stop : (a b : Stop) → Some a ≡ Some b → a ≡ b
 some_stop a b same = cc
@@ -50,6 +52,13 @@ seen_rises (n ∷ seen) zero word zero le = le
 seen_rises (n ∷ seen) zero word (suc i) le = omega arith
 seen_rises (n ∷ seen) (suc sub) word zero le = omega arith
 seen_rises (n ∷ seen) (suc sub) word (suc i) le = seen_rises seen sub word i le
+
+-- a bound above the number words after a look is one above them before it
+above_before : (imsis : List Identity) (seen : List ℕ) (sub word : ℕ) (most more : Identity → ℕ) → slice_index seen sub ≤ word → IsAbove imsis (slice_set seen sub word) most more → IsAbove imsis seen most more
+above_before imsis seen sub word most more le above = record {
+  keeps = above.keeps;
+  admits = λ i inside. let rise = seen_rises seen sub word i le in omega (arith, rise, above.admits i inside);
+}
 
 -- the limits of the pass are the journal's, after a group
 pub group_limits : {D : Type 0} (old : KeeperState D) (journal : JournalState D) (items : List (ℕ × ℕ)) → AllPairs (λ a b. a ≢ b) old.journal.imsis → old.pass.limits ≡ limits_of old.journal → AreApart items
@@ -92,15 +101,17 @@ module _ {D : Type 0} (seen : D → Option (List ℕ)) (may_leave : D → List �
   new_since only_now journal pass limits ready running = record {
     subscribers = refl;
     limits = limits;
-    rises = λ i inside. omega arith;
+    all = refl;
+    rises = λ imsi. omega arith;
+    others = λ imsi apart. refl;
     failed = (λ is. absurd (true≢false (sym is ∙ ready)), λ is. absurd (none_some pass.stop _ running is));
     fault = λ is. absurd (none_some pass.stop _ running is);
     quiet = λ other. refl;
     full = λ is. absurd (none_some pass.stop _ running is);
-    durable = λ from most was. durable_more seen may_leave from most (λ i. max (most i) (slice_index pass.seen i + 64)) journal (λ i inside. omega arith) was;
-    always = λ from most was told.
-        leaves_less moment left_since journal.disk journal.disk (IsLeft told.0 journal most) (IsLeft told.0 journal (λ i. max (most i) (slice_index pass.seen i + 64)))
-        (left_more told.0 journal most (λ i. max (most i) (slice_index pass.seen i + 64)) (λ i inside. omega arith)) (begins_left seen may_leave moment left_since only_now from most journal was told);
+    durable = λ from most more above was. durable_more seen may_leave from most more journal above.keeps was;
+    always = λ from most more above was told.
+        leaves_less moment left_since journal.disk journal.disk (IsLeft told.0 journal most) (IsLeft told.0 journal more)
+        (left_more told.0 journal most more above.keeps) (begins_left seen may_leave moment left_since only_now from most journal was told);
   }
 
   -- after a look at a number word
@@ -109,7 +120,9 @@ module _ {D : Type 0} (seen : D → Option (List ℕ)) (may_leave : D → List �
   looked_since opening old sub word le since = record {
     subscribers = since.subscribers;
     limits = since.limits;
+    all = since.all;
     rises = since.rises;
+    others = since.others;
     failed = since.failed;
     fault = since.fault;
     quiet = since.quiet;
@@ -117,137 +130,144 @@ module _ {D : Type 0} (seen : D → Option (List ℕ)) (may_leave : D → List �
         let needs = since.full is in
         let rise = seen_rises old.pass.seen sub word needs.1.0 le in
         (needs.0, (needs.1.0, needs.1.1, omega (arith, needs.1.2, rise)));
-    durable = λ from most was.
-        durable_more seen may_leave from (λ i. max (most i) (slice_index old.pass.seen i + 64)) (λ i. max (most i) (slice_index (slice_set old.pass.seen sub word) i + 64)) old.journal
-        (λ i inside. let rise = seen_rises old.pass.seen sub word i le in omega (arith, rise)) (since.durable from most was);
-    always = λ from most was told.
-        leaves_less moment left_since opening.disk old.journal.disk (IsLeft told.0 opening (λ i. max (most i) (slice_index old.pass.seen i + 64)))
-        (IsLeft told.0 opening (λ i. max (most i) (slice_index (slice_set old.pass.seen sub word) i + 64)))
-        (left_more told.0 opening (λ i. max (most i) (slice_index old.pass.seen i + 64)) (λ i. max (most i) (slice_index (slice_set old.pass.seen sub word) i + 64))
-        (λ i inside. let rise = seen_rises old.pass.seen sub word i le in omega (arith, rise))) (since.always from most was told);
+    durable = λ from most more above. since.durable from most more (above_before opening.imsis old.pass.seen sub word most more le above);
+    always = λ from most more above. since.always from most more (above_before opening.imsis old.pass.seen sub word most more le above);
   }
 
-  -- what an append leaves at any moment, if its bound is the one of the number words
+  -- what an append leaves at any moment, if each bound above the number words admits it
   append_always : (opening : JournalState D) (old : KeeperState D) (journal : JournalState D) (added : List Frame) (size : ℕ) → old.pass.stop ≡ None
-      → ((most : ℕ → ℕ) → AdmitsAll old.journal added (λ i. max (most i) (slice_index old.pass.seen i + 64))) → LeavesAppending old.journal journal added size
-      → Since seen may_leave faults moment left_since opening old → (from : D) (most : ℕ → ℕ) → IsDurable seen may_leave from most opening → (told : IsTold seen may_leave from)
-      → LeavesOnly moment left_since opening.disk journal.disk (IsLeft told.0 opening (λ i. max (most i) (slice_index old.pass.seen i + 64)))
-  append_always opening old journal added size running top leaves since from most was told =
-      append_left seen may_leave moment left_since told.0 (λ i. max (most i) (slice_index old.pass.seen i + 64)) opening old.journal added since.subscribers since.rises (top most)
-      ((since.durable from most was).ready told (going old.journal.failed (λ is. none_some old.pass.stop Fault running (since.failed.0 is))))
-      size journal.disk leaves (since.always from most was told)
+      → ((most more : Identity → ℕ) → IsAbove opening.imsis old.pass.seen most more → AdmitsAll added more) → LeavesAppending old.journal journal added size
+      → Since seen may_leave faults moment left_since opening old → (from : D) (most more : Identity → ℕ) → IsAbove opening.imsis old.pass.seen most more → IsDurable seen may_leave from most opening
+      → (told : IsTold seen may_leave from) → LeavesOnly moment left_since opening.disk journal.disk (IsLeft told.0 opening more)
+  append_always opening old journal added size running top leaves since from most more above was told =
+      append_left seen may_leave moment left_since told.0 more opening old.journal added since.rises (top most more above)
+      ((since.durable from most more above was).ready told (going old.journal.failed (λ is. none_some old.pass.stop Fault running (since.failed.0 is))))
+      size journal.disk leaves (since.always from most more above was told)
 
-  -- a bound for the number words is one for a subscriber's frame
-  frame_admitted : (old : KeeperState D) (sub limit : ℕ) (most : ℕ → ℕ) → AllPairs (λ a b. a ≢ b) old.journal.imsis → sub < length old.journal.imsis → limit ≤ slice_index old.pass.seen sub + 64
-      → AdmitsAll old.journal (frame_for old.journal sub limit ∷ []) (λ i. max (most i) (slice_index old.pass.seen i + 64))
-  frame_admitted old sub limit most differ there near =
-      admits_group old.journal.imsis differ (λ i. max (most i) (slice_index old.pass.seen i + 64)) ((sub, limit) ∷ [])
-      (single (λ item. item.0 < length old.journal.imsis) (sub, limit) there) (single (λ item. item.1 ≤ max (most item.0) (slice_index old.pass.seen item.0 + 64)) (sub, limit) (omega (arith, near)))
+  -- a bound above the number words is one for a subscriber's frame
+  frame_admitted : (opening : JournalState D) (old : KeeperState D) (sub limit : ℕ) → old.journal.imsis ≡ opening.imsis → sub < length old.journal.imsis → limit ≤ slice_index old.pass.seen sub + 64
+      → (most more : Identity → ℕ) → IsAbove opening.imsis old.pass.seen most more → AdmitsAll (frame_for old.journal sub limit ∷ []) more
+  frame_admitted opening old sub limit imsis there near most more above =
+      admits_group old.journal.imsis more ((sub, limit) ∷ [])
+      (single (λ item. item.1 ≤ more (imsi_at old.journal.imsis item.0)) (sub, limit) (near_own old.journal.imsis opening.imsis old.pass.seen most more limit sub imsis above there near))
+
+  -- what an append reserves beside the limits from before: no limit falls, and one of an identity without a place is as it was
+  appended_rises : (opening : JournalState D) (old : KeeperState D) (journal : JournalState D) (added : List Frame) → AreLimits journal.limits (old.journal.limits ++ added)
+      → Since seen may_leave faults moment left_since opening old → (imsi : Identity) → reserved_in opening.limits imsi ≤ reserved_in journal.limits imsi
+  appended_rises opening old journal added are since imsi = omega (arith, since.rises imsi, are.same imsi, reserved-append old.journal.limits added imsi)
+
+  appended_others : (opening : JournalState D) (old : KeeperState D) (journal : JournalState D) (items : List (ℕ × ℕ)) → AreLimits journal.limits (old.journal.limits ++ frames_for old.journal items)
+      → All (λ item. item.0 < length old.journal.imsis) items → Since seen may_leave faults moment left_since opening old
+      → (imsi : Identity) → All (λ own. own ≢ imsi) opening.imsis → reserved_in journal.limits imsi ≡ reserved_in opening.limits imsi
+  appended_others opening old journal items are known since imsi apart =
+      let none = reserved_none old.journal.imsis items imsi (subst (λ (l : List Identity). All (λ own. own ≢ imsi) l) (sym since.subscribers) apart) known in
+      omega (arith, since.others imsi apart, are.same imsi, reserved-append old.journal.limits (frames_for old.journal items) imsi, none)
 
   -- after an append that was refused
   pub stopped_since : (opening : JournalState D) (old : KeeperState D) (journal : JournalState D) (sub limit : ℕ) (why : Stop)
-      → old.pass.stop ≡ None → AllPairs (λ a b. a ≢ b) old.journal.imsis → sub < length old.journal.imsis → limit ≤ slice_index old.pass.seen sub + 64
-      → reserved_at old.journal sub < slice_index old.pass.seen sub → journal.imsis ≡ old.journal.imsis → journal.limits ≡ old.journal.limits → ((journal.failed ≡ true) ↔ (why ≡ Fault))
+      → old.pass.stop ≡ None → sub < length old.journal.imsis → limit ≤ slice_index old.pass.seen sub + 64
+      → reserved_at old.journal sub < slice_index old.pass.seen sub → journal.all ≡ old.journal.all → journal.imsis ≡ old.journal.imsis → journal.limits ≡ old.journal.limits → ((journal.failed ≡ true) ↔ (why ≡ Fault))
       → (why ≡ Fault → Rose (faults old.journal.disk) (faults journal.disk)) → (why ≢ Fault → faults journal.disk ≡ faults old.journal.disk) → (why ≡ Full → 2 ^ 30 < journal.place + 20)
-      → ((from : D) (most : ℕ → ℕ) → Admits old.journal sub limit most
+      → ((from : D) (most : Identity → ℕ) → Admits old.journal sub limit most
       → IsDurable seen may_leave from most old.journal → IsDurable seen may_leave from most journal)
       → LeavesAppending old.journal journal (frame_for old.journal sub limit ∷ []) 19
       → Since seen may_leave faults moment left_since opening old → Since seen may_leave faults moment left_since opening (record { journal = journal; pass = record old.pass { stop = Some why } })
-  stopped_since opening old journal sub limit why running differ there near above imsis limits failed rose quiet full bounded leaves since =
+  stopped_since opening old journal sub limit why running there near needs all imsis limits failed rose quiet full bounded leaves since =
       let before : faults old.journal.disk ≡ faults opening.disk = since.quiet (λ is. none_some old.pass.stop _ running is) in
       record {
         subscribers = imsis ∙ since.subscribers;
         limits = since.limits ∙ sym (λ i. map (λ imsi. reserved_in (limits i) imsi) (imsis i));
-        rises = λ i inside.
-            let same : reserved_at journal i ≡ reserved_at old.journal i = λ k. reserved_in (limits k) (imsi_at (imsis k) i) in
-            omega (arith, since.rises i inside, same);
+        all = all ∙ since.all;
+        rises = λ imsi. omega (arith, since.rises imsi, ap (λ (l : List Frame). reserved_in l imsi) limits);
+        others = λ imsi apart. ap (λ (l : List Frame). reserved_in l imsi) limits ∙ since.others imsi apart;
         failed = (λ is. ap Some (failed.0 is), λ is. failed.1 (some_stop why Fault is));
         fault = λ is. subst (λ (count : ℕ). Rose count (faults journal.disk)) before (rose (some_stop why Fault is));
         quiet = λ other. quiet (λ is. other (ap Some is)) ∙ before;
         full = λ is.
             let same : reserved_at journal sub ≡ reserved_at old.journal sub = λ k. reserved_in (limits k) (imsi_at (imsis k) sub) in
             let counts = ap (λ (l : List Identity). length l) imsis in
-            (full (some_stop why Full is), (sub, omega (arith, there, counts), omega (arith, same, above)));
-        durable = λ from most was.
-            bounded from (λ i. max (most i) (slice_index old.pass.seen i + 64))
-            (λ i inside same. near_each old.pass.seen most limit sub i (one_place old.journal.imsis differ i sub inside there same) near)
-            (since.durable from most was);
-        always = append_always opening old journal (frame_for old.journal sub limit ∷ []) 19 running (λ most. frame_admitted old sub limit most differ there near) leaves since;
+            (full (some_stop why Full is), (sub, omega (arith, there, counts), omega (arith, same, needs)));
+        durable = λ from most more above was.
+            bounded from more (near_own old.journal.imsis opening.imsis old.pass.seen most more limit sub since.subscribers above there near) (since.durable from most more above was);
+        always = append_always opening old journal (frame_for old.journal sub limit ∷ []) 19 running (frame_admitted opening old sub limit since.subscribers there near) leaves since;
       }
 
   pub reserved_since : (opening : JournalState D) (old : KeeperState D) (journal : JournalState D) (sub limit : ℕ)
       → old.pass.stop ≡ None → AllPairs (λ a b. a ≢ b) old.journal.imsis → sub < length old.journal.imsis
       → reserved_at old.journal sub < limit → limit ≤ slice_index old.pass.seen sub + 64
-      → journal.imsis ≡ old.journal.imsis → journal.failed ≡ false → faults journal.disk ≡ faults old.journal.disk
+      → journal.all ≡ old.journal.all → journal.imsis ≡ old.journal.imsis → journal.failed ≡ false → faults journal.disk ≡ faults old.journal.disk
       → AreLimits journal.limits (old.journal.limits ++ frame_for old.journal sub limit ∷ [])
-      → ((from : D) (most : ℕ → ℕ) → Admits old.journal sub limit most
+      → ((from : D) (most : Identity → ℕ) → Admits old.journal sub limit most
       → IsDurable seen may_leave from most old.journal → IsDurable seen may_leave from most journal)
       → LeavesAppending old.journal journal (frame_for old.journal sub limit ∷ []) 19
       → Since seen may_leave faults moment left_since opening old → Since seen may_leave faults moment left_since opening (record { journal = journal; pass = record old.pass { limits = slice_set old.pass.limits sub limit } })
-  reserved_since opening old journal sub limit running differ there less near imsis ready quiet are bounded leaves since = record {
+  reserved_since opening old journal sub limit running differ there less near all imsis ready quiet are bounded leaves since = record {
     subscribers = imsis ∙ since.subscribers;
     limits = ap (λ (l : List ℕ). slice_set l sub limit) since.limits ∙ sym (limits_raised old.journal journal sub limit imsis are differ there less);
-    rises = λ i inside. omega (arith, since.rises i inside, reserved_rises old.journal journal sub limit imsis are i);
+    all = all ∙ since.all;
+    rises = appended_rises opening old journal (frame_for old.journal sub limit ∷ []) are since;
+    others = appended_others opening old journal ((sub, limit) ∷ []) are (single (λ item. item.0 < length old.journal.imsis) (sub, limit) there) since;
     failed = (λ is. absurd (true≢false (sym is ∙ ready)), λ is. absurd (none_some old.pass.stop _ running is));
     fault = λ is. absurd (none_some old.pass.stop _ running is);
     quiet = λ other. quiet ∙ since.quiet other;
     full = λ is. absurd (none_some old.pass.stop _ running is);
-    durable = λ from most was.
-        bounded from (λ i. max (most i) (slice_index old.pass.seen i + 64))
-        (λ i inside same. near_each old.pass.seen most limit sub i (one_place old.journal.imsis differ i sub inside there same) near)
-        (since.durable from most was);
-    always = append_always opening old journal (frame_for old.journal sub limit ∷ []) 19 running (λ most. frame_admitted old sub limit most differ there near) leaves since;
+    durable = λ from most more above was.
+        bounded from more (near_own old.journal.imsis opening.imsis old.pass.seen most more limit sub since.subscribers above there near) (since.durable from most more above was);
+    always = append_always opening old journal (frame_for old.journal sub limit ∷ []) 19 running (frame_admitted opening old sub limit since.subscribers there near) leaves since;
   }
 
-  -- a bound for the number words is one for the limits of a group
-  group_admitted : (old : KeeperState D) (most : ℕ → ℕ) (items : List (ℕ × ℕ)) → AllPairs (λ a b. a ≢ b) old.journal.imsis → All (λ item. item.0 < length old.journal.imsis) items
-      → All (λ item. MayRise old.pass item.0 item.1) items → AdmitsAll old.journal (frames_for old.journal items) (λ i. max (most i) (slice_index old.pass.seen i + 64))
-  group_admitted old most items differ known rise =
-      admits_group old.journal.imsis differ (λ i. max (most i) (slice_index old.pass.seen i + 64)) items known (λ j d more. omega (arith, (rise j d more).near))
+  -- a bound above the number words is one for the limits of a group
+  group_admitted : (opening : JournalState D) (old : KeeperState D) (items : List (ℕ × ℕ)) → old.journal.imsis ≡ opening.imsis → All (λ item. item.0 < length old.journal.imsis) items
+      → All (λ item. MayRise old.pass item.0 item.1) items → (most more : Identity → ℕ) → IsAbove opening.imsis old.pass.seen most more → AdmitsAll (frames_for old.journal items) more
+  group_admitted opening old items imsis known rise most more above =
+      admits_group old.journal.imsis more items
+      (λ j d inside. near_own old.journal.imsis opening.imsis old.pass.seen most more (get_or items j d).1 (get_or items j d).0 imsis above (known j d inside) (rise j d inside).near)
 
   -- after a group was reserved
   pub group_since : (opening : JournalState D) (old : KeeperState D) (journal : JournalState D) (items : List (ℕ × ℕ))
       → old.pass.stop ≡ None → AllPairs (λ a b. a ≢ b) old.journal.imsis → old.pass.limits ≡ limits_of old.journal → AreApart items → All (λ item. item.0 < length old.journal.imsis) items
-      → All (λ item. MayRise old.pass item.0 item.1) items → journal.imsis ≡ old.journal.imsis → journal.failed ≡ false → faults journal.disk ≡ faults old.journal.disk
+      → All (λ item. MayRise old.pass item.0 item.1) items → journal.all ≡ old.journal.all → journal.imsis ≡ old.journal.imsis → journal.failed ≡ false → faults journal.disk ≡ faults old.journal.disk
       → AreLimits journal.limits (old.journal.limits ++ frames_for old.journal items)
-      → ((from : D) (most : ℕ → ℕ) → AdmitsAll old.journal (frames_for old.journal items) most
+      → ((from : D) (most : Identity → ℕ) → AdmitsAll (frames_for old.journal items) most
       → IsDurable seen may_leave from most old.journal → IsDurable seen may_leave from most journal)
       → LeavesAppending old.journal journal (frames_for old.journal items) (4 + 17 * length items)
       → Since seen may_leave faults moment left_since opening old → Since seen may_leave faults moment left_since opening (record { journal = journal; pass = record old.pass { limits = set_all old.pass.limits items } })
-  group_since opening old journal items running differ limits apart known rise imsis ready quiet are bounded leaves since = record {
+  group_since opening old journal items running differ limits apart known rise all imsis ready quiet are bounded leaves since = record {
     subscribers = imsis ∙ since.subscribers;
     limits = group_limits old journal items differ limits apart known rise imsis are;
-    rises = λ i inside. omega (arith, since.rises i inside, reserved_all old.journal journal items imsis are i);
+    all = all ∙ since.all;
+    rises = appended_rises opening old journal (frames_for old.journal items) are since;
+    others = appended_others opening old journal items are known since;
     failed = (λ is. absurd (true≢false (sym is ∙ ready)), λ is. absurd (none_some old.pass.stop _ running is));
     fault = λ is. absurd (none_some old.pass.stop _ running is);
     quiet = λ other. quiet ∙ since.quiet other;
     full = λ is. absurd (none_some old.pass.stop _ running is);
-    durable = λ from most was. bounded from (λ i. max (most i) (slice_index old.pass.seen i + 64)) (group_admitted old most items differ known rise) (since.durable from most was);
-    always = append_always opening old journal (frames_for old.journal items) (4 + 17 * length items) running (λ most. group_admitted old most items differ known rise) leaves since;
+    durable = λ from most more above was. bounded from more (group_admitted opening old items since.subscribers known rise most more above) (since.durable from most more above was);
+    always = append_always opening old journal (frames_for old.journal items) (4 + 17 * length items) running (group_admitted opening old items since.subscribers known rise) leaves since;
   }
 
   -- after the append of a group failed
   pub group_stopped_since : (opening : JournalState D) (old : KeeperState D) (journal : JournalState D) (items : List (ℕ × ℕ))
-      → old.pass.stop ≡ None → AllPairs (λ a b. a ≢ b) old.journal.imsis → All (λ item. item.0 < length old.journal.imsis) items → All (λ item. MayRise old.pass item.0 item.1) items
-      → journal.imsis ≡ old.journal.imsis → journal.limits ≡ old.journal.limits → journal.failed ≡ true → Rose (faults old.journal.disk) (faults journal.disk)
-      → ((from : D) (most : ℕ → ℕ) → AdmitsAll old.journal (frames_for old.journal items) most
+      → old.pass.stop ≡ None → All (λ item. item.0 < length old.journal.imsis) items → All (λ item. MayRise old.pass item.0 item.1) items
+      → journal.all ≡ old.journal.all → journal.imsis ≡ old.journal.imsis → journal.limits ≡ old.journal.limits → journal.failed ≡ true → Rose (faults old.journal.disk) (faults journal.disk)
+      → ((from : D) (most : Identity → ℕ) → AdmitsAll (frames_for old.journal items) most
       → IsDurable seen may_leave from most old.journal → IsDurable seen may_leave from most journal)
       → LeavesAppending old.journal journal (frames_for old.journal items) (4 + 17 * length items)
       → Since seen may_leave faults moment left_since opening old → Since seen may_leave faults moment left_since opening (record { journal = journal; pass = record old.pass { stop = Some Fault } })
-  group_stopped_since opening old journal items running differ known rise imsis limits failed rose bounded leaves since =
+  group_stopped_since opening old journal items running known rise all imsis limits failed rose bounded leaves since =
       let before : faults old.journal.disk ≡ faults opening.disk = since.quiet (λ is. none_some old.pass.stop _ running is) in
       record {
         subscribers = imsis ∙ since.subscribers;
         limits = since.limits ∙ sym (λ i. map (λ imsi. reserved_in (limits i) imsi) (imsis i));
-        rises = λ i inside.
-            let same : reserved_at journal i ≡ reserved_at old.journal i = λ k. reserved_in (limits k) (imsi_at (imsis k) i) in
-            omega (arith, since.rises i inside, same);
+        all = all ∙ since.all;
+        rises = λ imsi. omega (arith, since.rises imsi, ap (λ (l : List Frame). reserved_in l imsi) limits);
+        others = λ imsi apart. ap (λ (l : List Frame). reserved_in l imsi) limits ∙ since.others imsi apart;
         failed = (λ is. refl, λ is. failed);
         fault = λ is. subst (λ (count : ℕ). Rose count (faults journal.disk)) before rose;
         quiet = λ other. absurd (other refl);
         full = λ is. absurd (no_full is);
-        durable = λ from most was. bounded from (λ i. max (most i) (slice_index old.pass.seen i + 64)) (group_admitted old most items differ known rise) (since.durable from most was);
-        always = append_always opening old journal (frames_for old.journal items) (4 + 17 * length items) running (λ most. group_admitted old most items differ known rise) leaves since;
+        durable = λ from most more above was. bounded from more (group_admitted opening old items since.subscribers known rise most more above) (since.durable from most more above was);
+        always = append_always opening old journal (frames_for old.journal items) (4 + 17 * length items) running (group_admitted opening old items since.subscribers known rise) leaves since;
       }
     where
       no_full : (let stop : Option Stop = Some Fault in stop) ≡ Some Full → ⊥

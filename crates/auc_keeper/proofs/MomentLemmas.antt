@@ -1,11 +1,11 @@
 -- What a crash may leave since a round began, also one during an append: for the keeper, and for the crates that use it.
-use Rattle.std.proofs.Common.{◌≡◌, inl, inr, ⊎_elim, ℕ, ◌+◌, ◌≤◌, ◌<◌, List, ◌++◌, length, Option, Some, None, refl, sym, ap, subst, arith}
+use Rattle.std.proofs.Common.{◌≡◌, inl, inr, ⊎_elim, ℕ, ◌+◌, ◌≤◌, List, ◌++◌, Option, Some, None, refl, sym, ap, subst, arith}
 use Rattle.std.specs.Prelude.{Result, Ok, true}
 use Rattle.std.specs.Option.{is_some}
 use Rattle.auc_edge.specs.Identity.{Identity}
 use Rattle.auc_journal.specs.Durable.{AdmitsAll, AreBetween, IsDurable, IsReady, IsTold}
 use Rattle.auc_journal.specs.Image.{Frame, Keeps, Reading, read_image, reserved_as, reserved_by, reserved_in}
-use Rattle.auc_journal.specs.Journal.{JournalState, imsi_at, reserved_at}
+use Rattle.auc_journal.specs.Journal.{JournalState}
 use Rattle.auc_journal.specs.Settled.{IsAppendingAll, IsBeforeOrAfter, IsSettled, LeavesOnly}
 use Rattle.auc_journal.proofs.Facts.{reserved-append}
 use Rattle.auc_keeper.specs.Keeper.{IsLeft}
@@ -31,11 +31,11 @@ leaves_less moment left_since old new P R less leaves = record {
 }
 
 -- a greater bound is one too
-pub left_more : {D : Type 0} (file : List ℕ) (opening : JournalState D) (most more : ℕ → ℕ) → ((i : ℕ) → i < length opening.imsis → most i ≤ more i) → (image : List ℕ) → IsLeft file opening most image → IsLeft file opening more image
+pub left_more : {D : Type 0} (file : List ℕ) (opening : JournalState D) (most more : Identity → ℕ) → ((imsi : Identity) → most imsi ≤ more imsi) → (image : List ℕ) → IsLeft file opening most image → IsLeft file opening more image
 left_more file opening most more le image is =
     let (reading, read, are) = is.between in
     record {
-      between = (reading, read, λ i inside. ((are i inside).0, omega (arith, le i inside, (are i inside).1)));
+      between = (reading, read, λ imsi. ((are imsi).0, omega (arith, le imsi, (are imsi).1)));
       keeps = is.keeps;
       closable = is.closable;
     }
@@ -47,7 +47,7 @@ told_file (Some file) is = (file, refl)
 
 module _ {D : Type 0} (seen : D → Option (List ℕ)) (may_leave : D → List ℕ → Type 0) (moment : D → ℕ) (left_since : D → ℕ → List ℕ → Type 0) where
   -- as a round begins
-  pub begins_left : ((disk : D) (image : List ℕ) → left_since disk (moment disk) image → may_leave disk image) → (from : D) (most : ℕ → ℕ) (opening : JournalState D) → IsDurable seen may_leave from most opening
+  pub begins_left : ((disk : D) (image : List ℕ) → left_since disk (moment disk) image → may_leave disk image) → (from : D) (most : Identity → ℕ) (opening : JournalState D) → IsDurable seen may_leave from most opening
       → (told : IsTold seen may_leave from) → LeavesOnly moment left_since opening.disk opening.disk (IsLeft told.0 opening most)
   begins_left only_now from most opening durable told = record {
     later = omega arith;
@@ -58,33 +58,17 @@ module _ {D : Type 0} (seen : D → Option (List ℕ)) (may_leave : D → List �
     before = λ t image le left. inl left;
   }
 
-  module _ (file : List ℕ) (most : ℕ → ℕ) (opening old : JournalState D) (added : List Frame) (imsis : old.imsis ≡ opening.imsis)
-      (rises : (i : ℕ) → i < length opening.imsis → reserved_at opening i ≤ reserved_at old i) (top : AdmitsAll old added most) (ready : IsReady seen may_leave file most old) where
-    -- for each of the journal's subscribers, by its place
-    abbrev Between : List Frame → List Identity → Type 0
-    Between frames identities =
-        (i : ℕ) → i < length opening.imsis → (reserved_at opening i ≤ reserved_in frames (imsi_at identities i)) × (reserved_in frames (imsi_at identities i) ≤ most i)
-
-    in_old : (i : ℕ) → i < length opening.imsis → i < length old.imsis
-    in_old i inside = omega (arith, inside, ap (λ (l : List Identity). length l) imsis)
-
+  module _ (file : List ℕ) (most : Identity → ℕ) (opening old : JournalState D) (added : List Frame)
+      (rises : (imsi : Identity) → reserved_in opening.limits imsi ≤ reserved_in old.limits imsi) (top : AdmitsAll added most) (ready : IsReady seen may_leave file most old) where
     -- the frames from before are between
     before_is : AreBetween opening most ready.frames
-    before_is = subst (Between ready.frames) imsis (λ i inside.
-        let low = rises i inside in
-        let high = ready.below i (in_old i inside) in
-        let same : reserved_at old i ≡ reserved_in ready.frames (imsi_at old.imsis i) = ready.same (imsi_at old.imsis i) in
-        (omega (arith, low, same), omega (arith, high, same)))
+    before_is imsi = (omega (arith, rises imsi, ready.same imsi), omega (arith, ready.below imsi, ready.same imsi))
 
     -- and so are these with the new ones
     after_is : AreBetween opening most (ready.frames ++ added)
-    after_is = subst (Between (ready.frames ++ added)) imsis (λ i inside.
-        let low = rises i inside in
-        let high = ready.below i (in_old i inside) in
-        let new = top i (in_old i inside) in
-        let same : reserved_at old i ≡ reserved_in ready.frames (imsi_at old.imsis i) = ready.same (imsi_at old.imsis i) in
-        let all = reserved-append ready.frames added (imsi_at old.imsis i) in
-        (omega (arith, low, same, all), omega (arith, high, new, same, all)))
+    after_is imsi =
+        let all = reserved-append ready.frames added imsi in
+        (omega (arith, rises imsi, ready.same imsi, all), omega (arith, ready.below imsi, top imsi, ready.same imsi, all))
 
     -- an image that is read as frames which keep what the file reserved keeps it
     keeps_read : (image : List ℕ) (frames : List Frame) (place : ℕ) → read_image image ≡ Ok (record { frames = frames; end = place }) → ((imsi : Identity) → reserved_by file imsi ≤ reserved_in frames imsi) → Keeps file image

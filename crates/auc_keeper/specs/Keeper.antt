@@ -1,13 +1,14 @@
 -- Keepers: what a reservation answers and leaves, and what holds of a keeper since its round began.
-use Rattle.std.specs.Prelude.{◌≡◌, ◌≢◌, ◌↔◌, ◌⊎◌, ℕ, ◌+◌, ◌*◌, ◌^◌, ◌<◌, ◌≤◌, max, min, List, [], ◌∷◌, ◌++◌, All, length, slice_index, slice_set, true, false, Option, Some, None}
+use Rattle.std.specs.Prelude.{◌≡◌, ◌≢◌, ◌↔◌, ◌⊎◌, ℕ, ◌+◌, ◌*◌, ◌^◌, ◌<◌, ◌≤◌, min, List, [], ◌∷◌, ◌++◌, All, length, slice_index, slice_set, true, false, Option, Some, None}
 use Rattle.auc_edge.specs.Faults.{Rose}
+use Rattle.auc_edge.specs.Identity.{Identity}
 use Rattle.auc_edge.specs.declared.stop.Stop.{Stop}
 use Rattle.auc_edge.specs.declared.stop.Stop.TheVariants.{Fault, Full}
 use Rattle.auc_sqn.specs.Number.{max_seq}
 use Rattle.auc_draw.specs.Values.{KeeperValue}
 use Rattle.auc_journal.specs.Durable.{IsBetween, IsDurable, IsTold}
-use Rattle.auc_journal.specs.Image.{Keeps}
-use Rattle.auc_journal.specs.Journal.{JournalState, NeedsFrame, frame_for, frames_for, limits_of, reserved_at}
+use Rattle.auc_journal.specs.Image.{Keeps, reserved_in}
+use Rattle.auc_journal.specs.Journal.{JournalState, NeedsFrame, frame_for, frames_for, imsi_at, limits_of, reserved_at}
 use Rattle.auc_journal.specs.Limits.{AreLimits}
 use Rattle.auc_journal.specs.Settled.{IsClosable, LeavesOnly}
 use Rattle.auc_keeper.specs.declared.keeper.Ensured.{Ensured}
@@ -28,6 +29,7 @@ limit_for n = min (n + 63) max_seq
 pub record Reserves {D : Type 0} (sub limit : ℕ) (old new : KeeperState D) : Type 0 where
   pub limits : AreLimits new.journal.limits (old.journal.limits ++ frame_for old.journal sub limit ∷ [])
   pub place : new.journal.place ≡ old.journal.place + 19
+  pub all : new.journal.all ≡ old.journal.all
   pub imsis : new.journal.imsis ≡ old.journal.imsis
   pub ready : new.journal.failed ≡ false
   pub raised : new.pass ≡ record old.pass { limits = slice_set old.pass.limits sub limit }
@@ -36,6 +38,7 @@ pub record Reserves {D : Type 0} (sub limit : ℕ) (old new : KeeperState D) : T
 pub record Stops {D : Type 0} (stop : Stop) (old new : KeeperState D) : Type 0 where
   pub limits : new.journal.limits ≡ old.journal.limits
   pub place : new.journal.place ≡ old.journal.place
+  pub all : new.journal.all ≡ old.journal.all
   pub imsis : new.journal.imsis ≡ old.journal.imsis
   pub failed : (new.journal.failed ≡ true) ↔ (stop ≡ Fault)
   -- it is full only if the file would have more than 2^30 bytes, and then nothing of it changed
@@ -84,6 +87,7 @@ pub record MayRise (pass : KeeperValue) (sub limit : ℕ) : Type 0 where
 pub record ReservesAll {D : Type 0} (items : List (ℕ × ℕ)) (old new : KeeperState D) : Type 0 where
   pub limits : AreLimits new.journal.limits (old.journal.limits ++ frames_for old.journal items)
   pub place : new.journal.place ≡ old.journal.place + (4 + 17 * length items)
+  pub all : new.journal.all ≡ old.journal.all
   pub imsis : new.journal.imsis ≡ old.journal.imsis
   pub ready : new.journal.failed ≡ false
   pub raised : new.pass ≡ record old.pass { limits = set_all old.pass.limits items }
@@ -105,9 +109,14 @@ pub record Prepares {D : Type 0} (items : List (ℕ × ℕ)) (old : KeeperState 
   -- and the group is passed, if the file would have more than 2^30 bytes
   pub full : old.pass.stop ≡ None → 2 ^ 30 < old.journal.place + 1 + (4 + 17 * length items) → result ≡ prepared.Passed (old.journal.place + 1)
 
+-- a bound is no lower than another one, and at least 64 above the number that was seen of each subscriber with a place
+pub record IsAbove (imsis : List Identity) (seen : List ℕ) (most more : Identity → ℕ) : Type 0 where
+  pub keeps : (imsi : Identity) → most imsi ≤ more imsi
+  pub admits : (i : ℕ) → i < length imsis → slice_index seen i + 64 ≤ more (imsi_at imsis i)
+
 -- what a crash may leave since a round began with this journal, on a disk that had told these bytes: limits between those of
 -- the opening and a bound, none of any identity below what the bytes reserve, and a gate that can be closed
-pub record IsLeft {D : Type 0} (file : List ℕ) (opening : JournalState D) (most : ℕ → ℕ) (image : List ℕ) : Type 0 where
+pub record IsLeft {D : Type 0} (file : List ℕ) (opening : JournalState D) (most : Identity → ℕ) (image : List ℕ) : Type 0 where
   pub between : IsBetween opening most image
   pub keeps : Keeps file image
   pub closable : IsClosable image
@@ -115,19 +124,22 @@ pub record IsLeft {D : Type 0} (file : List ℕ) (opening : JournalState D) (mos
 -- what holds of a keeper since its round began with this journal
 pub record Since {D : Type 0} (seen : D → Option (List ℕ)) (may_leave : D → List ℕ → Type 0) (faults moment : D → ℕ) (left_since : D → ℕ → List ℕ → Type 0) (opening : JournalState D) (k : KeeperState D) : Type 0 where
   pub subscribers : k.journal.imsis ≡ opening.imsis
+  pub all : k.journal.all ≡ opening.all
   -- the limits of the pass are the journal's, and none fell
   pub limits : k.pass.limits ≡ limits_of k.journal
-  pub rises : (i : ℕ) → i < length opening.imsis → reserved_at opening i ≤ reserved_at k.journal i
+  pub rises : (imsi : Identity) → reserved_in opening.limits imsi ≤ reserved_in k.journal.limits imsi
+  -- of an identity without a place it is as it was
+  pub others : (imsi : Identity) → All (λ own. own ≢ imsi) opening.imsis → reserved_in k.journal.limits imsi ≡ reserved_in opening.limits imsi
   -- it stopped for a fault exactly if an append failed, and only with a higher count of faults
   pub failed : (k.journal.failed ≡ true) ↔ (k.pass.stop ≡ Some Fault)
   pub fault : k.pass.stop ≡ Some Fault → Rose (faults opening.disk) (faults k.journal.disk)
   pub quiet : k.pass.stop ≢ Some Fault → faults k.journal.disk ≡ faults opening.disk
   -- and as full only if the file would have more than 2^30 bytes with the frame that it needed
   pub full : k.pass.stop ≡ Some Full → (2 ^ 30 < k.journal.place + 20) × NeedsFrame k.journal k.pass.seen
-  -- a crash leaves journals with these limits at least, and with none above that of the opening and 64 above the
-  -- number that was seen
-  pub durable : (from : D) (most : ℕ → ℕ) → IsDurable seen may_leave from most opening
-      → IsDurable seen may_leave from (λ i. max (most i) (slice_index k.pass.seen i + 64)) k.journal
+  -- a crash leaves journals with these limits at least, and with none above a bound that is no lower than that of the
+  -- opening, and at least 64 above the number that was seen of each subscriber with a place
+  pub durable : (from : D) (most more : Identity → ℕ) → IsAbove opening.imsis k.pass.seen most more → IsDurable seen may_leave from most opening
+      → IsDurable seen may_leave from more k.journal
   -- and so did a crash at any moment since the round began, also one during an append that failed
-  pub always : (from : D) (most : ℕ → ℕ) → IsDurable seen may_leave from most opening → (told : IsTold seen may_leave from)
-      → LeavesOnly moment left_since opening.disk k.journal.disk (IsLeft told.0 opening (λ i. max (most i) (slice_index k.pass.seen i + 64)))
+  pub always : (from : D) (most more : Identity → ℕ) → IsAbove opening.imsis k.pass.seen most more → IsDurable seen may_leave from most opening → (told : IsTold seen may_leave from)
+      → LeavesOnly moment left_since opening.disk k.journal.disk (IsLeft told.0 opening more)

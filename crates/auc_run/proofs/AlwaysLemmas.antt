@@ -2,6 +2,7 @@
 use Rattle.std.proofs.Common.{◌≡◌, ◌≢◌, ℕ, ◌<◌, ◌≤◌, List, [], ◌∷◌, length, map, Option, Some, inl, inr, refl, sym, ◌∙◌, ap, subst, arith}
 use Rattle.std.specs.Prelude.{slice_index}
 use Rattle.std.proofs.Math.ListN.{length-map}
+use Rattle.auc_edge.specs.Identity.{Identity}
 use Rattle.auc_journal.specs.Durable.{IsTold}
 use Rattle.auc_journal.specs.Image.{Frame, Keeps, reserved_in}
 use Rattle.auc_journal.specs.Journal.{JournalState, imsi_at, limits_of}
@@ -36,9 +37,10 @@ leaves_at {D} moment left_since old new disk P same leaves = subst (λ (d : D). 
 -- ---- from part to part
 
 -- what a round leaves, by what was reserved at first
-grown_of : {D : Type 0} (file : List ℕ) (rows : List Row) (reserved : List ℕ) (most : ℕ → ℕ) (journal : JournalState D) → journal.imsis ≡ map (λ row. row.imsi) rows
-    → ((sub : ℕ) → sub < length rows → slice_index reserved sub ≤ slice_index (limits_of journal) sub) → (image : List ℕ) → IsLeft file journal most image → IsGrown file rows reserved most image
-grown_of file rows reserved most journal subscribers above image is =
+grown_of : {D : Type 0} (file : List ℕ) (rows : List Row) (reserved : List ℕ) (most : Identity → ℕ) (more : ℕ → ℕ) (journal : JournalState D) → journal.imsis ≡ map (λ row. row.imsi) rows
+    → ((sub : ℕ) → sub < length rows → slice_index reserved sub ≤ slice_index (limits_of journal) sub) → ((sub : ℕ) → sub < length rows → most (imsi_at journal.imsis sub) ≤ more sub)
+    → (image : List ℕ) → IsLeft file journal most image → IsGrown file rows reserved more image
+grown_of file rows reserved most more journal subscribers above near image is =
     let count = count_of rows journal subscribers in
     record {
       reading = is.between.0;
@@ -48,13 +50,13 @@ grown_of file rows reserved most journal subscribers above image is =
           let at = limit_in rows journal is.between.0.frames sub subscribers inside in
           let here = limits_at journal sub within in
           let first = above sub inside in
-          let low = (is.between.2 sub within).0 in
+          let low = (is.between.2 (imsi_at journal.imsis sub)).0 in
           omega (arith, at, here, first, low);
       greatest = λ sub inside.
-          let within : sub < length journal.imsis = omega (arith, count, inside) in
           let at = limit_in rows journal is.between.0.frames sub subscribers inside in
-          let high = (is.between.2 sub within).1 in
-          omega (arith, at, high);
+          let high = (is.between.2 (imsi_at journal.imsis sub)).1 in
+          let bound = near sub inside in
+          omega (arith, at, high, bound);
       keeps = is.keeps;
       closable = is.closable;
     }
@@ -79,15 +81,15 @@ since_opening seen may_leave moment left_since rows from disk reserved most open
     leaves_less moment left_since from disk (IsOpening told.0) (IsSince told.0 rows reserved most) (λ image is. inl is) (opening told.0 told.1 told.2)
 
 -- and in a round more
-pub since_round : {D : Type 0} (moment : D → ℕ) (left_since : D → ℕ → List ℕ → Type 0) (file : List ℕ) (rows : List Row) (from : D) (reserved : List ℕ) (most bound more : ℕ → ℕ) (journal after : JournalState D)
+pub since_round : {D : Type 0} (moment : D → ℕ) (left_since : D → ℕ → List ℕ → Type 0) (file : List ℕ) (rows : List Row) (from : D) (reserved : List ℕ) (most more : ℕ → ℕ) (bound : Identity → ℕ) (journal after : JournalState D)
     → journal.imsis ≡ map (λ row. row.imsi) rows → ((sub : ℕ) → sub < length rows → slice_index reserved sub ≤ slice_index (limits_of journal) sub)
-    → ((sub : ℕ) → sub < length rows → (most sub ≤ more sub) × (bound sub ≤ more sub))
+    → ((sub : ℕ) → sub < length rows → (most sub ≤ more sub) × (bound (imsi_at journal.imsis sub) ≤ more sub))
     → LeavesOnly moment left_since from journal.disk (IsSince file rows reserved most) → LeavesOnly moment left_since journal.disk after.disk (IsLeft file journal bound)
     → LeavesOnly moment left_since from after.disk (IsSince file rows reserved more)
-since_round moment left_since file rows from reserved most bound more journal after subscribers above up so_far round =
+since_round moment left_since file rows from reserved most more bound journal after subscribers above up so_far round =
     both_leave moment left_since from journal.disk after.disk (IsSince file rows reserved most) (IsLeft file journal bound) (IsSince file rows reserved more)
     (since_more file rows reserved most more (λ sub inside. (up sub inside).0))
-    (λ image is. since_more file rows reserved bound more (λ sub inside. (up sub inside).1) image (inr (grown_of file rows reserved bound journal subscribers above image is)))
+    (λ image is. inr (grown_of file rows reserved bound more journal subscribers above (λ sub inside. (up sub inside).1) image is))
     so_far round
 
 -- ---- at the end

@@ -26,7 +26,7 @@ use Rattle.auc_run.specs.declared.status.Status.TheVariants as ended
 limit_by : (rows : List Row) (file : List ℕ) (frames : List Frame) (end sub : ℕ) → read_image file ≡ Ok (record { frames = frames; end = end }) → sub < length rows
     → slice_index (limits_in rows frames) sub ≡ reserved_by file (imsi_at (identities rows) sub)
 limit_by rows file frames end sub read inside =
-    let journal : JournalState (Unit {0}) = record { disk = tt; place = 0; imsis = identities rows; limits = frames; failed = false } in
+    let journal : JournalState (Unit {0}) = record { disk = tt; place = 0; all = identities rows; imsis = identities rows; limits = frames; failed = false } in
     let many = length-map rows (λ (row : Row). row.imsi) in
     limits_at journal sub (omega (arith, many, inside)) ∙ sym (ap (λ (r : Result Reading ℕ). reserved_as r (imsi_at (identities rows) sub)) read)
 

@@ -2,10 +2,12 @@ mod NameLemmas
 mod EntryLemmas
 mod PrintableLemmas
 mod AlwaysLemmas
+mod BoundLemmas
 mod QuietLemmas
 mod BlockLemmas
 mod StandLemmas
 mod OpeningLemmas
+mod NamedLemmas
 mod RememberLemmas
 mod StepLemmas
 mod OutputLemmas

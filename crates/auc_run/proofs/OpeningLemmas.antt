@@ -27,7 +27,7 @@ words_of_rows [] limit = refl
 words_of_rows (row ∷ rows) limit = ap (λ (rest : List ℕ). word_of limit row ∷ rest) (words_of_rows rows limit)
 
 -- the identity of a row
-imsi_here : (rows : List Row) (sub : ℕ) (row : Row) → slice_get rows sub ≡ Some row → sub < length rows → imsi_at (map (λ row. row.imsi) rows) sub ≡ row.imsi
+pub imsi_here : (rows : List Row) (sub : ℕ) (row : Row) → slice_get rows sub ≡ Some row → sub < length rows → imsi_at (map (λ row. row.imsi) rows) sub ≡ row.imsi
 imsi_here [] sub row here inside = absurd (omega arith)
 imsi_here (first ∷ rows) zero row here inside = let same : first ≡ row = cc in ap (λ (r : Row). r.imsi) same
 imsi_here (first ∷ rows) (suc sub) row here inside = imsi_here rows sub row here (omega arith)
@@ -98,14 +98,15 @@ same_numbers f g same (imsi ∷ imsis) =
 
 -- what a run begins with
 pub opened_begins : {D E : Type 0} (seen : D → Option (List ℕ)) (may_leave : D → List ℕ → Type 0) (moment : D → ℕ) (left_since : D → ℕ → List ℕ → Type 0) (faults : D → ℕ) (rows : List Row) (from : D) (imsis : List Identity) (opening : Result (JournalState D) E)
-    → imsis ≡ map (λ row. row.imsi) rows → IfOk opening (λ j. Opens seen may_leave from j.disk j.limits j.place) → IfOk opening (λ j. j.imsis ≡ imsis) → IfOk opening (λ j. j.failed ≡ false)
-    → IfOk opening (λ j. faults j.disk ≡ faults from) → IfOk opening (λ j. IsDurable seen may_leave from (λ sub. reserved_at j sub) j)
+    → imsis ≡ map (λ row. row.imsi) rows → IfOk opening (λ j. Opens seen may_leave from j.disk j.limits j.place) → IfOk opening (λ j. j.all ≡ imsis) → IfOk opening (λ j. j.imsis ≡ imsis) → IfOk opening (λ j. j.failed ≡ false)
+    → IfOk opening (λ j. faults j.disk ≡ faults from) → IfOk opening (λ j. IsDurable seen may_leave from (λ imsi. reserved_in j.limits imsi) j)
     → IfOk opening (λ j. LeavesOpening seen may_leave moment left_since from j.disk) → IfOk opening (Begins seen may_leave moment left_since faults rows from)
-opened_begins seen may_leave moment left_since faults rows from imsis (Err e) is opens same ready quiet durable always = tt
-opened_begins seen may_leave moment left_since faults rows from imsis (Ok j) is opens same ready quiet durable always = record {
+opened_begins seen may_leave moment left_since faults rows from imsis (Err e) is opens all same ready quiet durable always = tt
+opened_begins seen may_leave moment left_since faults rows from imsis (Ok j) is opens all same ready quiet durable always = record {
   found = opens.frames;
   is_found = λ file told. (j.place, opens.read file told);
   subscribers = same ∙ is;
+  all = all ∙ sym same;
   limits = ap (map (λ imsi. reserved_in j.limits imsi)) (same ∙ is)
       ∙ same_numbers (λ imsi. reserved_in j.limits imsi) (λ imsi. reserved_in opens.frames imsi) (λ imsi. opens.are.same imsi) (map (λ row. row.imsi) rows);
   ready = ready;

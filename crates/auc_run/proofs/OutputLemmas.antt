@@ -5,7 +5,8 @@ use Rattle.std.proofs.lemmas.Grind.{flat_map-append}
 use Rattle.std.proofs.lemmas.List.Elements.{All-nil, All-cons, All-append}
 use Rattle.auc_edge.specs.Sink.{Appends, AppendsFront}
 use Rattle.auc_edge.proofs.Facts.{Appends-more}
-use Rattle.auc_journal.specs.Journal.{JournalState, limits_of, reserved_at}
+use Rattle.auc_journal.specs.Image.{reserved_in}
+use Rattle.auc_journal.specs.Journal.{JournalState, limits_of}
 use Rattle.auc_jobs.specs.State.{Standing}
 use Rattle.auc_lines.specs.declared.part.Part.{Part}
 use Rattle.auc_lines.specs.declared.part.Part.TheVariants.{Round, Restart}
@@ -18,7 +19,7 @@ use Rattle.auc_world.specs.Transcript.{Course, Leads, ServesPart, beginning}
 use Rattle.auc_world.specs.declared.record.PartRecord.{PartRecord}
 use Rattle.auc_world.specs.declared.record.PartRecord.TheVariants as record_of
 use Rattle.auc_run.specs.Crash.{IsFull}
-use Rattle.auc_run.specs.Inner.{Begins, Covers, EndsIn, GoesOn, IsPut, RunsParts, ServesLast, StandsOn, most_at}
+use Rattle.auc_run.specs.Inner.{Begins, Covers, EndsIn, GoesOn, IsPut, RunsParts, ServesLast, StandsOn}
 use Rattle.auc_run.specs.Outcome.{EndsFull, IsStopOf, IsWritten}
 use Rattle.auc_run.specs.Refusal.{status_of}
 use Rattle.auc_run.specs.declared.refusal.Refusal.{Refusal}
@@ -240,7 +241,7 @@ Serving-all seen may_leave moment left_since set full from reserved begin number
       (ap (λ (t : List ℕ). transcript_text set full serving.records ++ t) serving.waits_text ∙ sym (flat_map-append (part_text set full) serving.records serving.waits))
       (IsWritten-more ended old mid new (transcript_text set full serving.records) text serving.written writes);
   kept = kept_reserves seen may_leave moment left_since ended set.rows from disk reserved serving.mid journal serving.on.reserves same;
-  keeps = durable_keeps seen may_leave from disk (most_at reserved serving.mid) journal serving.on.reserves.durable same;
+  keeps = durable_keeps seen may_leave from disk serving.on.reserves.most journal serving.on.reserves.durable same;
   always = always_reserves seen may_leave moment left_since ended set.rows from disk reserved serving.mid journal serving.on.reserves same;
   full_at = λ is told. absurd (not_full is);
   ends_full = λ is. absurd (not_full is);
@@ -279,7 +280,7 @@ stops_served {D} seen may_leave moment left_since set full from reserved begin n
       ∙ sym (texts_join set full serving.records serving.waits last.made))
       (IsWritten-more ended old mid new (transcript_text set full serving.records) (text ++ part_text set full last.made) serving.written last.written);
   kept = kept_reserves seen may_leave moment left_since ended set.rows from disk reserved last.next later last.reserves same;
-  keeps = durable_keeps seen may_leave from disk (most_at reserved last.next) later last.reserves.durable same;
+  keeps = durable_keeps seen may_leave from disk last.reserves.most later last.reserves.durable same;
   always = always_reserves seen may_leave moment left_since ended set.rows from disk reserved last.next later last.reserves same;
   full_at = λ is told. subst (λ (d : D). IsFull (seen d)) (sym same) (last.full_at is told);
   ends_full = λ is. full_behind seen may_leave set.rows from disk later.disk (serving.records ++ serving.waits) (last.made ∷ []) same (last.ends_full is);
@@ -348,7 +349,7 @@ Serving-nothing seen may_leave moment left_since faults set full from journal pa
     let covers : Covers seen may_leave moment left_since set.rows from (limits_of journal) [] journal = record {
       subscribers = begins.subscribers;
       released = λ sub inside. All-nil (λ n. n ≤ slice_index (limits_of journal) sub);
-      most = λ sub. reserved_at journal sub;
+      most = λ imsi. reserved_in journal.limits imsi;
       durable = begins.durable;
       always = λ told. (λ sub. 0, since_opening seen may_leave moment left_since set.rows from journal.disk (limits_of journal) (λ sub. 0) begins.always told);
     } in
@@ -365,7 +366,7 @@ Serving-nothing seen may_leave moment left_since faults set full from journal pa
       fits = All-nil PartFits;
       written = Appends-none old;
       kept = kept_covers seen may_leave moment left_since set.rows from disk (limits_of journal) begin journal covers same;
-      keeps = durable_keeps seen may_leave from disk (λ sub. reserved_at journal sub) journal begins.durable same;
+      keeps = durable_keeps seen may_leave from disk (λ imsi. reserved_in journal.limits imsi) journal begins.durable same;
       always = always_covers seen may_leave moment left_since set.rows from disk (limits_of journal) begin journal covers same;
       full_at = λ is told. absurd (not_full is);
       ends_full = λ is. absurd (not_full is);

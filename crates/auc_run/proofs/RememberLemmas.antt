@@ -1,5 +1,6 @@
 -- For the journal: no run lowers what it found reserved, for any identity.
 use Rattle.std.proofs.Common.{◌≡◌, ℕ, List, Option, inl, inr, refl, sym, ◌∙◌, subst}
+use Rattle.auc_edge.specs.Identity.{Identity}
 use Rattle.auc_journal.specs.Durable.{IsDurable, IsTold}
 use Rattle.auc_journal.specs.Image.{Keeps}
 use Rattle.auc_journal.specs.Journal.{JournalState}
@@ -22,7 +23,7 @@ use Rattle.auc_run.specs.declared.status.Status.{Status}
 use Rattle.auc_run.specs.declared.status.Status.TheVariants as status
 
 -- what a crash leaves of a journal on a disk
-pub durable_keeps : {D : Type 0} (seen : D → Option (List ℕ)) (may_leave : D → List ℕ → Type 0) (from disk : D) (most : ℕ → ℕ) (journal : JournalState D)
+pub durable_keeps : {D : Type 0} (seen : D → Option (List ℕ)) (may_leave : D → List ℕ → Type 0) (from disk : D) (most : Identity → ℕ) (journal : JournalState D)
     → IsDurable seen may_leave from most journal → disk ≡ journal.disk
     → (told : IsTold seen may_leave from) → (image : List ℕ) → may_leave disk image → Keeps told.0 image × IsClosable image
 durable_keeps {D} seen may_leave from disk most journal durable same told image leaves = durable.keeps told image (subst (λ (d : D). may_leave d image) same leaves)

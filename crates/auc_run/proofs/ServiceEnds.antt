@@ -34,7 +34,7 @@ use Rattle.auc_world.specs.Transcript.{Course, Leads, beginning}
 use Rattle.auc_world.specs.declared.record.PartRecord.{PartRecord}
 use Rattle.auc_world.specs.declared.record.PartRecord.TheVariants as record_of
 use Rattle.auc_run.specs.Crash.{IsFull, IsKept, MayLeave}
-use Rattle.auc_run.specs.Inner.{Covers, IsKnownPart, IsLeftInRun, MakesRound, Reserves, RoundsStop, StandsAfter, most_at}
+use Rattle.auc_run.specs.Inner.{Covers, IsKnownPart, IsLeftInRun, MakesRound, Reserves, RoundsStop, StandsAfter}
 use Rattle.auc_run.specs.InnerService.{AreTaken, EndsServing, GoesOnServing, IsSaidUpTo, IsServing, IsServingAny, IsTurned, RunsBlocks, round_answer, trouble_refusal, turned_by}
 use Rattle.auc_run.specs.Output.{setting_of}
 use Rattle.auc_run.specs.Refusal.{status_of}
@@ -66,7 +66,7 @@ left_reserves : {D : Type 0} (seen : D → Option (List ℕ)) (may_leave : D →
     → IsLeft seen may_leave moment left_since rows from reserved end ended journal.disk
 left_reserves seen may_leave moment left_since rows from reserved end ended journal reserves full = record {
   kept = kept_reserves seen may_leave moment left_since ended rows from journal.disk reserved end journal reserves refl;
-  keeps = durable_keeps seen may_leave from journal.disk (most_at reserved end) journal reserves.durable refl;
+  keeps = durable_keeps seen may_leave from journal.disk reserves.most journal reserves.durable refl;
   always = always_reserves seen may_leave moment left_since ended rows from journal.disk reserved end journal reserves refl;
   full_at = full;
 }

@@ -3,7 +3,8 @@ use Rattle.std.proofs.Common.{◌≡◌, ◌≢◌, ◌⊎◌, ℕ, List, map, O
 use Rattle.auc_block.specs.declared.turn.Turn.{Turn}
 use Rattle.auc_block.specs.declared.turn.Turn.TheVariants.{Said}
 use Rattle.auc_edge.specs.Faults.{Rose}
-use Rattle.auc_journal.specs.Journal.{JournalState, reserved_at}
+use Rattle.auc_journal.specs.Image.{reserved_in}
+use Rattle.auc_journal.specs.Journal.{JournalState}
 use Rattle.auc_run.specs.Crash.{Remembers}
 use Rattle.auc_run.specs.Inner.{Begins, Tells}
 use Rattle.auc_run.specs.InnerService.{SaysTold}
@@ -70,8 +71,8 @@ read_write ended is same = cc (is, same)
 pub remembers_begun : {D : Type 0} (seen : D → Option (List ℕ)) (may_leave : D → List ℕ → Type 0) (moment : D → ℕ) (left_since : D → ℕ → List ℕ → Type 0) (faults : D → ℕ) (rows : List Row) (from disk : D) (journal : JournalState D) (ended : Status)
     → Begins seen may_leave moment left_since faults rows from journal → disk ≡ journal.disk → ended ≢ status.NotJournal → Remembers seen may_leave ended from disk
 remembers_begun seen may_leave moment left_since faults rows from disk journal ended begins same other = record {
-  keeps = λ told premise image leaves. let both = durable_keeps seen may_leave from disk (λ sub. reserved_at journal sub) journal begins.durable same told image leaves in both.0;
-  closable = λ told is image leaves. let both = durable_keeps seen may_leave from disk (λ sub. reserved_at journal sub) journal begins.durable same told image leaves in both.1;
+  keeps = λ told premise image leaves. let both = durable_keeps seen may_leave from disk (λ imsi. reserved_in journal.limits imsi) journal begins.durable same told image leaves in both.0;
+  closable = λ told is image leaves. let both = durable_keeps seen may_leave from disk (λ imsi. reserved_in journal.limits imsi) journal begins.durable same told image leaves in both.1;
   stays = λ is. absurd (other is);
 }
 

@@ -1,5 +1,6 @@
 -- For the forms that tell the journal: what they write is what they tell of the journal that was found, and how they end.
 use Rattle.std.proofs.Common.{◌≡◌, ◌⊎◌, ℕ, List, Option, Some, Result, Ok, Err, OnOk, IfErr, inl, inr, refl, sym, ◌∙◌, ap, subst, arith}
+use Rattle.auc_edge.specs.Identity.{Identity}
 use Rattle.auc_compact.proofs.Facts.{same_length}
 use Rattle.auc_edge.specs.Shelf.{File}
 use Rattle.auc_edge.specs.Sink.{Appends, AppendsFront}
@@ -142,7 +143,7 @@ told_journal form limits (Err refused.StoreFault) stops is = absurd stops
 told_journal form limits (Err (refused.NotJournal place)) stops is = absurd stops
 told_journal form limits (Err refused.StoreFull) stops is = absurd stops
 
-pub remembers_limits : {D : Type 0} (seen : D → Option (List ℕ)) (may_leave : D → List ℕ → Type 0) (from disk : D) (most : ℕ → ℕ) (journal : JournalState D) (form : JournalForm) (limits : List Frame) (result : Result (Unit {0}) Refusal)
+pub remembers_limits : {D : Type 0} (seen : D → Option (List ℕ)) (may_leave : D → List ℕ → Type 0) (from disk : D) (most : Identity → ℕ) (journal : JournalState D) (form : JournalForm) (limits : List Frame) (result : Result (Unit {0}) Refusal)
     → IsDurable seen may_leave from most journal → disk ≡ journal.disk → IfErr result (LimitsStop form limits) → Remembers seen may_leave (status_in result) from disk
 remembers_limits seen may_leave from disk most journal form limits result durable same stops = record {
   keeps = λ told premise image leaves. let both = durable_keeps seen may_leave from disk most journal durable same told image leaves in both.0;

@@ -4,6 +4,7 @@ use Rattle.std.specs.Option.{option_copied}
 use Rattle.auc_compact.specs.Compact.{IsAnew, compact_image}
 use Rattle.auc_compact.specs.declared.refusal.CompactRefusal.{CompactRefusal}
 use Rattle.auc_compact.specs.declared.refusal.CompactRefusal.TheVariants as unmade
+use Rattle.auc_edge.specs.Identity.{Identity}
 use Rattle.auc_edge.specs.Shelf.{File, IsLongerFile}
 use Rattle.auc_edge.specs.Sink.{Appends, AppendsFront}
 use Rattle.auc_edge.specs.declared.stop.Stop.{Stop}
@@ -15,7 +16,7 @@ use Rattle.auc_forms.specs.Reserved.{IsReservedText}
 use Rattle.auc_forms.specs.declared.algorithm.AlgorithmForm.{AlgorithmForm}
 use Rattle.auc_journal.specs.Durable.{IsDurable, IsTold}
 use Rattle.auc_journal.specs.Image.{Frame, Keeps, Reading, read_image, reserved_in}
-use Rattle.auc_journal.specs.Journal.{JournalState, limits_of, reserved_at}
+use Rattle.auc_journal.specs.Journal.{JournalState, imsi_at, limits_of}
 use Rattle.auc_journal.specs.Limits.{AreLimits}
 use Rattle.auc_journal.specs.Opening.{IsOpening, LeavesOpening}
 use Rattle.auc_journal.specs.Settled.{IsClosable, LeavesOnly}
@@ -268,9 +269,10 @@ pub record Begins {D : Type 0} (seen : D → Option (List ℕ)) (may_leave : D �
   pub found : List Frame
   pub is_found : IsFound (seen from) found
   pub subscribers : journal.imsis ≡ map (λ row. row.imsi) rows
+  pub all : journal.all ≡ journal.imsis
   pub limits : limits_of journal ≡ limits_in rows found
   pub ready : journal.failed ≡ false
-  pub durable : IsDurable seen may_leave from (λ sub. reserved_at journal sub) journal
+  pub durable : IsDurable seen may_leave from (λ imsi. reserved_in journal.limits imsi) journal
   pub quiet : faults journal.disk ≡ faults from
   pub always : LeavesOpening seen may_leave moment left_since from journal.disk
 
@@ -301,8 +303,12 @@ IsLeftInRun file status rows reserved end image =
 -- those that the rounds so far may reserve
 pub record Reserves {D : Type 0} (seen : D → Option (List ℕ)) (may_leave : D → List ℕ → Type 0) (moment : D → ℕ) (left_since : D → ℕ → List ℕ → Type 0) (rows : List Row) (from : D) (reserved : List ℕ) (at : Course) (journal : JournalState D) : Type 0 where
   pub subscribers : journal.imsis ≡ map (λ row. row.imsi) rows
+  pub all : journal.all ≡ journal.imsis
   pub raises : Raises rows at.early at.limits at.highs (limits_of journal)
-  pub durable : IsDurable seen may_leave from (most_at reserved at) journal
+  -- the bound of each identity, which for each subscriber is no higher
+  pub most : Identity → ℕ
+  pub near : (sub : ℕ) → sub < length rows → most (imsi_at journal.imsis sub) ≤ most_at reserved at sub
+  pub durable : IsDurable seen may_leave from most journal
   pub above : (sub : ℕ) → sub < length rows → slice_index reserved sub ≤ slice_index (limits_of journal) sub
   pub always : (told : IsTold seen may_leave from) → LeavesOnly moment left_since from journal.disk (IsSince told.0 rows reserved (most_at reserved at))
 
@@ -310,7 +316,7 @@ pub record Reserves {D : Type 0} (seen : D → Option (List ℕ)) (may_leave : D
 pub record Covers {D : Type 0} (seen : D → Option (List ℕ)) (may_leave : D → List ℕ → Type 0) (moment : D → ℕ) (left_since : D → ℕ → List ℕ → Type 0) (rows : List Row) (from : D) (reserved : List ℕ) (early : List LineRecord) (journal : JournalState D) : Type 0 where
   pub subscribers : journal.imsis ≡ map (λ row. row.imsi) rows
   pub released : (sub : ℕ) → sub < length rows → All (λ n. n ≤ slice_index (limits_of journal) sub) (numbers_of sub early)
-  pub most : ℕ → ℕ
+  pub most : Identity → ℕ
   pub durable : IsDurable seen may_leave from most journal
   pub always : (told : IsTold seen may_leave from) → (highest : ℕ → ℕ) × LeavesOnly moment left_since from journal.disk (IsSince told.0 rows reserved highest)
 

@@ -8,4 +8,5 @@ pub mod Chain
 pub mod Turns
 pub mod Service
 pub mod InnerService
+pub mod InnerNamed
 pub mod Inner

@@ -30,6 +30,7 @@ mod forms;
 mod input;
 mod law;
 mod load;
+mod named;
 mod opening;
 mod refusal;
 mod refusing;

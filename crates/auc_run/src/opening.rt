@@ -4,7 +4,7 @@ ghost use Rattle.std.specs.Prelude.{◌≡◌, ◌≢◌, ◌≤◌, ◌<◌, �
 ghost use Rattle.auc_edge.specs.Faults.{Rose};
 ghost use Rattle.auc_journal.specs.Durable.{IsDurable};
 ghost use Rattle.auc_journal.specs.Image.{Frame};
-ghost use Rattle.auc_journal.specs.Journal.{limits_of, reserved_at};
+ghost use Rattle.auc_journal.specs.Journal.{limits_of};
 ghost use Rattle.auc_journal.specs.Opening.{LeavesFound, LeavesOpening};
 ghost use Rattle.auc_journal.specs.declared.open_why.OpenWhy.TheVariants as why;
 ghost use Rattle.auc_sqn.specs.Number.{max_seq};
@@ -63,15 +63,15 @@ pub(crate) fn openings<D: Disk + Drop>(
     alloc: Global,
     subs: &Subscribers,
     journal: &Journal<D>,
-) -> Result<Items<u64>, NoMemory>
+) -> Result<Vec<u64>, NoMemory>
     requires { journal.now.imsis ≡ map (λ row. row.imsi) subs.now }
-    ensures words { IfOk result (λ words. words ≡ opened subs.now (limits_of journal.now)) }
+    ensures words { IfOk result (λ words. words.items ≡ opened subs.now (limits_of journal.now)) }
     ensures numbers { IfOk result (λ words. (sub : ℕ) → sub < length subs.now
-        → slice_index words sub ≤ top_at subs.now sub) }
+        → slice_index words.items sub ≤ top_at subs.now sub) }
     ensures limits { OnOk result ((sub : ℕ) → sub < length subs.now
         → slice_index (limits_of journal.now) sub ≤ max_seq) }
 {
-    let mut words = Items::new(alloc);
+    let mut words = Vec::new(alloc);
     for sub in 0..subs.len() {
         let row = subs.row(sub);
         words.push(row.seq.max(journal.reserved(sub)).min(top(row.bits)))?;

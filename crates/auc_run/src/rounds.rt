@@ -23,12 +23,13 @@ ghost use Rattle.auc_run.specs.Outcome.{IsQuiet, IsStopOf, IsWritten};
 ghost use Rattle.auc_run.specs.Output.{setting_of};
 ghost use Rattle.auc_run.specs.Refusal.{status_of};
 
+use crate::named::{Start, serve_start};
 use crate::opening::openings;
 use crate::refusal::{Performed, Refusal, refused};
 use auc_disk::Disk;
 use auc_edge::{Failed, Gate, NoMemory, Octets, Sink, Stop, write_whole};
 use auc_ident::Names;
-use auc_jobs::{Ran, Served, State, serve};
+use auc_jobs::{Ran, Served, State};
 use auc_journal::Journal;
 use auc_lines::{Part, RoundPart};
 use auc_print::{print_restart, print_round};
@@ -126,22 +127,16 @@ pub(crate) fn make_round<R: Threads + Wait + Sync, D: Disk + Drop + Send, G: Gat
         journal,
         text,
     } = stand;
+    let start = Start {
+        number,
+        state,
+        journal,
+    };
     let Served {
         journal,
         state,
         result,
-    } = serve(
-        rt,
-        alloc,
-        number,
-        jobs.as_slice(),
-        &settings.set,
-        settings.full,
-        state,
-        journal,
-        settings.workers,
-        gate,
-    );
+    } = serve_start(rt, alloc, settings, jobs.as_slice(), start, gate);
     let mut stand = Stand {
         number: number + 1,
         state,

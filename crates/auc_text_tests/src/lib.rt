@@ -1,5 +1,5 @@
-//! Tests of the text of a transcript, of the words of a load, of the words and lines of `vector` and `auts`, and of blocks heard
-//! over a wire: one file for each crate.
+//! Tests of the text of a transcript, of the words of a load, of the words and lines of `vector` and `auts`, of rounds of some
+//! subscribers, and of blocks heard over a wire: one file for each crate.
 //!
 //! They stand in a crate of their own, since the tests of a crate are proved together with it.
 #![tactic(auto)]
@@ -12,6 +12,8 @@ mod events;
 mod forms;
 #[cfg(test)]
 mod load;
+#[cfg(test)]
+mod named;
 #[cfg(test)]
 mod print;
 #[cfg(test)]

@@ -14,19 +14,19 @@ use Rattle.auc_jobs.proofs.round.sum_up.Goals as goal
 
 pub closings-requires-clause-words : goal.closings-requires-clause-words
 closings-requires-clause-words c =
-    let opened : c.state.inside.words ≡ c.args.state.now.words = ap (λ (s : Standing). s.words) c.state.view_is in
+    let opened : c.state.inside.words.items ≡ c.args.state.now.words = ap (λ (s : Standing). s.words) c.state.view_is in
     let served = c.requires.served c.requires.state.0 c.requires.state.1 in
-    ap (λ (ws : List ℕ). length ws) c.as_slice-2.ensures ∙ served.size ∙ sym (ap (λ (ws : List ℕ). length ws) (c.as_slice.ensures ∙ opened))
+    ap (λ (ws : List ℕ). length ws) c.as_slice-2.ensures ∙ served.size ∙ sym (ap (λ (ws : List ℕ). length ws) (c.as_slice.ensures.value ∙ opened))
 
 pub closings-requires-clause-forward : goal.closings-requires-clause-forward
 closings-requires-clause-forward c = λ k count there.
-    let opened : c.state.inside.words ≡ c.args.state.now.words = ap (λ (s : Standing). s.words) c.state.view_is in
+    let opened : c.state.inside.words.items ≡ c.args.state.now.words = ap (λ (s : Standing). s.words) c.state.view_is in
     let served = c.requires.served c.requires.state.0 c.requires.state.1 in
     let counted : AreCounted (all_lines c.args.done.now.jobs.records) c.in_ok-counts.counts.items =
     subst (λ (records : List (List LineRecord)). AreCounted (all_lines records) c.in_ok-counts.counts.items) c.as_slice-records.ensures c.in_ok-counts.ensures.counted in
     let counts : length c.in_ok-counts.counts.items ≡ length c.args.state.now.words =
-    c.in_ok-counts.ensures.size ∙ c.len.ensures ∙ ap (λ (ws : List ℕ). length ws) opened in
-    rw (c.as_slice.ensures ∙ opened, c.as_slice-2.ensures)
+    c.in_ok-counts.ensures.size ∙ c.len.ensures ∙ sym c.as_slice.ensures.len ∙ ap (λ (ws : List ℕ). length ws) (c.as_slice.ensures.value ∙ opened) in
+    rw (c.as_slice.ensures.value ∙ opened, c.as_slice-2.ensures)
     (closes_above c.args.set.now c.requires.state.0 c.args.state.now.kept c.args.state.now.words c.args.done.now.words c.args.jobs.now c.args.done.now.jobs.records c.args.done.now.jobs.devices c.args.done.now.jobs.sessions c.in_ok-counts.counts.items
     k count counts served.pieces c.requires.bound counted (subst (λ (cs : List Count). slice_get cs k ≡ Some count) c.deref.ensures.value there))
 
@@ -44,14 +44,14 @@ advance-requires c =
 
 pub returns-clause-lawful : goal.returns-clause-lawful
 returns-clause-lawful c = λ number early stands.
-    let opened : c.state.inside.words ≡ c.args.state.now.words = ap (λ (s : Standing). s.words) c.state.view_is in
+    let opened : c.state.inside.words.items ≡ c.args.state.now.words = ap (λ (s : Standing). s.words) c.state.view_is in
     let served = c.requires.served early stands in
     let counted : AreCounted (all_lines c.args.done.now.jobs.records) c.in_ok-counts.counts.items =
     subst (λ (records : List (List LineRecord)). AreCounted (all_lines records) c.in_ok-counts.counts.items) c.as_slice-records.ensures c.in_ok-counts.ensures.counted in
     let counts : length c.in_ok-counts.counts.items ≡ length c.args.state.now.words =
-    c.in_ok-counts.ensures.size ∙ c.len.ensures ∙ ap (λ (ws : List ℕ). length ws) opened in
+    c.in_ok-counts.ensures.size ∙ c.len.ensures ∙ sym c.as_slice.ensures.len ∙ ap (λ (ws : List ℕ). length ws) (c.as_slice.ensures.value ∙ opened) in
     let closed : c.in_ok-closings.closings ≡ counted_closings 0 c.args.state.now.words c.args.done.now.words c.in_ok-counts.counts.items =
-    c.in_ok-closings.ensures ∙ rw (c.as_slice.ensures ∙ opened, c.as_slice-2.ensures, c.deref.ensures.value) refl in
+    c.in_ok-closings.ensures ∙ rw (c.as_slice.ensures.value ∙ opened, c.as_slice-2.ensures, c.deref.ensures.value) refl in
     leads_on c.args.set.now c.args.done.now.stop early c.args.state.now c.advance.new.self c.args.done.now.words c.args.jobs.now c.args.done.now.jobs.records c.args.done.now.jobs.devices c.args.done.now.jobs.sessions
     c.in_ok-counts.counts.items number c.in_ok-closings.closings c.in_ok-verdicts.verdicts c.round_premise-premise.result c.requires.apart served.pieces c.requires.bound served.size counts counted closed
     c.requires.withholds (subst (λ (js : List JobSessions). AreVerdicts js c.in_ok-verdicts.verdicts) c.as_slice-3.ensures c.in_ok-verdicts.ensures)

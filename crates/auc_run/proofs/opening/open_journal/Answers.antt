@@ -8,7 +8,7 @@ use Rattle.auc_run.proofs.opening.open_journal.Goals as goal
 pub returns-in-Ok-clause-opened : goal.returns-in-Ok-clause-opened
 returns-in-Ok-clause-opened g c =
     opened_begins g.D.Disk.seen g.D.Disk.may_leave g.D.Disk.moment g.D.Disk.left_since g.D.Disk.faults c.args.subs.now c.args.disk c.as_slice.result.now c.open.result (c.as_slice.ensures ∙ c.in-Ok.ensures)
-    c.open.ensures.opened c.open.ensures.subscribers c.open.ensures.ready c.open.ensures.quiet c.open.ensures.durable c.open.ensures.any_moment
+    c.open.ensures.opened c.open.ensures.all c.open.ensures.subscribers c.open.ensures.ready c.open.ensures.quiet c.open.ensures.durable c.open.ensures.any_moment
 
 pub returns-in-Err-clause-refused : goal.returns-in-Err-clause-refused
 returns-in-Err-clause-refused g c = untouched_found g.D.Disk.seen g.D.Disk.may_leave why.NoMemory c.args.disk

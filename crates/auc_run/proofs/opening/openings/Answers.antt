@@ -10,19 +10,19 @@ use Rattle.auc_run.proofs.opening.openings.Goals as goal
 
 pub loop-sub-init : goal.loop-sub-init
 loop-sub-init g c = record {
-  words_are = c.new-words.ensures;
+  words_are = c.new-words.ensures.items;
   limits = λ i below. absurd (omega (arith, below));
 }
 
 pub loop-sub-preserved : goal.loop-sub-preserved
 loop-sub-preserved g c =
     let least = c.min.ensures ∙ ap (λ (n : ℕ). min n c.top.result) c.max.ensures ∙ ap (λ (n : ℕ). min (max c.row-row.result.now.seq c.reserved.result) n) c.top.ensures in
-    opened_more c.args.subs.now c.args.journal.now c.loop-sub.sub c.reserved.result c.min.result c.row-row.result.now c.loop-sub.words c.push.new.self c.requires
-    c.row-row.ensures.place (omega (arith, c.len-sub-end.ensures.count)) c.reserved.ensures.value c.reserved.ensures.number least c.in_ok-push.ensures.pushed c.loop-sub.invariant
+    opened_more c.args.subs.now c.args.journal.now c.loop-sub.sub c.reserved.result c.min.result c.row-row.result.now c.loop-sub.words.items c.push.new.self.items c.requires
+    c.row-row.ensures.place (omega (arith, c.len-sub-end.ensures.count)) c.reserved.ensures.value c.reserved.ensures.number least c.in_ok-push.ensures.items c.loop-sub.invariant
 
 pub returns-clause-words : goal.returns-clause-words
 returns-clause-words g c =
-    opened_all c.args.subs.now c.args.journal.now c.loop-sub.words c.requires
+    opened_all c.args.subs.now c.args.journal.now c.loop-sub.words.items c.requires
     (c.loop-sub.invariant.words_are ∙ ap (map (word_of (λ imsi. reserved_in c.args.journal.now.limits imsi))) (take_all c.loop-sub.sub c.args.subs.now (omega (arith, c.len-sub-end.ensures.count))))
 
 pub returns-clause-numbers : goal.returns-clause-numbers

@@ -15,5 +15,5 @@ open_at-requires g c =
 pub returns-clause-stands : goal.returns-clause-stands
 returns-clause-stands g c = λ set is.
     c.open_at.ensures.stands set []
-    (subst (λ (rows : List Row). (sub : ℕ) → sub < length rows → slice_index c.in_ok-openings.field-0 sub ≤ top_at rows sub) (sym is) c.in_ok-openings.ensures.numbers)
+    (subst (λ (rows : List Row). (sub : ℕ) → sub < length rows → slice_index c.in_ok-openings.field-0.items sub ≤ top_at rows sub) (sym is) c.in_ok-openings.ensures.numbers)
     (c.in_ok-state.ensures.stands set is)

@@ -13,4 +13,4 @@ open_at-requires g c =
 pub returns-clause-stands : goal.returns-clause-stands
 returns-clause-stands g c = λ set early same stands.
     c.open_at.ensures.stands set early
-    (subst (λ (rows : List Row). (sub : ℕ) → sub < length rows → slice_index c.in_ok-words.words sub ≤ top_at rows sub) (sym same) c.in_ok-words.ensures.numbers) stands
+    (subst (λ (rows : List Row). (sub : ℕ) → sub < length rows → slice_index c.in_ok-words.words.items sub ≤ top_at rows sub) (sym same) c.in_ok-words.ensures.numbers) stands

@@ -1,4 +1,4 @@
-use Rattle.auc_journal.specs.Journal.{reserved_at}
+use Rattle.auc_journal.specs.Image.{reserved_in}
 use Rattle.auc_run.proofs.TellingLemmas.{done_found, limits_found, limits_unopened, remembers_limits, stops_found, unopened_stops}
 use Rattle.auc_run.proofs.RememberLemmas.{remembers_unopened}
 use Rattle.auc_run.specs.Inner.{status_in}
@@ -29,7 +29,7 @@ returns-in-Err-clause-ran g c = rw c.from.ensures (limits_unopened c.args.form (
 
 pub returns-in-Ok-clause-remembers : goal.returns-in-Ok-clause-remembers
 returns-in-Ok-clause-remembers g c =
-    remembers_limits g.D.Disk.seen g.D.Disk.may_leave c.args.disk c.into_disk.result (λ sub. reserved_at c.in-Ok.journal sub) c.in-Ok.journal c.args.form c.listed.result.now.written c.write_limits-result.result
+    remembers_limits g.D.Disk.seen g.D.Disk.may_leave c.args.disk c.into_disk.result (λ imsi. reserved_in c.in-Ok.journal.limits imsi) c.in-Ok.journal c.args.form c.listed.result.now.written c.write_limits-result.result
     c.in-Ok.ensures.durable c.into_disk.ensures c.write_limits-result.ensures.refused
 
 pub returns-in-Err-clause-remembers : goal.returns-in-Err-clause-remembers

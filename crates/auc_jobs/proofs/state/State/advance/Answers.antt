@@ -1,5 +1,6 @@
-use Rattle.std.proofs.Common.{◌∙◌, ◌++◌, List, ap, fold, subst}
+use Rattle.std.proofs.Common.{◌∙◌, ◌++◌, ◌<◌, ◌≤◌, ℕ, List, ap, fold, length, slice_index, subst, sym}
 use Rattle.auc_cards.specs.Stores.{put_own}
+use Rattle.auc_subs.specs.Subscriber.{top_at}
 use Rattle.auc_world.specs.Lines.{all_lines}
 use Rattle.auc_world.specs.declared.record.LineRecord.{LineRecord}
 use Rattle.auc_jobs.specs.InnerUsims.{ArePutBack}
@@ -8,11 +9,13 @@ use Rattle.auc_jobs.specs.State.{Standing}
 use Rattle.auc_jobs.proofs.state.State.advance.Goals as goal
 
 pub returns-clause-advanced : goal.returns-clause-advanced
-returns-clause-advanced c = record {
-  opened = c.in_ok-openings.ensures.value;
-  within = c.in_ok-openings.ensures.bound;
-  put = subst (λ (s : Standing). ArePutBack s.usims c.args.devices.now c.put_back.new.self) c.self.view_is c.put_back.ensures;
-  keeps = c.put_back-2.ensures ∙ ap (λ (s : Standing). fold put_own s.kept c.args.devices.now) c.self.view_is;
-  noted = subst (λ (s : Standing). (before : List LineRecord) → AreReleased s.released before → AreReleased c.note_all.new.released (before ++ all_lines c.args.records.now)) c.self.view_is
-      c.in_ok-note_all.ensures.noted;
-}
+returns-clause-advanced c =
+    let same = c.in_ok-openings.ensures.items_if_clones_equal (λ x y is. is) ∙ c.as_slice.ensures in
+    record {
+      opened = same ∙ c.in_ok-opened.ensures.value;
+      within = subst (λ (words : List ℕ). (sub : ℕ) → sub < length c.args.subs.now → slice_index words sub ≤ top_at c.args.subs.now sub) (sym same) c.in_ok-opened.ensures.bound;
+      put = subst (λ (s : Standing). ArePutBack s.usims c.args.devices.now c.put_back.new.self) c.self.view_is c.put_back.ensures;
+      keeps = c.put_back-2.ensures ∙ ap (λ (s : Standing). fold put_own s.kept c.args.devices.now) c.self.view_is;
+      noted = subst (λ (s : Standing). (before : List LineRecord) → AreReleased s.released before → AreReleased c.note_all.new.released (before ++ all_lines c.args.records.now)) c.self.view_is
+          c.in_ok-note_all.ensures.noted;
+    }

@@ -49,7 +49,7 @@ returns-in-Ok-clause-since g c =
     (λ opening was.
     subst (λ (p : KeeperValue). Since g.D.Disk.seen g.D.Disk.may_leave g.D.Disk.faults g.D.Disk.moment g.D.Disk.left_since opening (record { journal = c.append.new.self; pass = p })) (sym c.raise.ensures)
     (reserved_since g.D.Disk.seen g.D.Disk.may_leave g.D.Disk.faults g.D.Disk.moment g.D.Disk.left_since opening (record { journal = c.self.inside.journal; pass = c.self.inside.pass }) c.append.new.self c.args.sub c.next_limit-limit.result
-    running c.self.invariant.differ there less (omega (arith, near, c.next_limit-limit.ensures)) c.append.ensures.subscribers (not_failed c.append.new.self.failed c.append.result _ _ c.in-Ok.is c.append.ensures.failed)
+    running c.self.invariant.differ there less (omega (arith, near, c.next_limit-limit.ensures)) c.append.ensures.all c.append.ensures.subscribers (not_failed c.append.new.self.failed c.append.result _ _ c.in-Ok.is c.append.ensures.failed)
     (c.append.ensures.quiet (λ is. ok_err c.append.result _ _ c.in-Ok.is is)) c.in-Ok.ensures.limits c.append.ensures.bounded c.append.ensures.any_moment was))
 
 pub returns-in-Err-clause-since : goal.returns-in-Err-clause-since
@@ -62,7 +62,7 @@ returns-in-Err-clause-since g c =
     (λ opening was.
     subst (λ (p : KeeperValue). Since g.D.Disk.seen g.D.Disk.may_leave g.D.Disk.faults g.D.Disk.moment g.D.Disk.left_since opening (record { journal = c.append.new.self; pass = p })) (sym c.stop.ensures)
     (stopped_since g.D.Disk.seen g.D.Disk.may_leave g.D.Disk.faults g.D.Disk.moment g.D.Disk.left_since opening (record { journal = c.self.inside.journal; pass = c.self.inside.pass }) c.append.new.self c.args.sub c.next_limit-limit.result c.cause_of-why.result
-    running c.self.invariant.differ there (omega (arith, near, c.next_limit-limit.ensures)) (omega (arith, above, near)) c.append.ensures.subscribers c.in-Err.ensures.kept.0
+    running there (omega (arith, near, c.next_limit-limit.ensures)) (omega (arith, above, near)) c.append.ensures.all c.append.ensures.subscribers c.in-Err.ensures.kept.0
     (λ is. c.cause_of-why.ensures.fault.1 (grind (arith, common_steps)), λ is. c.append.ensures.failed.1 (c.in-Err.is ∙ ap Err (c.cause_of-why.ensures.fault.0 is)))
     (λ is. grind (arith, common_steps))
     (λ other. c.append.ensures.quiet (λ is. grind (arith, common_steps)))

@@ -32,6 +32,7 @@ returns-in-Ok-clause-answers g c =
     (record {
       limits = c.in-Ok.ensures.limits;
       place = c.in-Ok.ensures.place;
+      all = c.append_group.ensures.all;
       imsis = c.append_group.ensures.subscribers;
       ready = not_failed c.append_group.new.self.failed c.append_group.result _ _ c.in-Ok.is c.append_group.ensures.failed;
       raised = c.raise_all.ensures;
@@ -51,7 +52,7 @@ returns-in-Ok-clause-since g c =
     (λ opening was.
     subst (λ (p : KeeperValue). Since g.D.Disk.seen g.D.Disk.may_leave g.D.Disk.faults g.D.Disk.moment g.D.Disk.left_since opening (record { journal = c.append_group.new.self; pass = p })) (sym c.raise_all.ensures)
     (group_since g.D.Disk.seen g.D.Disk.may_leave g.D.Disk.faults g.D.Disk.moment g.D.Disk.left_since opening (record { journal = c.self.inside.journal; pass = c.self.inside.pass }) c.append_group.new.self c.args.items.now
-    running c.self.invariant.differ c.self.invariant.limits c.requires.differ (λ j d more. (subs j d more).1) rise c.append_group.ensures.subscribers
+    running c.self.invariant.differ c.self.invariant.limits c.requires.differ (λ j d more. (subs j d more).1) rise c.append_group.ensures.all c.append_group.ensures.subscribers
     (not_failed c.append_group.new.self.failed c.append_group.result _ _ c.in-Ok.is c.append_group.ensures.failed)
     (c.append_group.ensures.quiet (λ is. ok_err c.append_group.result _ _ c.in-Ok.is is)) c.in-Ok.ensures.limits c.append_group.ensures.bounded c.append_group.ensures.any_moment was))
 
@@ -64,6 +65,6 @@ returns-in-Err-StoreFault-clause-since g c =
     (λ opening was.
     subst (λ (p : KeeperValue). Since g.D.Disk.seen g.D.Disk.may_leave g.D.Disk.faults g.D.Disk.moment g.D.Disk.left_since opening (record { journal = c.append_group.new.self; pass = p })) (sym c.stop.ensures)
     (group_stopped_since g.D.Disk.seen g.D.Disk.may_leave g.D.Disk.faults g.D.Disk.moment g.D.Disk.left_since opening (record { journal = c.self.inside.journal; pass = c.self.inside.pass }) c.append_group.new.self c.args.items.now
-    running c.self.invariant.differ (λ j d more. (subs j d more).1) rise c.append_group.ensures.subscribers c.in-Err-StoreFault.ensures.kept.0
+    running (λ j d more. (subs j d more).1) rise c.append_group.ensures.all c.append_group.ensures.subscribers c.in-Err-StoreFault.ensures.kept.0
     (c.append_group.ensures.failed.1 (c.in-Err-StoreFault.is ∙ ap Err c.in-Err-StoreFault.field-0-is)) (grind (arith, common_steps))
     c.append_group.ensures.bounded c.append_group.ensures.any_moment was))

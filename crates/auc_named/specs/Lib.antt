@@ -1,0 +1,4 @@
+pub mod Named
+pub mod Law
+pub mod NamedValue
+pub mod InnerNaming

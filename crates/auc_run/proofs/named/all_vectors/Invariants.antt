@@ -1,0 +1,6 @@
+use Rattle.std.proofs.Common.{◌≡◌, map, take}
+use Rattle.auc_world.specs.Vectors.{vectors_in}
+use Rattle.auc_run.proofs.named.all_vectors.Given as goal
+
+abbrev pub invariant-loop-lines : goal.invariant-loop-lines
+invariant-loop-lines l = l.all ≡ map (vectors_in l.settings.set) (take l.lines-index l.records)
