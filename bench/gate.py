@@ -34,7 +34,10 @@ KINDS = ("proof", "tests", "seed", "edits")
 TABLE = "bench/gate.py"
 MOST_SECONDS, MOST_MINUTES = 20, 6
 # What may be dearer, with its reason: a crate, or a function as `auc_peer::Peer::on_bytes`.
-DEAR = {}
+DEAR = {
+    "auc_run": "the two calls that `main` makes stand in it. It is proved a second time as the seed of its five must-fail edits, "
+    "which stay in the gate since each of them turns what a call of `main` says",
+}
 
 
 def options():

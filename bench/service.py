@@ -7,6 +7,8 @@ PROGRAM is crates/auc_cli/out/auc_cli, unless it is given. Each service runs in 
 
 life        N blocks of one draw at one subscriber, each sent after the reply to the one before: blocks a second, and the
             resident memory before the first one, after 1000, and after the last one; then a line of 100 MB.
+sizes       services of 1, 1000 and 65,536 subscribers, which get blocks of one draw in turns: microseconds a block, the middle of
+            many. Their subscribers are in a file.
 kills       services of up to twelve blocks with up to four jobs, one after the other in one folder. Most of them are killed at a
             random moment of their last block. Each number of a reply is counted, also of one that is cut off.
 rivals      a second service in the folder of one that lives, and a service that a client doesn't read.
@@ -15,8 +17,10 @@ rivals      a second service in the folder of one that lives, and a service that
 was as it has to be. It works on Linux alone.
 """
 import argparse
+import contextlib
 import os
 import random
+import statistics
 import subprocess
 import sys
 import time
@@ -30,6 +34,7 @@ sys.path.append(str(TOP / "tools"))
 from ends import run_main
 
 SUBSCRIBERS, LONGEST, SCRIPT = 8, 100_000_000, "bench/service.py"
+SIZES, TURNS, COLUMNS = (1, 1000, 65_536), 2001, "imsi,k,kind,op,amf,seq,usim"
 
 
 def options():
@@ -45,9 +50,9 @@ def options():
 class Service:
     """A service that is alive, behind its header."""
 
-    def __init__(self, program, folder, workers=1):
-        self.child = subprocess.Popen([program, "serve"], cwd=folder, stdin=subprocess.PIPE, stdout=subprocess.PIPE)
-        header = [f"randkey {os.urandom(32).hex()}", f"workers {workers}", *(subscriber_line(imsi(sub)) for sub in range(SUBSCRIBERS))]
+    def __init__(self, program, folder, workers=1, words=(), subscribers=SUBSCRIBERS):
+        self.child = subprocess.Popen([program, "serve", *words], cwd=folder, stdin=subprocess.PIPE, stdout=subprocess.PIPE)
+        header = [f"randkey {os.urandom(32).hex()}", f"workers {workers}", *(subscriber_line(imsi(sub)) for sub in range(subscribers))]
         self.send(header)
         self.first = self.reply()
 
@@ -105,6 +110,29 @@ def life(program, blocks):
     if refused != ["refused scenario 0 limit", "end"] or status != 0:
         raise SystemExit(f"a line of {LONGEST} bytes: {refused}, {status}")
     return f"{blocks} blocks of one draw, each after the reply to the one before", f"{rate:.0f} a second; resident {', '.join(map(str, sizes))} KB"
+
+
+def sizes(program):
+    """The row of what a block of one draw takes with few and with many subscribers."""
+    taken = {size: [] for size in SIZES}
+    with contextlib.ExitStack() as stack:
+        services = {}
+        for size in SIZES:
+            folder = stack.enter_context(folder_with())
+            rows = (",".join(subscriber_line(imsi(sub)).split()[1:]) for sub in range(size))
+            Path(folder, "subscribers.csv").write_text("\n".join([COLUMNS, *rows, ""]))
+            services[size] = Service(program, folder, words=["subscribers.csv"], subscribers=0)
+        for _ in range(TURNS):
+            for size, service in services.items():
+                began = time.monotonic()
+                service.send(["round", "job", f"draw {imsi(size // 2)} 1"])
+                if len(numbers_in(service.reply())) != 1:
+                    raise SystemExit(f"a block of a service of {size} subscribers has another reply")
+                taken[size].append(time.monotonic() - began)
+        if any(service.close() for service in services.values()):
+            raise SystemExit("a service of some size ended with another status")
+    middles = [f"{statistics.median(times) * 1e6:.0f} with {size:,}" for size, times in taken.items()]
+    return f"a block of one draw, the middle of {TURNS:,}", f"microseconds: {', '.join(middles)} subscribers"
 
 
 def block_of(chance):
@@ -165,7 +193,7 @@ def rivals(program):
 def main():
     given = options()
     program = str(given.program.resolve())
-    rows = [life(program, given.blocks), ("then a line of 100 MB", "`refused scenario 0 limit`"), kills(program, given.kills, given.seed), *rivals(program)]
+    rows = [life(program, given.blocks), ("then a line of 100 MB", "`refused scenario 0 limit`"), sizes(program), kills(program, given.kills, given.seed), *rivals(program)]
     text = "".join(["| Tried | What it gave |\n|---|---|\n", *(f"| {what} | {gave} |\n" for what, gave in rows)])
     print(text, end="")
     if given.write:
