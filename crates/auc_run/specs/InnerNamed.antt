@@ -50,8 +50,8 @@ pub record IsServed {D : Type 0} (seen : D → Option (List ℕ)) (may_leave : D
   pub full : IfOk result (λ ran. ran.stop ≡ Some Full → 2 ^ 30 < after.place + 20)
   pub leaves : LeavesMore seen may_leave moment left_since journal after
 
--- a state was led behind a round of the subscribers at some places: their words became these, and the numbers that the round
--- released are noted
+-- a state was led from a round of the subscribers at some places to the next round: their words became these, and the numbers that
+-- the round released are noted
 pub record IsLed (places own : List ℕ) (records : List (List LineRecord)) (old new : Standing) : Type 0 where
   pub words : new.words ≡ put_words old.words places own
   pub usims : new.usims ≡ old.usims

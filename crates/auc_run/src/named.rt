@@ -173,7 +173,7 @@ fn serve_own<R: Threads + Wait + Sync, D: Disk + Drop + Send, G: Gate + Sync>(
     alloc: Global,
     settings: &Settings,
     own: Own,
-    start: Start<D>,
+    mut start: Start<D>,
     gate: &G,
 ) -> Served<D>
     requires may { (jobs : List (List LineOf)) × MayServe settings.now.set settings.now.workers jobs start.state start.journal
@@ -190,12 +190,7 @@ fn serve_own<R: Threads + Wait + Sync, D: Disk + Drop + Send, G: Gate + Sync>(
         state: own,
         imsis,
     } = own;
-    let Start {
-        number,
-        mut state,
-        mut journal,
-    } = start;
-    journal.name_some(imsis);
+    start.journal.name_some(imsis);
     let set = Setting {
         subs: named.subs(),
         rands: settings.set.rands,
@@ -209,29 +204,29 @@ fn serve_own<R: Threads + Wait + Sync, D: Disk + Drop + Send, G: Gate + Sync>(
     } = serve(
         rt,
         alloc,
-        number,
+        start.number,
         named.jobs(),
         &set,
         false,
         own,
-        journal,
+        start.journal,
         settings.workers,
         gate,
     );
     journal.name_all();
     let result = match result {
-        Ok(ran) => of_all(alloc, settings, &named, &mut state, &next, ran),
+        Ok(ran) => of_all(alloc, settings, &named, &mut start.state, &next, ran),
         Err(error) => Err(error),
     };
     Served {
         journal,
-        state,
+        state: start.state,
         result,
     }
 }
 
-/// Says of all subscribers what came of a round of some, and leads the state behind it. All memory is taken before the state
-/// changes.
+/// Says of all subscribers what came of a round of some, and leads the state to the round after it. All memory is taken before
+/// the state changes.
 fn of_all(
     alloc: Global,
     settings: &Settings,

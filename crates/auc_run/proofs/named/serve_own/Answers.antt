@@ -81,12 +81,12 @@ returns g c = λ jobs named.
           let fault = both (λ (b a : JournalState g.row.D.Denot). ran.stop ≡ Some Fault → Rose (g.D.Disk.faults b.disk) (g.D.Disk.faults a.disk)) _ _ _ after c.name_some.ensures (sym c.name_all.ensures) (IfOk-ok result ran _ w.in-Ok.is c.serve-journal.ensures.fault) in
           let quiet = both (λ (b a : JournalState g.row.D.Denot). ran.stop ≢ Some Fault → g.D.Disk.faults a.disk ≡ g.D.Disk.faults b.disk) _ _ _ after c.name_some.ensures (sym c.name_all.ensures) (IfOk-ok result ran _ w.in-Ok.is c.serve-journal.ensures.quiet) in
           let full = subst (λ (j : JournalState g.row.D.Denot). ran.stop ≡ Some Full → 2 ^ 30 < j.place + 20) (sym c.name_all.ensures) (IfOk-ok result ran _ w.in-Ok.is c.serve-journal.ensures.full) in
-          rw (w.result-is, w.state-is)
+          rw (w.result-is, w.start-is)
           (all_served g.D.Disk.seen g.D.Disk.may_leave g.D.Disk.moment g.D.Disk.left_since set c.args.own.named.rows c.args.own.named.places jobs c.args.own.named.jobs before after ids named all c.requires.identities differ same
           g.D.Disk.faults c.args.settings.now.full c.args.start.number c.args.start.state w.of_all-result.new.state c.args.own.state c.serve-journal.result.state ran w.of_all-result.result may.limits c.requires.words serves own_stands
           (IfOk-ok result ran _ w.in-Ok.is c.serve-journal.ensures.number) same_all ready fault quiet full leaves w.of_all-result.ensures.round w.of_all-result.ensures.vectors w.of_all-result.ensures.led)
       | in-Err w ↦
-          rw (w.result-is, w.state-is)
+          rw (w.result-is, w.start-is)
           (none_served g.D.Disk.seen g.D.Disk.may_leave g.D.Disk.moment g.D.Disk.left_since set c.args.own.named.rows c.args.own.named.places jobs c.args.own.named.jobs before after ids named all c.requires.identities differ same
           g.D.Disk.faults c.args.settings.now.full c.args.start.number c.args.start.state c.args.start.state _ same_all leaves)
     ]
