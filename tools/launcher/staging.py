@@ -143,7 +143,8 @@ class Plan:
         return not others or jobs + stage.jobs <= self.room.jobs and stage.memory() <= min(self.room.memory - memory, free)
 
     def is_light(self, crate):
-        return self.jobs[crate] == 1 and self.minutes[crate] < LIGHT
+        """Whether it may share an rt: it takes few minutes, and no more memory than most."""
+        return self.jobs[crate] == 1 and self.minutes[crate] < LIGHT and crate not in costs.LARGE
 
     def share(self, crate, stages):
         """Adds a light crate to that of these stages which then has the fewest minutes, if those aren't too many."""
