@@ -3,6 +3,7 @@
 the edits cost in minutes of processor time, and of its five dearest functions.
 
     bench/gate.py [--write] [--functions] [--log FILE] [-- COMMAND ..]
+    bench/gate.py --functions-alone [--write]
 
 COMMAND is `rt ci --anew`, unless it is given; it runs at the top of the repository. Every fifth of a second the
 processor time of each prover that it started is read from /proc and put to the crate that it works on, so a prover's
@@ -11,7 +12,8 @@ themselves, and rt. The sum is the processor time of the whole command, as the s
 command's output goes; otherwise it goes to standard error.
 
 --functions proves each crate once more after that, in a temporary clone of the last commit, crates side by side, to see
-what each function costs: rt ci keeps nothing that tells it. So it takes the processor time of all proofs again.
+what each function costs: rt ci keeps nothing that tells it. So it takes the processor time of all proofs again. --functions-alone
+does only that, for the table that stands in CONTRIBUTING.md.
 
 --write puts the table into CONTRIBUTING.md, between its marks.
 
@@ -20,6 +22,7 @@ and DEAR has no reason for it, or if a crate was not proved once more. It works 
 """
 import argparse
 import os
+import re
 import subprocess
 import sys
 import time
@@ -27,12 +30,13 @@ from pathlib import Path
 
 import functions
 from provers import Sampler, need_proc
-from repository import TOP, version_of, write_part
+from repository import TOP, part_of, version_of, write_part
 from ends import run_main
 
 KINDS = ("proof", "tests", "seed", "edits")
 TABLE = "bench/gate.py"
 MOST_SECONDS, MOST_MINUTES = 20, 6
+ABOVE = "\nAbove the limits, with the reason:\n\n"
 # What may be dearer, with its reason: a crate, or a function as `auc_peer::Peer::on_bytes`.
 DEAR = {
     "auc_run": "the two calls that `main` makes stand in it. It is proved a second time as the seed of its five must-fail edits, "
@@ -44,6 +48,7 @@ def options():
     parser = argparse.ArgumentParser(description=__doc__, formatter_class=argparse.RawDescriptionHelpFormatter)
     parser.add_argument("--write", action="store_true", help="put the table into its page")
     parser.add_argument("--functions", action="store_true", help="prove each crate once more for its dearest functions")
+    parser.add_argument("--functions-alone", action="store_true", help="only that, for the table that stands")
     parser.add_argument("--log", type=Path, help="where the command's output goes")
     parser.add_argument("command", nargs="*", default=["rt", "ci", "--anew"])
     return parser.parse_args()
@@ -83,20 +88,63 @@ def table(costs):
     lines.append("|---|---:|---:|---:|---:|---:|---|")
     for crate in sorted(costs.minutes, key=lambda it: -costs.of(it)):
         cells = " | ".join(f"{costs.minutes[crate][it]:.1f}" for it in KINDS)
-        dear = functions.dearest(costs.functions.get(crate) or {})
-        named = ", ".join(f"`{functions.label_of(it)}` {seconds:.0f}" for it, seconds in dear if seconds >= 1)
-        lines.append(f"| `{crate}` | {cells} | {costs.of(crate):.1f} | {named} |")
+        lines.append(f"| `{crate}` | {cells} | {costs.of(crate):.1f} | {dearest_of(costs, crate)} |")
     lines.append(f"| compilers, runs of tests and programs, rt | | | | | {max(0, costs.whole - sum(sums)):.1f} | |")
     lines.append(f"| all | {' | '.join(f'{it:.1f}' for it in sums)} | {costs.whole:.1f} | |")
     return "\n".join(lines) + f"\n\n{said_below(costs)}"
 
 
+def dearest_of(costs, crate):
+    """The dearest functions of a crate, as its row has them."""
+    dear = functions.dearest(costs.functions.get(crate) or {})
+    return ", ".join(f"`{functions.label_of(it)}` {seconds:.0f}" for it, seconds in dear if seconds >= 1)
+
+
 def said_below(costs):
     """The lines below the table: of what it is, and what may be dearer than the limits."""
     text = f"In minutes of processor time, of version {version_of(TOP)}, all from nothing in one run, which took "
-    text += f"{costs.wall:.0f} minutes on {os.cpu_count()} processors.\n"
-    reasons = [f"- `{name}` takes {much}: {DEAR[name]}\n" for name, much in costs.too_dear() if name in DEAR]
-    return text + ("\nAbove the limits, with the reason:\n\n" + "".join(reasons) if reasons else "")
+    return text + f"{costs.wall:.0f} minutes on {os.cpu_count()} processors.\n" + reasons(costs)
+
+
+def reasons(costs):
+    """The lines that say why a crate or a function is dearer than the limits."""
+    dear = [f"- `{name}` takes {much}: {DEAR[name]}\n" for name, much in costs.too_dear() if name in DEAR]
+    return ABOVE + "".join(dear) if dear else ""
+
+
+# ---- the functions of a table that stands
+
+
+def costs_in(text):
+    """What the rows of a table say that each crate costs, with everything."""
+    costs = Costs({}, 0, 0)
+    for crate, minutes in re.findall(r"(?m)^\| `(\w+)` \|(?: [\d.]+ \|){4} ([\d.]+) \|", text):
+        costs.minutes[crate] = {"together": float(minutes)}
+    return costs
+
+
+def with_functions(text, costs):
+    """A table with the dearest functions in its last column, and with the reasons below it."""
+    lines = []
+    for line in text.partition(ABOVE)[0].splitlines():
+        found = re.match(r"\| `(\w+)` \|", line)
+        lines.append(f"{line.rpartition(' | ')[0]} | {dearest_of(costs, found[1])} |" if found else line)
+    return "\n".join(lines) + "\n" + reasons(costs)
+
+
+def measure_functions(is_kept):
+    """Measures the functions for the table that stands: the exit status."""
+    text = part_of(TOP / "CONTRIBUTING.md", TABLE)[1]
+    costs = costs_in(text)
+    costs.functions = functions.measured(sorted(costs.minutes), 0)
+    text = with_functions(text, costs)
+    print(text, end="")
+    if is_kept:
+        write_part(TOP / "CONTRIBUTING.md", TABLE, text)
+    return status_of(costs)
+
+
+# ---- the run
 
 
 def measured(command, log):
@@ -122,6 +170,8 @@ def status_of(costs):
 def main():
     given = options()
     need_proc()
+    if given.functions_alone:
+        sys.exit(measure_functions(given.write))
     log = given.log.open("w") if given.log else sys.stderr
     try:
         status, costs = measured(given.command, log)
