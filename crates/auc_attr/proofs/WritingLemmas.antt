@@ -1,7 +1,6 @@
 -- Writing, measuring and judging a list from its front.
-use Rattle.std.proofs.Common.{◌≡◌, ℕ, suc, ◌+◌, ◌-◌, ◌^◌, ◌<◌, ◌≤◌, Bool, true, false, ◌&&◌, List, [], ◌∷◌, ◌++◌, length, get_or, drop, refl, sym, ap, subst, ◌∙◌, arith, inl, inr, append_assoc, length-append, add-one, drop-cons}
+use Rattle.std.proofs.Common.{◌≡◌, ℕ, suc, ◌+◌, ◌-◌, ◌<◌, ◌≤◌, Bool, true, false, ◌&&◌, List, [], ◌∷◌, ◌++◌, length, get_or, drop, refl, sym, ap, subst, ◌∙◌, arith, append_assoc, length-append, add-one, drop-cons}
 use Rattle.std.specs.List.{list_all}
-use Rattle.std.proofs.lemmas.Bool.{cases_lt}
 use Rattle.std.proofs.lemmas.List.{append-nil, drop_all}
 use Rattle.auc_edge.specs.Reserved.{Reserved, wrote}
 use Rattle.auc_attr.specs.declared.attr.Attr.{Attr}
@@ -96,10 +95,6 @@ count_goes_on size a rest total more after p e f = record {
 pub count_within : (size : ℕ) (a : Attr) (rest : List Attr) (total more : ℕ) → IsCountedTo size (a ∷ rest) total → more ≡ length (item_text (item_of a)) → size + more ≤ total
 count_within size a rest total more p e = omega (arith, p.sum, e, length-append (item_text (item_of a)) (spelling rest))
 
--- a sum that can't be counted is a sum of many bytes
-pub past_most : (sum total : ℕ) → sum ≤ total → (sum < 2 ^ 64 → ⊥) → 2 ^ 64 ≤ total
-past_most sum total within past = elim (cases_lt sum (2 ^ 64)) [ inl lt ↦ absurd (past lt) | inr le ↦ omega (arith, le) ]
-
 -- what is still to be counted at a place of the list begins with the attribute there
 pub count_at : (size total : ℕ) (xs : List Attr) (i : ℕ) (x : Attr) → i < length xs → x ≡ get_or xs i x → IsCountedTo size (drop i xs) total → IsCountedTo size (x ∷ drop (i + 1) xs) total
 count_at size total xs i x lt e p = subst (λ (r : List Attr). IsCountedTo size r total) (rest_from xs i x lt e) p
@@ -112,6 +107,41 @@ count_begins list e = record { each = each_has_spelling [] list e; sum = omega a
 pub count_done : (size total : ℕ) (xs : List Attr) (i : ℕ) → length xs ≤ i → IsCountedTo size (drop i xs) total → size ≡ total
 count_done size total xs i le p =
     let q = subst (λ (r : List Attr). IsCountedTo size r total) (drop_all i xs le) p in
+    omega (arith, q.sum)
+
+-- as much of the room for all bytes is left as the front leaves
+pub record IsLeftTo (left : ℕ) (rest : List Attr) (most total : ℕ) : Type 0 where
+  pub each : list_all has_spelling rest ≡ true
+  pub sum : left + total ≡ most + length (spelling rest)
+
+-- all the room is left at first
+pub left_begins : (most : ℕ) (list : List Attr) → writable list ≡ true → IsLeftTo most list most (length (spelling list))
+left_begins most list e = record { each = each_has_spelling [] list e; sum = refl }
+
+-- what the rest leaves at a place of the list begins with the attribute there
+pub left_at : (left most total : ℕ) (xs : List Attr) (i : ℕ) (x : Attr) → i < length xs → x ≡ get_or xs i x → IsLeftTo left (drop i xs) most total → IsLeftTo left (x ∷ drop (i + 1) xs) most total
+left_at left most total xs i x lt e p = subst (λ (r : List Attr). IsLeftTo left r most total) (rest_from xs i x lt e) p
+
+-- the first attribute has a spelling
+pub left_first : (left : ℕ) (a : Attr) (rest : List Attr) (most total : ℕ) → IsLeftTo left (a ∷ rest) most total → fits_item (item_of a) ≡ true
+left_first left a rest most total p = (and_parts (has_spelling a) (list_all has_spelling rest) p.each).0
+
+-- the first attribute finds room
+pub left_goes_on : (left : ℕ) (a : Attr) (rest : List Attr) (most total size after : ℕ) → IsLeftTo left (a ∷ rest) most total → size ≡ length (item_text (item_of a))
+    → after + size ≡ left → IsLeftTo after rest most total
+left_goes_on left a rest most total size after p e f = record {
+  each = (and_parts (has_spelling a) (list_all has_spelling rest) p.each).1;
+  sum = omega (arith, p.sum, e, f, length-append (item_text (item_of a)) (spelling rest));
+}
+
+-- or it finds none, and then there isn't room for all
+pub left_short : (left : ℕ) (a : Attr) (rest : List Attr) (most total size : ℕ) → IsLeftTo left (a ∷ rest) most total → size ≡ length (item_text (item_of a)) → left < size → most < total
+left_short left a rest most total size p e short = omega (arith, p.sum, e, short, length-append (item_text (item_of a)) (spelling rest))
+
+-- at the end of the list there was room for all
+pub left_done : (left most total : ℕ) (xs : List Attr) (i : ℕ) → length xs ≤ i → IsLeftTo left (drop i xs) most total → total ≤ most
+left_done left most total xs i le p =
+    let q = subst (λ (r : List Attr). IsLeftTo left r most total) (drop_all i xs le) p in
     omega (arith, q.sum)
 
 -- whether the rest of a list may be written after attributes of these types

@@ -44,14 +44,10 @@ fn value_if(holds: bool, kind: u8, value: &[u8]) -> Result<&[u8], AttrRefusal>
 fn zeros_if(holds: bool, kind: u8, body: &[u8]) -> Result<&[u8], AttrRefusal>
     ensures { Gives (λ v. v.now) result (zeros_if holds kind body.now) }
 {
-    if !holds {
-        return Err(AttrRefusal::BadLength(kind));
+    if holds && !are_zeros(body) {
+        return Err(AttrRefusal::BadPadding);
     }
-    if are_zeros(body) {
-        Ok(body)
-    } else {
-        Err(AttrRefusal::BadPadding)
-    }
+    value_if(holds, kind, body)
 }
 
 /// Whether each byte is zero.

@@ -8,7 +8,7 @@ ghost use Rattle.auc_attr.specs.InnerParts.{value_bytes};
 
 use crate::attr::Attr;
 use crate::table::{Row, Shape, Table, row_in};
-use crate::values::{auts_of, block_of, number_of};
+use crate::values::{array_of, number_of};
 use auc_edge::{NoMemory, Octets};
 use std::alloc::Global;
 
@@ -21,24 +21,24 @@ pub fn attr_of(alloc: Global, kind: u8, value: &[u8]) -> Result<Attr, NoMemory>
     ensures values { IfOk result (λ a. is_value a ≡ true) }
 {
     match kind {
-        1 => Ok(Attr::Rand(block_of(value))),
-        2 => Ok(Attr::Autn(block_of(value))),
+        1 => Ok(Attr::Rand(array_of(value))),
+        2 => Ok(Attr::Autn(array_of(value))),
         3 => Ok(Attr::Res(Octets::copied_from(alloc, value)?)),
-        4 => Ok(Attr::Auts(auts_of(value))),
+        4 => Ok(Attr::Auts(array_of(value))),
         6 => Ok(Attr::Padding(Octets::copied_from(alloc, value)?)),
         10 => Ok(Attr::PermanentIdReq),
-        11 => Ok(Attr::Mac(block_of(value))),
+        11 => Ok(Attr::Mac(array_of(value))),
         12 => Ok(Attr::Notification(number_of(value))),
         13 => Ok(Attr::AnyIdReq),
         14 => Ok(Attr::Identity(Octets::copied_from(alloc, value)?)),
         17 => Ok(Attr::FullauthIdReq),
         19 => Ok(Attr::Counter(number_of(value))),
         20 => Ok(Attr::CounterTooSmall),
-        21 => Ok(Attr::NonceS(block_of(value))),
+        21 => Ok(Attr::NonceS(array_of(value))),
         22 => Ok(Attr::ClientErrorCode(number_of(value))),
         23 => Ok(Attr::KdfInput(Octets::copied_from(alloc, value)?)),
         24 => Ok(Attr::Kdf(number_of(value))),
-        129 => Ok(Attr::Iv(block_of(value))),
+        129 => Ok(Attr::Iv(array_of(value))),
         130 => Ok(Attr::EncrData(Octets::copied_from(alloc, value)?)),
         132 => Ok(Attr::NextPseudonym(Octets::copied_from(alloc, value)?)),
         133 => Ok(Attr::NextReauthId(Octets::copied_from(alloc, value)?)),
@@ -105,8 +105,7 @@ pub fn parts_of(attr: &Attr) -> Parts<'_>
         Attr::NextReauthId(v) => (133, Value::Slice(v.as_slice())),
         Attr::Checkcode(v) => (134, Value::Slice(v.as_slice())),
         Attr::ResultInd => (135, Value::Slice(&[])),
-        Attr::Bidding(true) => (136, Value::Bit([1])),
-        Attr::Bidding(false) => (136, Value::Bit([0])),
+        Attr::Bidding(bit) => (136, Value::Bit([u8::from(*bit)])),
         Attr::Skipped(kind, v) => (*kind, Value::Slice(v.as_slice())),
     };
     Parts { kind, value }
@@ -134,13 +133,11 @@ pub fn is_named(attr: &Attr) -> bool
 fn is_skipped_row(row: Option<Row>) -> bool
     ensures { result ≡ is_skipped_row row }
 {
-    match row {
-        Some(
-            Row {
-                shape: Shape::Skipped,
-                once: _,
-            },
-        ) => true,
-        _ => false,
-    }
+    matches!(
+        row,
+        Some(Row {
+            shape: Shape::Skipped,
+            ..
+        })
+    )
 }

@@ -1,7 +1,7 @@
 //! What stands before the attributes of a packet.
 
 ghost use Rattle.std.specs.Prelude.{◌≡◌, ◌≤◌, ◌<◌, ◌+◌, length, true, IfOk, IfErr, nat_lt, nat_le, not, ◌==◌, ◌||◌, if◌then◌else◌};
-ghost use Rattle.auc_attr.specs.Frame.{is_code, is_method, is_method_in, is_subtype, is_subtype_in, is_identity_in, frame_at, frame_at_in, length_of, IsFramed, IsFramedIn};
+ghost use Rattle.auc_attr.specs.Frame.{is_code, is_method_in, is_subtype_in, is_identity_in, frame_at, frame_at_in, length_of, IsFramed, IsFramedIn};
 ghost use Rattle.auc_attr.specs.FrameView.{Frames, frame_of, IsLongFor};
 ghost use Rattle.auc_attr.specs.InnerFrame.{is_wrong_length, typed_at, sized_at, frame_by_steps};
 
@@ -177,7 +177,7 @@ fn is_method_in(table: Table, kind: u8) -> bool
     ensures { result ≡ is_method_in table kind }
 {
     match table {
-        Table::Aka => is_method(kind),
+        Table::Aka => kind == 23 || kind == 50,
         Table::Sim => kind == 18,
     }
 }
@@ -186,19 +186,7 @@ fn is_subtype_in(table: Table, subtype: u8) -> bool
     ensures { result ≡ is_subtype_in table subtype }
 {
     match table {
-        Table::Aka => is_subtype(subtype),
+        Table::Aka => matches!(subtype, 1 | 2 | 4 | 5 | 12 | 13 | 14),
         Table::Sim => matches!(subtype, 10 | 11 | 14),
     }
-}
-
-fn is_method(kind: u8) -> bool
-    ensures { result ≡ is_method kind }
-{
-    kind == 23 || kind == 50
-}
-
-fn is_subtype(subtype: u8) -> bool
-    ensures { result ≡ is_subtype subtype }
-{
-    matches!(subtype, 1 | 2 | 4 | 5 | 12 | 13 | 14)
 }

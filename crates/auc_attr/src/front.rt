@@ -4,7 +4,7 @@ ghost use Rattle.std.specs.Prelude.{◌≡◌, ◌≢◌, ◌<◌, ℕ, List, le
 ghost use Rattle.auc_attr.specs.declared.refusal.AttrRefusal.TheVariants as refusal;
 ghost use Rattle.auc_attr.specs.Fault.{kind_at};
 ghost use Rattle.auc_attr.specs.Grammar.{IsAttrIn, IsFaultIn};
-ghost use Rattle.auc_attr.specs.InnerFront.{Gives, row_at, known_at, item_at};
+ghost use Rattle.auc_attr.specs.InnerFront.{Gives, row_at, item_at};
 ghost use Rattle.auc_attr.specs.Item.{item};
 ghost use Rattle.auc_attr.specs.Spelling.{stands_in, fits_item_in};
 
@@ -45,23 +45,11 @@ fn item_by_steps(table: Table, stood: bool, bytes: &[u8]) -> Result<Found<'_>, A
     ensures { Gives (λ f. (item f.kind f.value.now, f.rest.now)) result (item_at table stood bytes.now) }
 {
     match bytes {
-        [kind, units, after @ ..] => known_at(row_in(table, *kind), stood, *kind, *units, after),
+        [kind, units, after @ ..] => match row_in(table, *kind) {
+            None => Err(AttrRefusal::UnknownType(*kind)),
+            Some(row) => row_at(row, stood, *kind, *units, after),
+        },
         _ => Err(AttrRefusal::Truncated),
-    }
-}
-
-fn known_at(
-    row: Option<Row>,
-    stood: bool,
-    kind: u8,
-    units: u8,
-    after: &[u8],
-) -> Result<Found<'_>, AttrRefusal>
-    ensures { Gives (λ f. (item f.kind f.value.now, f.rest.now)) result (known_at row stood kind units after.now) }
-{
-    match row {
-        None => Err(AttrRefusal::UnknownType(kind)),
-        Some(row) => row_at(row, stood, kind, units, after),
     }
 }
 

@@ -1,14 +1,13 @@
 //! How an attribute is laid out after its type and its length.
 
-ghost use Rattle.std.specs.Prelude.{◌≡◌, ◌+◌, ◌*◌, ◌≤◌, ◌<◌, ℕ, length, true, replicate};
+ghost use Rattle.std.specs.Prelude.{◌≡◌, ◌+◌, ◌*◌, ◌≤◌, ◌<◌, ℕ, [], length, true, replicate};
 ghost use Rattle.std.specs.Int.{w16, to_be_bytes};
-ghost use Rattle.auc_attr.specs.Item.{item};
-ghost use Rattle.auc_attr.specs.Spelling.{fill, fits, fits_row, fits_item_in, row_text, item_text_in, shape_text};
+ghost use Rattle.auc_attr.specs.Spelling.{fill, fits, shape_text};
 ghost use Rattle.auc_attr.specs.InnerParts.{front_bytes, layout_text};
 ghost use Rattle.auc_edge.specs.Reserved.{wrote};
 
-use crate::body::{are_zeros, fill};
-use crate::table::{Row, Shape, Table, row_in};
+use crate::body::are_zeros;
+use crate::table::Shape;
 use auc_edge::Room;
 
 /// Two bytes or none, the value, and zero bytes.
@@ -16,7 +15,7 @@ use auc_edge::Room;
 pub struct Layout<'a> {
     pub front: Option<[u8; 2]>,
     pub value: &'a [u8],
-    pub zeros: usize,
+    pub zeros: &'static [u8],
 }
 
 /// Whether a shape has a layout for a value.
@@ -26,8 +25,7 @@ pub fn fits(shape: Shape, value: &[u8]) -> bool
 {
     let size = value.len();
     match shape {
-        Shape::Fixed(n) => size == n as usize,
-        Shape::AfterReserved(n) => size == n as usize,
+        Shape::Fixed(n) | Shape::AfterReserved(n) => size == n as usize,
         Shape::BitCounted => 4 <= size && size <= 16,
         Shape::ByteCounted => size <= 1016,
         Shape::Several => size == 32 || size == 48,
@@ -45,8 +43,7 @@ pub fn fits(shape: Shape, value: &[u8]) -> bool
 pub fn layout_of(shape: Shape, value: &[u8]) -> Layout<'_>
     requires { fits shape value.now ≡ true }
     ensures text { (kind : ℕ) → layout_text kind result ≡ shape_text shape kind value.now }
-    ensures size { length (front_bytes result.front) + length result.value.now + result.zeros + 2 ≤ 1020 }
-    ensures zeros { result.zeros < 4 }
+    ensures size { length (front_bytes result.front) + length result.value.now + length result.zeros.now + 2 ≤ 1020 }
 {
     match shape {
         Shape::Fixed(_) | Shape::Zeros | Shape::Skipped => bare(value),
@@ -63,12 +60,12 @@ pub fn layout_of(shape: Shape, value: &[u8]) -> Layout<'_>
 fn bare(value: &[u8]) -> Layout<'_>
     ensures front { result.front ≡ None }
     ensures value { result.value.now ≡ value.now }
-    ensures zeros { result.zeros ≡ 0 }
+    ensures zeros { result.zeros.now ≡ [] }
 {
     Layout {
         front: None,
         value,
-        zeros: 0,
+        zeros: &[],
     }
 }
 
@@ -76,12 +73,12 @@ fn bare(value: &[u8]) -> Layout<'_>
 fn after(front: [u8; 2], value: &[u8]) -> Layout<'_>
     ensures front { result.front ≡ Some front }
     ensures value { result.value.now ≡ value.now }
-    ensures zeros { result.zeros ≡ 0 }
+    ensures zeros { result.zeros.now ≡ [] }
 {
     Layout {
         front: Some(front),
         value,
-        zeros: 0,
+        zeros: &[],
     }
 }
 
@@ -90,46 +87,36 @@ fn counted(unit: u16, value: &[u8]) -> Layout<'_>
     requires fits { unit * length value.now < 65536 }
     ensures front { result.front ≡ Some (to_be_bytes w16 (unit * length value.now)) }
     ensures value { result.value.now ≡ value.now }
-    ensures zeros { result.zeros ≡ fill (length value.now) }
+    ensures zeros { result.zeros.now ≡ replicate (fill (length value.now)) 0 }
 {
     let length = unit as usize * value.len();
     Layout {
         front: Some((length as u16).to_be_bytes()),
         value,
-        zeros: fill(value.len()),
+        zeros: filling(value.len()),
     }
 }
 
-/// The layout of an attribute of a type with a value.
-pub fn layout_of_item(table: Table, kind: u8, value: &[u8]) -> Layout<'_>
-    requires { fits_item_in table (item kind value.now) ≡ true }
-    ensures text { layout_text kind result ≡ item_text_in table (item kind value.now) }
-    ensures size { length (front_bytes result.front) + length result.value.now + result.zeros + 2 ≤ 1020 }
-    ensures zeros { result.zeros < 4 }
+/// The zero bytes that are missing to a multiple of 4.
+fn filling(size: usize) -> &'static [u8]
+    ensures { result.now ≡ replicate (fill size) 0 }
 {
-    layout_in(row_in(table, kind), value)
-}
-
-/// The layout of a value in a row.
-fn layout_in(row: Option<Row>, value: &[u8]) -> Layout<'_>
-    requires { fits_row row value.now ≡ true }
-    ensures text { (kind : ℕ) → layout_text kind result ≡ row_text row kind value.now }
-    ensures size { length (front_bytes result.front) + length result.value.now + result.zeros + 2 ≤ 1020 }
-    ensures zeros { result.zeros < 4 }
-{
-    match row {
-        Some(row) => layout_of(row.shape, value),
-        None => unreachable!(),
+    match size % 4 {
+        1 => &[0, 0, 0],
+        2 => &[0, 0],
+        3 => &[0],
+        _ => &[],
     }
 }
 
 /// How many bytes a layout takes, with type and length.
 pub fn size_of(layout: Layout<'_>) -> usize
-    requires { length (front_bytes layout.front) + length layout.value.now + layout.zeros + 2 ≤ 1020 }
+    requires { length (front_bytes layout.front) + length layout.value.now + length layout.zeros.now + 2 ≤ 1020 }
+    ensures sum { result ≡ length (front_bytes layout.entry.front) + length layout.entry.value.now + length layout.entry.zeros.now + 2 }
     ensures value { (kind : ℕ) → result ≡ length (layout_text kind layout.entry) }
     ensures most { result ≤ 1020 }
 {
-    2 + front_size(layout.front) + layout.value.len() + layout.zeros
+    2 + front_size(layout.front) + layout.value.len() + layout.zeros.len()
 }
 
 fn front_size(front: Option<[u8; 2]>) -> usize
@@ -143,30 +130,15 @@ fn front_size(front: Option<[u8; 2]>) -> usize
 
 /// Writes an attribute after what is written.
 pub fn put_layout(room: &mut Room, kind: u8, layout: Layout<'_>)
-    requires size { length (front_bytes layout.front) + length layout.value.now + layout.zeros + 2 ≤ 1020 }
-    requires zeros { layout.zeros < 4 }
+    requires size { length (front_bytes layout.front) + length layout.value.now + length layout.zeros.now + 2 ≤ 1020 }
     requires room { length (layout_text kind layout) ≤ room.old.left }
     ensures { room.new ≡ wrote room.old (layout_text kind layout.entry) }
 {
-    let units = (2 + front_size(layout.front) + layout.value.len() + layout.zeros) / 4;
+    let units = size_of(layout) / 4;
     room.put(&[kind, units as u8]);
     if let Some(front) = layout.front {
         room.put(&front);
     }
     room.put(layout.value);
-    room.put(zeros(layout.zeros));
-}
-
-/// Up to three zero bytes.
-fn zeros(count: usize) -> &'static [u8]
-    requires { count < 4 }
-    ensures { result.now ≡ replicate count 0 }
-{
-    match count {
-        0 => &[],
-        1 => &[0],
-        2 => &[0, 0],
-        3 => &[0, 0, 0],
-        _ => unreachable!(),
-    }
+    room.put(layout.zeros);
 }

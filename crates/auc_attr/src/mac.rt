@@ -27,15 +27,7 @@ pub fn mac_place_in(table: Table, packet: &[u8]) -> Option<usize>
     ensures given { IfSome result (λ place. length_of packet.now ≤ length packet.now) }
 {
     match read_frame_in(table, packet) {
-        Ok(
-            Framed::Message {
-                request: _,
-                id: _,
-                kind: _,
-                subtype: _,
-                attrs,
-            },
-        ) => mac_among(table, attrs),
+        Ok(Framed::Message { attrs, .. }) => mac_among(table, attrs),
         _ => None,
     }
 }

@@ -3,24 +3,14 @@
 ghost use Rattle.std.specs.Prelude.{◌≡◌, length};
 ghost use Rattle.std.specs.Int.{w16, to_be_bytes};
 
-/// A value of 16 bytes.
-pub fn block_of(value: &[u8]) -> [u8; 16]
-    requires { length value.now ≡ 16 }
+/// A value of so many bytes.
+pub fn array_of<const N: usize>(value: &[u8]) -> [u8; N]
+    requires { length value.now ≡ N }
     ensures { result ≡ value.now }
 {
-    let mut block = [0; 16];
-    block.copy_from_slice(value);
-    block
-}
-
-/// A value of 14 bytes.
-pub fn auts_of(value: &[u8]) -> [u8; 14]
-    requires { length value.now ≡ 14 }
-    ensures { result ≡ value.now }
-{
-    let mut auts = [0; 14];
-    auts.copy_from_slice(value);
-    auts
+    let mut array = [0; N];
+    array.copy_from_slice(value);
+    array
 }
 
 /// The number that a value of two bytes is.

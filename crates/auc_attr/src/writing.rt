@@ -1,6 +1,6 @@
 //! Attributes as bytes.
 
-ghost use Rattle.std.specs.Prelude.{◌≡◌, ◌+◌, ◌^◌, ◌≤◌, ◌<◌, ◌++◌, ◌&&◌, length, true, IfSome, IfNone, OnOk, OnErr};
+ghost use Rattle.std.specs.Prelude.{◌≡◌, ◌+◌, ◌^◌, ◌≤◌, ◌<◌, ◌++◌, ◌&&◌, length, true, IsTrue, ◌↔◌, OnOk, OnErr};
 ghost use Rattle.auc_attr.specs.Item.{item_of, is_named};
 ghost use Rattle.auc_attr.specs.Spelling.{fits_item, may_follow, writable, spelling, item_text};
 ghost use Rattle.auc_edge.specs.Reserved.{wrote};
@@ -8,9 +8,9 @@ ghost use Rattle.auc_edge.specs.Reserved.{wrote};
 use crate::attr::Attr;
 use crate::attr_list::AttrList;
 use crate::conversion::{is_named, parts_of};
-use crate::items::{fits_row, may_stand_row, put_item, size_of_item};
+use crate::items::{fits_item, may_stand, put_item, size_of_item};
 use crate::seen::Seen;
-use crate::table::{Table, row_in};
+use crate::table::Table;
 use auc_edge::{NoMemory, Octets, Room};
 
 /// Appends attributes to `out`, with zeros as reserved bytes and fill (RFC 4187 §8.1). If memory runs out,
@@ -21,10 +21,10 @@ pub fn write_attrs(list: &AttrList, out: &mut Octets) -> Result<(), NoMemory>
     ensures written { OnOk result (out.new ≡ out.old ++ spelling list.now) }
     ensures kept { OnErr result (out.new ≡ out.old) }
 {
-    let Some(size) = list.size() else {
+    if !list.is_within(usize::MAX) {
         return Err(NoMemory);
-    };
-    let mut room = out.room(size)?;
+    }
+    let mut room = out.room(list.size())?;
     put_attrs(list, &mut room);
     out.append(room.as_slice())
 }
@@ -64,8 +64,9 @@ fn may_follow(attr: &Attr, stood: bool) -> bool
     ensures { result ≡ may_follow attr.now stood }
 {
     let parts = parts_of(attr);
-    let row = row_in(Table::Aka, parts.kind);
-    fits_row(row, parts.value.as_slice()) && is_named(attr) && may_stand_row(row, stood)
+    fits_item(Table::Aka, parts.kind, parts.value.as_slice())
+        && is_named(attr)
+        && may_stand(Table::Aka, parts.kind, stood)
 }
 
 impl AttrList {
@@ -85,17 +86,32 @@ impl AttrList {
         true
     }
 
-    /// How many bytes the written attributes take, or `None` if a `usize` can't count them.
-    pub fn size(&self) -> Option<usize>
-        requires { writable self.now ≡ true }
-
-        ensures counted { IfSome result (λ size. size ≡ length (spelling self.now)) }
-        ensures none { IfNone result (2 ^ 64 ≤ length (spelling self.now)) }
+    /// How many bytes the written attributes take. [`AttrList::is_within`] tells whether a `usize` can count them.
+    pub fn size(&self) -> usize
+        requires writable { writable self.now ≡ true }
+        requires counted { length (spelling self.now) < 2 ^ 64 }
+        ensures { result ≡ length (spelling self.now) }
     {
-        let mut size: usize = 0;
+        let mut size = 0;
         for attr in self.as_slice() {
-            size = size.checked_add(size_of_attr(attr))?;
+            size += size_of_attr(attr);
         }
-        Some(size)
+        size
+    }
+
+    /// Whether the written attributes take at most so many bytes.
+    pub fn is_within(&self, most: usize) -> bool
+        requires { writable self.now ≡ true }
+        ensures { IsTrue result ↔ (length (spelling self.now) ≤ most) }
+    {
+        let mut left = most;
+        for attr in self.as_slice() {
+            let size = size_of_attr(attr);
+            if left < size {
+                return false;
+            }
+            left -= size;
+        }
+        true
     }
 }

@@ -29,10 +29,7 @@ pub(crate) fn hear_more<W: Wire>(
 {
     waiting.reserve(room.len())?;
     let count = wire.hear(room)?;
-    match waiting.extend_from_slice(&room[..count]) {
-        Ok(()) => {}
-        Err(_) => unreachable!(),
-    }
+    waiting.extend_from_slice(&room[..count])?;
     Ok(count)
 }
 

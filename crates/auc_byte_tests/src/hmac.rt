@@ -1,5 +1,6 @@
 //! HMAC by the published cases.
 
+use crate::digits::octets;
 use auc_hmac::{HmacSha1, HmacSha256};
 
 fn hmac_sha1(key: &[u8], front: &[u8], rest: &[u8]) -> [u8; 20] {
@@ -16,53 +17,43 @@ fn hmac_sha256(key: &[u8], front: &[u8], rest: &[u8]) -> [u8; 32] {
     mac.finish()
 }
 
+// A key, a text, and the digits of the tag.
+type Case = (&'static [u8], &'static [u8], &'static [u8]);
+
 // RFC 2202 §3, test cases 1 to 3, 6 and 7. The keys of the last two are longer than a block. Python's
 // `hmac` gives the same.
+const SHA1_CASES: [Case; 5] = [
+    (
+        &[0x0b; 20],
+        b"Hi There",
+        b"b617318655057264e28bc0b6fb378c8ef146be00",
+    ),
+    (
+        b"Jefe",
+        b"what do ya want for nothing?",
+        b"effcdf6ae5eb2fa2d27416d5f184df9c259a7c79",
+    ),
+    (
+        &[0xaa; 20],
+        &[0xdd; 50],
+        b"125d7342b9ac11cd91a39af48aa17b4f63f175d3",
+    ),
+    (
+        &[0xaa; 80],
+        b"Test Using Larger Than Block-Size Key - Hash Key First",
+        b"aa4ae5e15272d00e95705637ce8a3b55ed402112",
+    ),
+    (
+        &[0xaa; 80],
+        b"Test Using Larger Than Block-Size Key and Larger Than One Block-Size Data",
+        b"e8e99d0f45237d786d6bbaa7965c7808bbff1a91",
+    ),
+];
+
 #[test]
 fn hmac_sha1_agrees_with_the_published_cases_cut_anywhere(rt: HostRuntime) {
-    let cases: [(&[u8], &[u8], [u8; 20]); 5] = [
-        (
-            &[0x0b; 20],
-            b"Hi There",
-            [
-                0xb6, 0x17, 0x31, 0x86, 0x55, 0x05, 0x72, 0x64, 0xe2, 0x8b, 0xc0, 0xb6, 0xfb, 0x37,
-                0x8c, 0x8e, 0xf1, 0x46, 0xbe, 0x00,
-            ],
-        ),
-        (
-            b"Jefe",
-            b"what do ya want for nothing?",
-            [
-                0xef, 0xfc, 0xdf, 0x6a, 0xe5, 0xeb, 0x2f, 0xa2, 0xd2, 0x74, 0x16, 0xd5, 0xf1, 0x84,
-                0xdf, 0x9c, 0x25, 0x9a, 0x7c, 0x79,
-            ],
-        ),
-        (
-            &[0xaa; 20],
-            &[0xdd; 50],
-            [
-                0x12, 0x5d, 0x73, 0x42, 0xb9, 0xac, 0x11, 0xcd, 0x91, 0xa3, 0x9a, 0xf4, 0x8a, 0xa1,
-                0x7b, 0x4f, 0x63, 0xf1, 0x75, 0xd3,
-            ],
-        ),
-        (
-            &[0xaa; 80],
-            b"Test Using Larger Than Block-Size Key - Hash Key First",
-            [
-                0xaa, 0x4a, 0xe5, 0xe1, 0x52, 0x72, 0xd0, 0x0e, 0x95, 0x70, 0x56, 0x37, 0xce, 0x8a,
-                0x3b, 0x55, 0xed, 0x40, 0x21, 0x12,
-            ],
-        ),
-        (
-            &[0xaa; 80],
-            b"Test Using Larger Than Block-Size Key and Larger Than One Block-Size Data",
-            [
-                0xe8, 0xe9, 0x9d, 0x0f, 0x45, 0x23, 0x7d, 0x78, 0x6d, 0x6b, 0xba, 0xa7, 0x96, 0x5c,
-                0x78, 0x08, 0xbb, 0xff, 0x1a, 0x91,
-            ],
-        ),
-    ];
-    for (key, text, tag) in cases {
+    for (key, text, digits) in SHA1_CASES {
+        let tag: [u8; 20] = octets(&rt, digits);
         for cut in 0..text.len() {
             let (front, rest) = text.split_at(cut);
             assert!(rt; hmac_sha1(key, front, rest) == tag, "cut at {cut}");
@@ -72,56 +63,38 @@ fn hmac_sha1_agrees_with_the_published_cases_cut_anywhere(rt: HostRuntime) {
 
 // RFC 4231 §4, test cases 1 to 3, 6 and 7. The keys of the last two are longer than a block. Python's
 // `hmac` gives the same.
+const SHA256_CASES: [Case; 5] = [
+    (
+        &[0x0b; 20],
+        b"Hi There",
+        b"b0344c61d8db38535ca8afceaf0bf12b881dc200c9833da726e9376c2e32cff7",
+    ),
+    (
+        b"Jefe",
+        b"what do ya want for nothing?",
+        b"5bdcc146bf60754e6a042426089575c75a003f089d2739839dec58b964ec3843",
+    ),
+    (
+        &[0xaa; 20],
+        &[0xdd; 50],
+        b"773ea91e36800e46854db8ebd09181a72959098b3ef8c122d9635514ced565fe",
+    ),
+    (
+        &[0xaa; 131],
+        b"Test Using Larger Than Block-Size Key - Hash Key First",
+        b"60e431591ee0b67f0d8a26aacbf5b77f8e0bc6213728c5140546040f0ee37f54",
+    ),
+    (
+        &[0xaa; 131],
+        b"This is a test using a larger than block-size key and a larger than block-size data. The key needs to be hashed before being used by the HMAC algorithm.",
+        b"9b09ffa71b942fcb27635fbcd5b0e944bfdc63644f0713938a7f51535c3a35e2",
+    ),
+];
+
 #[test]
 fn hmac_sha256_agrees_with_the_published_cases_cut_anywhere(rt: HostRuntime) {
-    let cases: [(&[u8], &[u8], [u8; 32]); 5] = [
-        (
-            &[0x0b; 20],
-            b"Hi There",
-            [
-                0xb0, 0x34, 0x4c, 0x61, 0xd8, 0xdb, 0x38, 0x53, 0x5c, 0xa8, 0xaf, 0xce, 0xaf, 0x0b,
-                0xf1, 0x2b, 0x88, 0x1d, 0xc2, 0x00, 0xc9, 0x83, 0x3d, 0xa7, 0x26, 0xe9, 0x37, 0x6c,
-                0x2e, 0x32, 0xcf, 0xf7,
-            ],
-        ),
-        (
-            b"Jefe",
-            b"what do ya want for nothing?",
-            [
-                0x5b, 0xdc, 0xc1, 0x46, 0xbf, 0x60, 0x75, 0x4e, 0x6a, 0x04, 0x24, 0x26, 0x08, 0x95,
-                0x75, 0xc7, 0x5a, 0x00, 0x3f, 0x08, 0x9d, 0x27, 0x39, 0x83, 0x9d, 0xec, 0x58, 0xb9,
-                0x64, 0xec, 0x38, 0x43,
-            ],
-        ),
-        (
-            &[0xaa; 20],
-            &[0xdd; 50],
-            [
-                0x77, 0x3e, 0xa9, 0x1e, 0x36, 0x80, 0x0e, 0x46, 0x85, 0x4d, 0xb8, 0xeb, 0xd0, 0x91,
-                0x81, 0xa7, 0x29, 0x59, 0x09, 0x8b, 0x3e, 0xf8, 0xc1, 0x22, 0xd9, 0x63, 0x55, 0x14,
-                0xce, 0xd5, 0x65, 0xfe,
-            ],
-        ),
-        (
-            &[0xaa; 131],
-            b"Test Using Larger Than Block-Size Key - Hash Key First",
-            [
-                0x60, 0xe4, 0x31, 0x59, 0x1e, 0xe0, 0xb6, 0x7f, 0x0d, 0x8a, 0x26, 0xaa, 0xcb, 0xf5,
-                0xb7, 0x7f, 0x8e, 0x0b, 0xc6, 0x21, 0x37, 0x28, 0xc5, 0x14, 0x05, 0x46, 0x04, 0x0f,
-                0x0e, 0xe3, 0x7f, 0x54,
-            ],
-        ),
-        (
-            &[0xaa; 131],
-            b"This is a test using a larger than block-size key and a larger than block-size data. The key needs to be hashed before being used by the HMAC algorithm.",
-            [
-                0x9b, 0x09, 0xff, 0xa7, 0x1b, 0x94, 0x2f, 0xcb, 0x27, 0x63, 0x5f, 0xbc, 0xd5, 0xb0,
-                0xe9, 0x44, 0xbf, 0xdc, 0x63, 0x64, 0x4f, 0x07, 0x13, 0x93, 0x8a, 0x7f, 0x51, 0x53,
-                0x5c, 0x3a, 0x35, 0xe2,
-            ],
-        ),
-    ];
-    for (key, text, tag) in cases {
+    for (key, text, digits) in SHA256_CASES {
+        let tag: [u8; 32] = octets(&rt, digits);
         for cut in 0..text.len() {
             let (front, rest) = text.split_at(cut);
             assert!(rt; hmac_sha256(key, front, rest) == tag, "cut at {cut}");
@@ -138,135 +111,66 @@ fn key() -> [u8; 65] {
     key
 }
 
-// Python's `hmac` on "Hi There": keys about the sizes of a digest and of a block.
+// Python's `hmac` on "Hi There", with keys about the sizes of a digest and of a block: the size of the key, and the digits of
+// the tag.
+const SHA1_SIZES: [(usize, &[u8]); 7] = [
+    (20, b"061ed594ba6c87b2ef5bd6aec3d80fef8d6c02ff"),
+    (21, b"b3dcd30ba49669583f33de97d652b113c5c31765"),
+    (32, b"61902724706ceacfa2eaa4ae1a19ea1a0dc09fa9"),
+    (33, b"5850b592938984235a8cbe02a66ba183c5b7540c"),
+    (63, b"f07b741c9da734ef6b35e14a59f8fe57feab9519"),
+    (64, b"5a2d38ed2a31f8154ae722ea44546462760f2d4a"),
+    (65, b"c873d7c2a3c150400e99d3cbf25c3ef3acc50f62"),
+];
+
 #[test]
 fn hmac_sha1_takes_keys_of_each_size(rt: HostRuntime) {
-    let cases: [(usize, [u8; 20]); 7] = [
-        (
-            20,
-            [
-                0x06, 0x1e, 0xd5, 0x94, 0xba, 0x6c, 0x87, 0xb2, 0xef, 0x5b, 0xd6, 0xae, 0xc3, 0xd8,
-                0x0f, 0xef, 0x8d, 0x6c, 0x02, 0xff,
-            ],
-        ),
-        (
-            21,
-            [
-                0xb3, 0xdc, 0xd3, 0x0b, 0xa4, 0x96, 0x69, 0x58, 0x3f, 0x33, 0xde, 0x97, 0xd6, 0x52,
-                0xb1, 0x13, 0xc5, 0xc3, 0x17, 0x65,
-            ],
-        ),
-        (
-            32,
-            [
-                0x61, 0x90, 0x27, 0x24, 0x70, 0x6c, 0xea, 0xcf, 0xa2, 0xea, 0xa4, 0xae, 0x1a, 0x19,
-                0xea, 0x1a, 0x0d, 0xc0, 0x9f, 0xa9,
-            ],
-        ),
-        (
-            33,
-            [
-                0x58, 0x50, 0xb5, 0x92, 0x93, 0x89, 0x84, 0x23, 0x5a, 0x8c, 0xbe, 0x02, 0xa6, 0x6b,
-                0xa1, 0x83, 0xc5, 0xb7, 0x54, 0x0c,
-            ],
-        ),
-        (
-            63,
-            [
-                0xf0, 0x7b, 0x74, 0x1c, 0x9d, 0xa7, 0x34, 0xef, 0x6b, 0x35, 0xe1, 0x4a, 0x59, 0xf8,
-                0xfe, 0x57, 0xfe, 0xab, 0x95, 0x19,
-            ],
-        ),
-        (
-            64,
-            [
-                0x5a, 0x2d, 0x38, 0xed, 0x2a, 0x31, 0xf8, 0x15, 0x4a, 0xe7, 0x22, 0xea, 0x44, 0x54,
-                0x64, 0x62, 0x76, 0x0f, 0x2d, 0x4a,
-            ],
-        ),
-        (
-            65,
-            [
-                0xc8, 0x73, 0xd7, 0xc2, 0xa3, 0xc1, 0x50, 0x40, 0x0e, 0x99, 0xd3, 0xcb, 0xf2, 0x5c,
-                0x3e, 0xf3, 0xac, 0xc5, 0x0f, 0x62,
-            ],
-        ),
-    ];
     let key = key();
-    for (size, tag) in cases {
-        assert!(rt;
-            hmac_sha1(&key[..size], b"Hi", b" There") == tag,
-            "at {size}"
-        );
+    for (size, digits) in SHA1_SIZES {
+        let tag: [u8; 20] = octets(&rt, digits);
+        let found = hmac_sha1(&key[..size], b"Hi", b" There");
+        assert!(rt; found == tag, "at {size}");
     }
 }
 
 // The same with SHA-256.
+const SHA256_SIZES: [(usize, &[u8]); 7] = [
+    (
+        20,
+        b"d39cd1a1b3a8b58a261060e108c71f30914ea5319dcd56b7475bd2a0e4a93669",
+    ),
+    (
+        21,
+        b"9221362fd43626596500e496262a37be852b4e660d73f3c8968878231862adbb",
+    ),
+    (
+        32,
+        b"278639ec02309d3afded1b273f1349ba63b9089c12476d716bee3ecc94673e9e",
+    ),
+    (
+        33,
+        b"00768eb6f96fcc11134f14e78ce183c8ad458eec413943732f886522a8aee0ed",
+    ),
+    (
+        63,
+        b"15114f286583a744e650a1fdd62905278d781940e887564ac877bb7ebfa6e58f",
+    ),
+    (
+        64,
+        b"e311769a0a9a3af1ad9da74c1933bab5ac0aa48367b55ab6ec995508bdab1db6",
+    ),
+    (
+        65,
+        b"6cae1509765ef078ace5069de97213ef2c56a78d522d68d8addc5007740e964b",
+    ),
+];
+
 #[test]
 fn hmac_sha256_takes_keys_of_each_size(rt: HostRuntime) {
-    let cases: [(usize, [u8; 32]); 7] = [
-        (
-            20,
-            [
-                0xd3, 0x9c, 0xd1, 0xa1, 0xb3, 0xa8, 0xb5, 0x8a, 0x26, 0x10, 0x60, 0xe1, 0x08, 0xc7,
-                0x1f, 0x30, 0x91, 0x4e, 0xa5, 0x31, 0x9d, 0xcd, 0x56, 0xb7, 0x47, 0x5b, 0xd2, 0xa0,
-                0xe4, 0xa9, 0x36, 0x69,
-            ],
-        ),
-        (
-            21,
-            [
-                0x92, 0x21, 0x36, 0x2f, 0xd4, 0x36, 0x26, 0x59, 0x65, 0x00, 0xe4, 0x96, 0x26, 0x2a,
-                0x37, 0xbe, 0x85, 0x2b, 0x4e, 0x66, 0x0d, 0x73, 0xf3, 0xc8, 0x96, 0x88, 0x78, 0x23,
-                0x18, 0x62, 0xad, 0xbb,
-            ],
-        ),
-        (
-            32,
-            [
-                0x27, 0x86, 0x39, 0xec, 0x02, 0x30, 0x9d, 0x3a, 0xfd, 0xed, 0x1b, 0x27, 0x3f, 0x13,
-                0x49, 0xba, 0x63, 0xb9, 0x08, 0x9c, 0x12, 0x47, 0x6d, 0x71, 0x6b, 0xee, 0x3e, 0xcc,
-                0x94, 0x67, 0x3e, 0x9e,
-            ],
-        ),
-        (
-            33,
-            [
-                0x00, 0x76, 0x8e, 0xb6, 0xf9, 0x6f, 0xcc, 0x11, 0x13, 0x4f, 0x14, 0xe7, 0x8c, 0xe1,
-                0x83, 0xc8, 0xad, 0x45, 0x8e, 0xec, 0x41, 0x39, 0x43, 0x73, 0x2f, 0x88, 0x65, 0x22,
-                0xa8, 0xae, 0xe0, 0xed,
-            ],
-        ),
-        (
-            63,
-            [
-                0x15, 0x11, 0x4f, 0x28, 0x65, 0x83, 0xa7, 0x44, 0xe6, 0x50, 0xa1, 0xfd, 0xd6, 0x29,
-                0x05, 0x27, 0x8d, 0x78, 0x19, 0x40, 0xe8, 0x87, 0x56, 0x4a, 0xc8, 0x77, 0xbb, 0x7e,
-                0xbf, 0xa6, 0xe5, 0x8f,
-            ],
-        ),
-        (
-            64,
-            [
-                0xe3, 0x11, 0x76, 0x9a, 0x0a, 0x9a, 0x3a, 0xf1, 0xad, 0x9d, 0xa7, 0x4c, 0x19, 0x33,
-                0xba, 0xb5, 0xac, 0x0a, 0xa4, 0x83, 0x67, 0xb5, 0x5a, 0xb6, 0xec, 0x99, 0x55, 0x08,
-                0xbd, 0xab, 0x1d, 0xb6,
-            ],
-        ),
-        (
-            65,
-            [
-                0x6c, 0xae, 0x15, 0x09, 0x76, 0x5e, 0xf0, 0x78, 0xac, 0xe5, 0x06, 0x9d, 0xe9, 0x72,
-                0x13, 0xef, 0x2c, 0x56, 0xa7, 0x8d, 0x52, 0x2d, 0x68, 0xd8, 0xad, 0xdc, 0x50, 0x07,
-                0x74, 0x0e, 0x96, 0x4b,
-            ],
-        ),
-    ];
     let key = key();
-    for (size, tag) in cases {
-        assert!(rt;
-            hmac_sha256(&key[..size], b"Hi", b" There") == tag,
-            "at {size}"
-        );
+    for (size, digits) in SHA256_SIZES {
+        let tag: [u8; 32] = octets(&rt, digits);
+        let found = hmac_sha256(&key[..size], b"Hi", b" There");
+        assert!(rt; found == tag, "at {size}");
     }
 }

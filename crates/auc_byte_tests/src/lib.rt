@@ -1,10 +1,12 @@
-//! Tests of the crates of keys, names, texts and packets: one file for each crate.
+//! Tests of the crates of keys, names and packets: one file for each crate.
 //!
 //! They stand in a crate of their own, since the tests of a crate are proved together with it.
 #![tactic(auto)]
 
 #[cfg(test)]
 mod aes;
+#[cfg(test)]
+mod digits;
 #[cfg(test)]
 mod hmac;
 #[cfg(test)]
@@ -21,7 +23,3 @@ mod prf;
 mod random;
 #[cfg(test)]
 mod reauth;
-#[cfg(test)]
-mod sim;
-#[cfg(test)]
-mod text;

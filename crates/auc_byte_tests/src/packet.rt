@@ -3,6 +3,7 @@
 
 ghost use Rattle.std.specs.Prelude.{◌≡◌, []};
 
+use crate::digits::octets;
 use auc_attr::{Attr, AttrList, AttrRefusal, read_attrs};
 use auc_edge::{Octets, Room};
 use auc_hmac::Method;
@@ -67,6 +68,12 @@ fn room(rt: &impl Abort, alloc: Global) -> Room
     }
 }
 
+/// Whether a packet that is read from these bytes is written as they are, in both ways.
+fn is_written_again(rt: &impl Abort, alloc: Global, bytes: &[u8]) -> bool {
+    let packet = read_packet(alloc, bytes).expect(rt, "a packet");
+    is_written_as(rt, alloc, &packet, bytes)
+}
+
 /// Whether a packet is written as these bytes, in both ways.
 fn is_written_as(rt: &impl Abort, alloc: Global, packet: &Packet, bytes: &[u8]) -> bool {
     assert!(rt; packet.writable());
@@ -95,8 +102,7 @@ fn packet_is_read_and_written_again(rt: HostRuntime) {
         &[2, 3, 0, 12, 50, 14, 0, 0, 22, 1, 0, 0],
     ];
     for bytes in cases {
-        let packet = read_packet(alloc, bytes).expect(&rt, "a packet");
-        assert!(rt; is_written_as(&rt, alloc, &packet, bytes), "at {bytes:?}");
+        assert!(rt; is_written_again(&rt, alloc, bytes), "at {bytes:?}");
     }
 }
 
@@ -147,35 +153,35 @@ fn sealed(rt: &impl Abort, alloc: Global, method: Method) -> Octets {
     room.into_octets()
 }
 
+/// Whether that response is these bytes; and whether they are received with a right MAC, with NONCE_S and without it.
+fn is_sealed_as(rt: &impl Abort, alloc: Global, method: Method, digits: &[u8]) -> [bool; 3] {
+    let bytes = sealed(rt, alloc, method);
+    let expected: [u8; 32] = octets(rt, digits);
+    let received = receive(alloc, bytes.as_slice()).expect(rt, "memory");
+    [
+        bytes.as_slice() == expected.as_slice(),
+        is_sealed(&received, method, &K_AUT, &NONCE_S),
+        is_sealed(&received, method, &K_AUT, &[]),
+    ]
+}
+
 // Python's `hmac`: `hmac.new(key, packet + nonce, 'sha1' or 'sha256').digest()[:16]`, the key 16 or 32 bytes.
 #[test]
 fn sealed_message_is_received_with_a_right_mac(rt: HostRuntime) {
     let alloc = rt.alloc();
-    let cases: [(Method, u128, u128); 2] = [
+    let cases: [(Method, &[u8]); 2] = [
         (
             Method::Aka,
-            0x02090020_170d0000_86010000_0b050000,
-            0x35f84d44_8f726ddb_afb08d84_22592ed9,
+            b"02090020170d0000860100000b05000035f84d448f726ddbafb08d8422592ed9",
         ),
         (
             Method::Prime,
-            0x02090020_320d0000_86010000_0b050000,
-            0x4016a476_949a9975_066787c5_557a595d,
+            b"02090020320d0000860100000b0500004016a476949a9975066787c5557a595d",
         ),
     ];
-    for (method, front, mac) in cases {
-        let bytes = sealed(&rt, alloc, method);
-        let bytes = bytes.as_slice();
-        assert!(rt; bytes.len() == 32, "for {method:?}");
-        let parts = (&bytes[..16], &bytes[16..]);
-        assert!(rt;
-            parts == (front.to_be_bytes().as_slice(), mac.to_be_bytes().as_slice()),
-            "for {method:?}"
-        );
-        let received = receive(alloc, bytes).expect(&rt, "a packet");
-        let with_nonce = is_sealed(&received, method, &K_AUT, &NONCE_S);
-        let without = is_sealed(&received, method, &K_AUT, &[]);
-        assert!(rt; (with_nonce, without) == (true, false), "for {method:?}");
+    for (method, digits) in cases {
+        let found = is_sealed_as(&rt, alloc, method, digits);
+        assert!(rt; found == [true, true, false], "for {method:?}");
     }
 }
 

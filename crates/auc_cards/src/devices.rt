@@ -1,12 +1,11 @@
 //! A job's own devices.
 
-ghost use Rattle.std.specs.Prelude.{◌≡◌, ◌<◌, ◌++◌, [], ◌∷◌, length, IfOk, OnOk};
+ghost use Rattle.std.specs.Prelude.{◌≡◌, ◌<◌, ◌≤◌, ◌++◌, [], ◌∷◌, length, IfOk, OnOk};
 ghost use Rattle.auc_lines.specs.Part.{held_by, held_subs, with_held};
 ghost use Rattle.auc_cards.specs.Devices.{device_of, home_of, job_devices};
 ghost use Rattle.auc_cards.specs.Known.{AreKnown};
 
-use crate::stores::Stores;
-use crate::usims::Usims;
+use crate::cards::{Card, Cards};
 use auc_edge::{NoMemory, Octets};
 use auc_lines::Line;
 use auc_peer::Device;
@@ -43,45 +42,37 @@ impl JobDevices {
     pub fn of_job(
         alloc: Global,
         set: &Setting,
-        usims: &Usims,
-        stores: &Stores,
+        cards: &Cards,
         job: &[Line],
     ) -> Result<JobDevices, NoMemory>
-        requires usims { length usims.now ≡ length set.now.rows }
-        requires stores { length stores.now ≡ length set.now.rows }
+        requires cards { length cards.now.usims ≡ length set.now.rows }
         requires known { AreKnown set.now.rows job.now }
-        ensures { IfOk result (λ own. own ≡ job_devices set.now usims.now stores.now job.now) }
+        requires realm { length set.now.realm ≤ 255 }
+        ensures { IfOk result (λ own. own ≡ job_devices set.now cards.now.usims cards.now.kept job.now) }
     {
         let subs = held(alloc, job)?;
         let mut own = JobDevices::new(Vec::new(alloc), Vec::new(alloc));
         for sub in subs.as_slice() {
-            own.add(alloc, set, usims, stores, *sub)?;
+            own.add(alloc, set, cards, *sub)?;
         }
         Ok(own)
     }
 
     /// Adds the device of a subscriber, with a copy of its USIM and of what it keeps.
-    fn add(
-        &mut self,
-        alloc: Global,
-        set: &Setting,
-        usims: &Usims,
-        stores: &Stores,
-        sub: u32,
-    ) -> Result<(), NoMemory>
-        requires usims { length usims.now ≡ length set.now.rows }
-        requires stores { length stores.now ≡ length set.now.rows }
+    fn add(&mut self, alloc: Global, set: &Setting, cards: &Cards, sub: u32) -> Result<(), NoMemory>
+        requires cards { length cards.now.usims ≡ length set.now.rows }
         requires known { sub < length set.now.rows }
+        requires realm { length set.now.realm ≤ 255 }
         ensures { OnOk result (self.new ≡ record {
-          homes = self.old.homes ++ home_of stores.now sub ∷ [];
-          devices = self.old.devices ++ device_of set.now usims.now stores.now sub;
+          homes = self.old.homes ++ home_of cards.now.kept sub ∷ [];
+          devices = self.old.devices ++ device_of set.now cards.now.usims cards.now.kept sub;
         }) }
     {
         let row = set.subs.row(sub);
-        let kept = stores.of(sub);
+        let Card { usim, kept } = cards.of(sub);
         let device = Device {
             imsi: row.imsi,
-            usim: usims.of(sub),
+            usim,
             store: kept.device,
             realm: Octets::copied_from(alloc, set.realm)?,
         };

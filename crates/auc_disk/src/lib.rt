@@ -10,7 +10,7 @@
 //! [`FileDisk`] is a real file, locked against other processes; it reveals no content.
 //!
 //! A `MemDisk` takes memory with each write and each sync; a `FileDisk` takes none. Nothing here waits for
-//! another thread. The tests stand in `auc_number_tests`.
+//! another thread. The tests stand in `auc_disk_tests`.
 #![tactic(auto)]
 
 mod call;

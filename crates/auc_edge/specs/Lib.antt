@@ -1,5 +1,6 @@
 pub mod Faults
 pub mod Identity
+pub mod IdentityKey
 pub mod MemShelf
 pub mod MemSink
 pub mod Reserved

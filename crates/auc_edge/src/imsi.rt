@@ -1,11 +1,13 @@
 //! Identities of subscribers.
 
-ghost use Rattle.std.specs.Prelude.{◌≡◌, ◌≤◌, ◌<◌, ◌^◌, ◌++◌, length, IsTrue, IfSome, OnOk, OnErr};
+ghost use Rattle.std.specs.Prelude.{◌≡◌, ◌≤◌, ◌<◌, ◌^◌, ◌++◌, length, true, IsTrue, IfSome, OnOk, OnErr};
 ghost use Rattle.std.specs.List.{list_all};
 ghost use Rattle.std.specs.Option.{is_some};
 ghost use Rattle.std.specs.Char.{is_ascii_digit};
-ghost use Rattle.auc_edge.specs.Identity.{identity_of, is_identity, is_imsi, number_of, digits_of, last_digits};
+ghost use Rattle.auc_edge.specs.Identity.{identity_of, is_identity, is_imsi, number_of, digits_of};
+ghost use Rattle.auc_edge.specs.IdentityKey.{key_of};
 
+use crate::identity_key::IdentityKey;
 use crate::no_memory::NoMemory;
 use crate::octets::Octets;
 use std::marker::Model;
@@ -34,6 +36,14 @@ impl Model for Imsi {
 }
 
 impl Imsi {
+    /// The identity that has so many digits and this number. [`Imsi::of`] tells whether there is one.
+    pub fn new(digits: u8, number: u64) -> Imsi
+        requires { is_imsi digits number ≡ true }
+        ensures { result ≡ record { digits = digits; number = number } }
+    {
+        Imsi { digits, number }
+    }
+
     /// The identity that has so many digits and this number, or `None` if there is none.
     pub fn of(digits: u8, number: u64) -> Option<Imsi>
         ensures value { IfSome result (λ imsi. imsi ≡ record { digits = digits; number = number }) }
@@ -43,6 +53,16 @@ impl Imsi {
             return None;
         }
         Some(Imsi { digits, number })
+    }
+
+    /// Its key in a map.
+    pub fn key(&self) -> IdentityKey
+        ensures { result ≡ key_of self.now }
+    {
+        IdentityKey {
+            digits: self.digits,
+            number: self.number,
+        }
     }
 
     /// How many digits it has, from 6 to 15.
@@ -79,8 +99,22 @@ impl Imsi {
     {
         let mut room = [0; MAX_DIGITS];
         let text = &mut room[..usize::from(self.digits)];
-        write_digits(text, self.number);
+        self.put_digits(text);
         out.append(text)
+    }
+
+    /// Fills a text of as many bytes as there are digits with its digits, leading zeros among them.
+    pub fn put_digits(&self, text: &mut [u8])
+        requires { length text.old ≡ self.now.digits }
+        ensures { text.new ≡ digits_of self.now }
+    {
+        let mut left = text.len();
+        let mut rest = self.number;
+        while left > 0 {
+            left -= 1;
+            text[left] = b'0' + (rest % 10) as u8;
+            rest /= 10;
+        }
     }
 }
 
@@ -117,17 +151,4 @@ fn number_of(text: &[u8]) -> u64
         number = 10 * number + u64::from(*digit - b'0');
     }
     number
-}
-
-// Fills a text with the last digits of a number.
-fn write_digits(text: &mut [u8], number: u64)
-    ensures { text.new ≡ last_digits (length text.old) number }
-{
-    let mut left = text.len();
-    let mut rest = number;
-    while left > 0 {
-        left -= 1;
-        text[left] = b'0' + (rest % 10) as u8;
-        rest /= 10;
-    }
 }

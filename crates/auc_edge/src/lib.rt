@@ -8,17 +8,18 @@
 //!
 //! [`Octets`] is a string of bytes and [`Items`] a list of records; contracts see both as lists.
 //! [`Imsi`] is a subscriber's identity (TS 23.003 §2.2), which contracts see as the record of how many
-//! digits it has and of their value. [`NoMemory`] is the answer if memory runs out, and stands for
-//! nothing else. [`Stop`] names why numbers are withheld.
+//! digits it has and of their value; an [`IdentityKey`] is its key in a map. [`NoMemory`] is the answer if memory
+//! runs out, and stands for nothing else. [`Stop`] names why numbers are withheld.
 //!
 //! A [`Gate`] is told which jobs of a round begin and end. It means nothing to a contract: [`OpenGate`] holds nobody, and
 //! at a [`TurnGate`] two jobs wait for each other, which is how a test sees that they are served at the same time. Nothing
-//! else here waits for another thread. The tests stand in `auc_number_tests`.
+//! else here waits for another thread. The tests stand in `auc_disk_tests`.
 #![tactic(auto)]
 
 mod failed;
 mod file_shelf;
 mod gate;
+mod identity_key;
 mod imsi;
 mod items;
 mod law;
@@ -40,6 +41,7 @@ mod writing;
 pub use failed::Failed;
 pub use file_shelf::FileShelf;
 pub use gate::{Gate, OpenGate, TurnGate};
+pub use identity_key::IdentityKey;
 pub use imsi::Imsi;
 pub use items::Items;
 pub use law::{each_identity_is_read_back, each_text_is_written_back};

@@ -46,25 +46,20 @@ impl<T> Places<T> {
         self.left
     }
 
-    /// The items that are there, as a list. The places that are left belong to it.
-    pub fn into_items(self) -> Items<T>
-        ensures { result ≡ self.written }
-    {
-        let Places { all, left: _ } = self;
-        Items::from_vec(all)
-    }
-}
-
-impl<T: Drop> Places<T> {
     /// Appends an item.
     pub fn put(&mut self, item: T)
         requires { 0 < self.old.left }
         ensures { self.new ≡ wrote self.old (item ∷ []) }
     {
         self.left -= 1;
-        match self.all.push(item) {
-            Ok(()) => {}
-            Err(_) => unreachable!(),
-        }
+        self.all.push_reserved(item);
+    }
+
+    /// The items that are there, as a list. The places that are left belong to it.
+    pub fn into_items(self) -> Items<T>
+        ensures { result ≡ self.written }
+    {
+        let Places { all, left: _ } = self;
+        Items::from_vec(all)
     }
 }

@@ -92,7 +92,7 @@ impl End {
             First::SimPeer => self.begin_sim_peer(alloc, rest, text),
             First::Next => self.begin_next(alloc, rest, text),
             First::Bytes => self.receive_digits(rt, alloc, rest, text),
-            First::Repeat => self.repeat(alloc, text),
+            First::Repeat => self.repeat(text),
             First::GiveUp => self.give_up(alloc, text),
             First::Unknown => text.put(NOT_UNDERSTOOD),
         }
@@ -172,16 +172,16 @@ impl End {
     fn receive<R: Wait>(&mut self, rt: &R, alloc: Global, bytes: &[u8], text: &mut Text) {
         match self {
             End::Neither => text.put(NOT_UNDERSTOOD),
-            End::Server(server) => server.receive(rt, alloc, bytes, text),
+            End::Server(server) => server.receive(rt, bytes, text),
             End::Peer(peer) => peer.receive(alloc, bytes, text),
             End::SimServer(server) => server.receive(alloc, bytes, text),
             End::SimPeer(peer) => peer.receive(alloc, bytes, text),
         }
     }
 
-    fn repeat(&self, alloc: Global, text: &mut Text) {
+    fn repeat(&self, text: &mut Text) {
         match self {
-            End::Server(server) => server.repeat(alloc, text),
+            End::Server(server) => server.repeat(text),
             _ => text.put(NOT_UNDERSTOOD),
         }
     }
@@ -189,7 +189,7 @@ impl End {
     fn give_up(&mut self, alloc: Global, text: &mut Text) {
         match self {
             End::Neither | End::SimServer(_) | End::SimPeer(_) => text.put(NOT_UNDERSTOOD),
-            End::Server(server) => server.give_up(alloc, text),
+            End::Server(server) => server.give_up(text),
             End::Peer(peer) => peer.give_up(alloc, text),
         }
     }

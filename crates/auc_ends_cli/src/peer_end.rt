@@ -1,6 +1,6 @@
 //! A peer with its device.
 
-ghost use Rattle.std.specs.Prelude.{◌≤◌, length};
+ghost use Rattle.std.specs.Prelude.{◌≤◌};
 ghost use Rattle.auc_sqn.specs.Number.{top_of};
 
 use crate::server_end::random_key;
@@ -24,7 +24,6 @@ pub struct PeerEnd {
     peer: Peer,
     device: Device,
     sessions: u32,
-    ghost realm: { length device.realm ≤ 255 },
 }
 
 impl PeerEnd {

@@ -107,7 +107,7 @@ impl<C: Centre + Drop> ServerEnd<C> {
     }
 
     /// Receives bytes.
-    pub fn receive<R: Wait>(&mut self, rt: &R, alloc: Global, bytes: &[u8], text: &mut Text) {
+    pub fn receive<R: Wait>(&mut self, rt: &R, bytes: &[u8], text: &mut Text) {
         let set = Setting {
             subs: &self.subs,
             rands: &self.rands,
@@ -117,7 +117,7 @@ impl<C: Centre + Drop> ServerEnd<C> {
         let homes = self.homes.as_mut_slice();
         match self
             .server
-            .on_bytes(rt, alloc, &set, homes, &mut self.centre, bytes)
+            .on_bytes(rt, &set, homes, &mut self.centre, bytes)
         {
             Ok(turn) => put_server_turn(&turn, text),
             Err(NoMemory) => text.fail(),
@@ -125,16 +125,16 @@ impl<C: Centre + Drop> ServerEnd<C> {
     }
 
     /// The server repeats its last request.
-    pub fn repeat(&self, alloc: Global, text: &mut Text) {
-        match self.server.repeat(alloc) {
+    pub fn repeat(&self, text: &mut Text) {
+        match self.server.repeat() {
             Ok(step) => put_server_step(&step, text),
             Err(NoMemory) => text.fail(),
         }
     }
 
     /// The server gives up.
-    pub fn give_up(&mut self, alloc: Global, text: &mut Text) {
-        let step = self.server.give_up(alloc);
+    pub fn give_up(&mut self, text: &mut Text) {
+        let step = self.server.give_up();
         put_server_step(&step, text);
     }
 }

@@ -1,7 +1,6 @@
 //! Identities of subscribers.
 
 ghost use Rattle.std.specs.Prelude.{◌≡◌, ◌<◌, ◌==◌, length, position, IfSome};
-ghost use Rattle.auc_edge.specs.Identity.{last_digits};
 ghost use Rattle.auc_ident.specs.Permanent.{leading, permanent_in, permanent_text, username};
 
 use crate::identity::{MOST, Permanent};
@@ -15,7 +14,7 @@ pub fn permanent(method: Method, imsi: Imsi) -> Permanent
 {
     let mut text = [leading(method); MOST];
     let size = 1 + usize::from(imsi.digits());
-    write_digits(&mut text[1..size], imsi.number());
+    imsi.put_digits(&mut text[1..size]);
     Permanent::front_of(text, size)
 }
 
@@ -56,18 +55,5 @@ fn leading(method: Method) -> u8
     match method {
         Method::Aka => b'0',
         Method::Prime => b'6',
-    }
-}
-
-// Fills a text with the last digits of a number.
-fn write_digits(text: &mut [u8], number: u64)
-    ensures { text.new ≡ last_digits (length text.old) number }
-{
-    let mut left = text.len();
-    let mut rest = number;
-    while left > 0 {
-        left -= 1;
-        text[left] = b'0' + (rest % 10) as u8;
-        rest /= 10;
     }
 }

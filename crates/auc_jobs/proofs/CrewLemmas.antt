@@ -275,7 +275,7 @@ quiet_from shared early earlier (c ∷ done) apart rising below given quiet =
     (All-tail (IsGiven shared early) t (turns (earlier ++ c.served.lines) done) given)
     (both (λ b. (c.job < b.job) × (b.job < length shared.jobs)) (λ b. IsQuietAt shared.jobs earlier b.job) (λ b. IsQuietAt shared.jobs (earlier ++ c.served.lines) b.job) done
     (λ b between before job there bits sub gives. accepted-append bits sub earlier c.served.lines ∙ ap (λ (ns : List (List ℕ)). ns ++ accepted bits sub c.served.lines) (before job there bits sub gives)
-    ∙ job_quiet shared.set (before_at early earlier []) shared.stores here.asked bits sub c.served.lines here.net here.given
+    ∙ job_quiet shared.set (before_at early earlier []) shared.state.kept here.asked bits sub c.served.lines here.net here.given
     (not_given sub here.asked job (apart_at shared.jobs c.job b.job here.asked job apart between.0 between.1 here.there there) gives))
     (both (λ b. c.job < b.job) (λ b. b.job < length shared.jobs) (λ b. (c.job < b.job) × (b.job < length shared.jobs)) done (λ b low high. (low, high)) (AllPairs-head (λ a b. a.job < b.job) c done rising)
     (All-tail (λ b. b.job < length shared.jobs) c done below))
@@ -299,7 +299,7 @@ jobs_on all jobs job from reads i next at = reads (suc i) next (ap (slice_get al
 
 pieces_give : (shared : Shared) (early : List LineRecord) (jobs : List (List Line)) (ts : List Turn) (from : ℕ) → places_of ts ≡ up from (length jobs) → AreJobsFrom shared.jobs jobs from
     → All (IsGiven shared early) ts → All (λ t. IsQuietAt shared.jobs t.earlier t.claimed.job) ts
-    → (nets : List Net) × PiecesGive shared.set early shared.stores jobs (pieces_in ts) nets × (map (λ t. t.claimed.served.sessions) ts ≡ map job_sessions nets)
+    → (nets : List Net) × PiecesGive shared.set early shared.state.kept jobs (pieces_in ts) nets × (map (λ t. t.claimed.served.sessions) ts ≡ map job_sessions nets)
     × (map (λ t. left_on t.claimed.served.devices) ts ≡ map left_in nets)
 pieces_give shared early [] [] from placed reads given quiet = ([], (refl, refl), refl, refl)
 pieces_give shared early [] (t ∷ ts) from placed reads given quiet = let no : ⊥ = cc in absurd no
@@ -312,7 +312,7 @@ pieces_give shared early (job ∷ jobs) (t ∷ ts) from placed reads given quiet
       here.net ∷ nets,
       (
         subst (λ (x : List Line). IsQuiet t.earlier x) (sym same) (All-head (λ x. IsQuietAt shared.jobs x.earlier x.claimed.job) t ts quiet here.asked here.there),
-        subst (λ (x : List Line). JobGives shared.set (before_at early t.earlier []) (start_of shared.set shared.stores x) x t.claimed.served.lines here.net) (sym same) here.given,
+        subst (λ (x : List Line). JobGives shared.set (before_at early t.earlier []) (start_of shared.set shared.state.kept x) x t.claimed.served.lines here.net) (sym same) here.given,
         more,
       ),
       ap (λ (j : JobSessions). j ∷ map (λ (x : Turn). x.claimed.served.sessions) ts) here.ends ∙ ap (λ (js : List JobSessions). job_sessions here.net ∷ js) ends,
@@ -444,7 +444,7 @@ own_turns shared early earlier (c ∷ done) known given =
     let t : Turn = record { earlier = earlier; claimed = c } in
     let here = All-head (IsGiven shared early) t (turns (earlier ++ c.served.lines) done) given in
     All-cons (λ c. All (IsOwn shared.set.rows) c.served.lines) c done
-    (job_own shared.set (before_at early earlier []) (start_of shared.set shared.stores here.asked) here.net here.asked c.served.lines (all_at (AreKnown shared.set.rows) shared.jobs c.job here.asked known here.there) here.given)
+    (job_own shared.set (before_at early earlier []) (start_of shared.set shared.state.kept here.asked) here.net here.asked c.served.lines (all_at (AreKnown shared.set.rows) shared.jobs c.job here.asked known here.there) here.given)
     (own_turns shared early (earlier ++ c.served.lines) done known (All-tail (IsGiven shared early) t (turns (earlier ++ c.served.lines) done) given))
 
 -- a book that was closed, by its openings and greatest numbers
@@ -554,7 +554,7 @@ module _ (shared : Shared) (early : List LineRecord) (openings : List ℕ) (book
       (subst (λ (es : List Entry). IsPermutation (flat_map (entries_of_turn sub) ts) es) (entries_in sub os) (in_place.flat (entries_of_turn sub))))
       (orders_in sub os (All-permutation (λ t. IsInOrder (entries_of_turn sub t)) ts os in_place.same (of_all_turns (λ t. IsInOrder (entries_of_turn sub t)) (λ d s. s.ordered sub))))
 
-  gave : (nets : List Net) × PiecesGive shared.set early shared.stores shared.jobs (pieces_in os) nets × (map (λ t. t.claimed.served.sessions) os ≡ map job_sessions nets)
+  gave : (nets : List Net) × PiecesGive shared.set early shared.state.kept shared.jobs (pieces_in os) nets × (map (λ t. t.claimed.served.sessions) os ≡ map job_sessions nets)
       × (map (λ t. left_on t.claimed.served.devices) os ≡ map left_in nets)
   gave = pieces_give shared early shared.jobs os 0 in_place.keyed jobs_first given quiet
 
@@ -564,7 +564,7 @@ module _ (shared : Shared) (early : List LineRecord) (openings : List ℕ) (book
       (All-permutation (λ c. All (IsOwn shared.set.rows) c.served.lines) (all_jobs all) sorted a.same
       (of_all_jobs (λ c. All (IsOwn shared.set.rows) c.served.lines) (λ d s. own_turns shared early [] d.jobs.items a.known s.given)))
 
-  pub assembled : AreServed shared.set early shared.stores openings shared.jobs (map (λ c. c.served.lines) sorted) (map (λ c. c.served.devices) sorted) (map (λ c. c.served.sessions) sorted) closed.words
+  pub assembled : AreServed shared.set early shared.state.kept openings shared.jobs (map (λ c. c.served.lines) sorted) (map (λ c. c.served.devices) sorted) (map (λ c. c.served.sessions) sorted) closed.words
   assembled = record {
     pieces = record {
       pieces = pieces_in os;
@@ -655,12 +655,12 @@ assembles id shared openings book keeper all passes closed done sorted c early b
 -- the round is served
 pub served_by_workers : (id : TableId) (shared : Shared) (openings : List ℕ) (book : BookValue) (keeper : KeeperValue) (all : List WorkerJobs) (passes : List PassValue) (closed : ClosedValue) (done sorted : List ClaimedJob) (records : List (List LineRecord)) (usims : List OwnDevices) (sessions : List JobSessions) (words : List ℕ)
     → Closing id shared openings book keeper all passes closed done sorted → records ≡ map (λ c. c.served.lines) sorted → usims ≡ map (λ c. c.served.devices) sorted → sessions ≡ map (λ c. c.served.sessions) sorted → words ≡ closed.words
-    → (early : List LineRecord) → Begins shared early → AreServed shared.set early shared.stores openings shared.jobs records usims sessions words
+    → (early : List LineRecord) → Begins shared early → AreServed shared.set early shared.state.kept openings shared.jobs records usims sessions words
 served_by_workers id shared openings book keeper all passes closed done sorted records usims sessions words c lines own came ends early begins =
-    subst (λ (ws : List ℕ). AreServed shared.set early shared.stores openings shared.jobs records usims sessions ws) (sym ends)
-    (subst (λ (js : List JobSessions). AreServed shared.set early shared.stores openings shared.jobs records usims js closed.words) (sym came)
-    (subst (λ (us : List OwnDevices). AreServed shared.set early shared.stores openings shared.jobs records us (map (λ c. c.served.sessions) sorted) closed.words) (sym own)
-    (subst (λ (rs : List (List LineRecord)). AreServed shared.set early shared.stores openings shared.jobs rs (map (λ c. c.served.devices) sorted) (map (λ c. c.served.sessions) sorted) closed.words) (sym lines)
+    subst (λ (ws : List ℕ). AreServed shared.set early shared.state.kept openings shared.jobs records usims sessions ws) (sym ends)
+    (subst (λ (js : List JobSessions). AreServed shared.set early shared.state.kept openings shared.jobs records usims js closed.words) (sym came)
+    (subst (λ (us : List OwnDevices). AreServed shared.set early shared.state.kept openings shared.jobs records us (map (λ c. c.served.sessions) sorted) closed.words) (sym own)
+    (subst (λ (rs : List (List LineRecord)). AreServed shared.set early shared.state.kept openings shared.jobs rs (map (λ c. c.served.devices) sorted) (map (λ c. c.served.sessions) sorted) closed.words) (sym lines)
     (assembled shared early openings book keeper all closed sorted (assembles id shared openings book keeper all passes closed done sorted c early begins)))))
 
 -- the limits that its lines go by

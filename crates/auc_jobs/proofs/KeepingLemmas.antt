@@ -1,9 +1,9 @@
 -- For the keeper of a round: the journal after it.
 use Rattle.std.proofs.Common.{◌≡◌, ◌≢◌, ℕ, zero, suc, ◌+◌, ◌<◌, ◌≤◌, List, [], ◌∷◌, length, map, max, slice_get, slice_index, All, AllPairs, Contains, Option, Some, Result, Ok, Err, arith, refl, sym, ap, ◌∙◌, subst}
 use Rattle.std.specs.Prelude.{IfOk, IsOk, OnOk}
+use Rattle.std.proofs.lemmas.List.{length-map}
 use Rattle.std.proofs.lemmas.Option.{slice_get_within}
 use Rattle.std.proofs.lemmas.List.Elements.{All-contains, All-map}
-use Rattle.atomic_table.specs.Seated.{TableId}
 use Rattle.auc_draw.specs.Book.{Opens}
 use Rattle.auc_draw.specs.Values.{BookValue, KeeperValue, PassValue}
 use Rattle.auc_edge.specs.Identity.{Identity}
@@ -18,7 +18,7 @@ use Rattle.auc_journal.specs.Journal.{JournalState, limits_of}
 use Rattle.auc_keeper.specs.Keeper.{IsAbove, Since}
 use Rattle.auc_keeper.proofs.Facts.{begins_left}
 use Rattle.auc_lines.specs.declared.part.Line.{Line}
-use Rattle.auc_subs.specs.Subscriber.{AreSubscribers}
+use Rattle.auc_subs.specs.Subscriber.{AreSubscribers, tops_of}
 use Rattle.auc_subs.specs.declared.row.Row.{Row}
 use Rattle.auc_world.specs.declared.record.LineRecord.{LineRecord}
 use Rattle.auc_world.specs.declared.record.RoundRecord.{RoundRecord}
@@ -26,15 +26,14 @@ use Rattle.auc_world.specs.Limits.{Raises}
 use Rattle.auc_world.specs.Entries.{entries_of_jobs}
 use Rattle.auc_world.specs.Lines.{all_lines, held_of, withheld_of}
 use Rattle.auc_world.specs.Setting.{Setting}
-use Rattle.auc_world.specs.Transcript.{reopened}
 use Rattle.auc_world.proofs.Facts.{withheld_of-held_of}
 use Rattle.auc_jobs.specs.declared.claiming.WorkerJobs.{WorkerJobs}
 use Rattle.auc_jobs.specs.declared.round.Ran.{Ran}
 use Rattle.auc_jobs.specs.declared.workers.RoundPieces.{RoundPieces}
-use Rattle.auc_jobs.specs.InnerClaims.{IsDone}
+use Rattle.auc_jobs.specs.InnerClaims.{HaveWorked, IsDone}
 use Rattle.auc_jobs.specs.InnerKeeping.{CanKeep, StaysNear, TellsStop, told_stop}
 use Rattle.auc_jobs.specs.InnerRound.{GoesByLimits, LeadsOn}
-use Rattle.auc_jobs.specs.InnerSharing.{Shared}
+use Rattle.auc_jobs.specs.InnerSharing.{IsServable, IsShared, Shared}
 use Rattle.auc_jobs.specs.Round.{DrewFull, IsJournalOf, LeavesMore, Serves}
 use Rattle.auc_jobs.specs.State.{Standing, StandsAt}
 use Rattle.auc_jobs.proofs.LineLemmas.{some_at}
@@ -143,12 +142,33 @@ can_keep rows openings tops workers journal book passes pass subscribers is open
   running = opens.running;
 }
 
--- what the workers of a round came to is of all its passes
-pub all_worked : (id : TableId) (greatest : List ℕ) (shared : Shared) (openings tops limits : List ℕ) (workers : ℕ) (book : BookValue) (passes : List PassValue) (before after : KeeperValue) (all : List WorkerJobs)
-    → Opens openings tops limits workers book passes before → 1 ≤ workers → after.passes ≡ before.passes → (length all ≡ length passes) × All (IsDone id greatest shared) all
-    → (1 ≤ length all) × (after.passes ≡ length all) × All (IsDone id greatest shared) all
-all_worked id greatest shared openings tops limits workers book passes before after all opens some kept done =
-    (omega (arith, done.0, opens.many, some), kept ∙ opens.all ∙ sym opens.many ∙ sym done.0, done.1)
+-- the workers of a round share it and the book that was opened for it
+pub opened_for : {D : Type 0} (shared : Shared) (journal : JournalState D) (book : BookValue) (passes : List PassValue) (keeper : KeeperValue) → IsServable shared → IsJournalOf shared.set.rows journal
+    → Opens shared.state.words (tops_of shared.set.rows) (limits_of journal) shared.workers book passes keeper → IsShared book.id book.tops (length journal.imsis) shared book
+opened_for shared journal book passes keeper servable is opens =
+    let size : length book.openings ≡ length shared.set.rows = ap (λ (os : List ℕ). length os) opens.numbers ∙ servable.begins.1.subscribers.size in
+    record {
+      servable = servable;
+      opened = record {
+        own = (refl, refl);
+        tops = opens.tops;
+        size = size;
+        sized = ap (λ (imsis : List Identity). length imsis) is.subscribers ∙ length-map shared.set.rows (λ (row : Row). row.imsi) ∙ sym size;
+      };
+    }
+
+-- what they came to is of all its passes
+pub have_worked : (shared : Shared) (limits : List ℕ) (book : BookValue) (passes : List PassValue) (before after : KeeperValue) (stop : Option Stop) (all : List WorkerJobs) → IsServable shared
+    → Opens shared.state.words (tops_of shared.set.rows) limits shared.workers book passes before → after.id ≡ book.id → after.passes ≡ before.passes → stop ≡ after.stop
+    → (length all ≡ length passes) × All (IsDone book.id book.tops shared) all → HaveWorked shared book all after stop
+have_worked shared limits book passes before after stop all servable opens own kept stopped done = record {
+  sized = ap (λ (os : List ℕ). length os) opens.numbers ∙ servable.begins.1.subscribers.size;
+  tops = opens.tops;
+  some = let some = servable.round.many.0 in omega (arith, done.0, opens.many, some);
+  done = done.1;
+  own = (own, kept ∙ opens.all ∙ sym opens.many ∙ sym done.0);
+  stopped = stopped;
+}
 
 -- the limit at a row's place is what is reserved for its identity
 limit_of_row : {D : Type 0} (rows : List Row) (journal : JournalState D) (sub : ℕ) (row : Row) → journal.imsis ≡ map (λ row. row.imsi) rows → slice_get rows sub ≡ Some row
@@ -186,16 +206,16 @@ drew_above {D} set stop round records before words after subscribers is limits f
 -- a round whose pieces go by the limits is served
 pub served_round : {D : Type 0} (seen : D → Option (List ℕ)) (may_leave : D → List ℕ → Type 0) (moment : D → ℕ) (left_since : D → ℕ → List ℕ → Type 0) (set : Setting) (state next : Standing) (jobs : List (List Line)) (journal after : JournalState D)
     (done : RoundPieces) (result : Result Ran NoMemory) → IfOk result (λ ran. (early : List LineRecord) → StandsAt set early state → LeadsOn set done.stop early state jobs ran.round done.words next)
-    → OnOk result (next.words ≡ reopened set.rows done.words) → IfOk result (λ ran. (ran.round.jobs ≡ done.jobs.records) × (ran.vectors ≡ done.jobs.vectors) × (ran.stop ≡ done.stop))
+    → IfOk result (λ ran. (ran.round.jobs ≡ done.jobs.records) × (ran.vectors ≡ done.jobs.vectors) × (ran.stop ≡ done.stop))
     → after.imsis ≡ map (λ row. row.imsi) set.rows → GoesByLimits set done.stop done.jobs.records (limits_of journal) done.words (limits_of after) → StaysNear seen may_leave moment left_since journal done.words after
     → IfOk result (λ ran. (early : List LineRecord) → StandsAt set early state → Serves seen may_leave moment left_since set early state jobs ran.round ran.stop journal next after)
-served_round seen may_leave moment left_since set state next jobs journal after done (Ok ran) lawful opens parts subscribers limits near = λ early stands.
+served_round seen may_leave moment left_since set state next jobs journal after done (Ok ran) lawful parts subscribers limits near = λ early stands.
     let leads : LeadsOn set ran.stop early state jobs ran.round done.words next =
     subst (λ (stop : Option Stop). LeadsOn set stop early state jobs ran.round done.words next) (sym parts.2) (lawful early stands) in
     record {
       words = done.words;
       lawful = leads.lawful;
-      opens = opens;
+      opens = leads.opens;
       keeps = leads.keeps;
       limits = subst (λ (records : List (List LineRecord)). Raises set.rows (all_lines records) (limits_of journal) done.words (limits_of after)) (sym parts.0) limits.raises;
       withheld = λ sub row there.
@@ -207,7 +227,7 @@ served_round seen may_leave moment left_since set state next jobs journal after 
       durable = near.durable;
       always = near.always;
     }
-served_round seen may_leave moment left_since set state next jobs journal after done (Err e) lawful opens parts subscribers limits near = tt
+served_round seen may_leave moment left_since set state next jobs journal after done (Err e) lawful parts subscribers limits near = tt
 
 -- what holds where a result is Ok holds of what it has
 pub if_ok_at : {A E : Type 0} (P : A → Type 0) (result : Result A E) (x : A) → result ≡ Ok x → IfOk result P → P x

@@ -288,16 +288,18 @@ lawful_round set stop early stores openings words jobs records own sessions coun
     some_is : (a b : Count) → Some a ≡ Some b → a ≡ b
     some_is a b e = cc
 
--- and homes and devices keep what the networks of its jobs leave
+-- and it leads to the next state
 pub leads_on : (set : Setting) (stop : Option Stop) (early : List LineRecord) (state new : Standing) (words : List ℕ) (jobs : List (List Line)) (records : List (List LineRecord)) (own : List OwnDevices) (sessions : List JobSessions) (counts : List Count)
     (number : ℕ) (closings : List Closing) (verdicts : List SessionVerdict) (kept : Premise) → AllPairs AreApart jobs → ArePieces set early state.kept state.words jobs records own sessions words → All (λ word. word ≤ max_seq + 64) words
     → length words ≡ length state.words → length counts ≡ length state.words → AreCounted (all_lines records) counts → closings ≡ counted_closings 0 state.words words counts → Withholds stop (all_lines records)
-    → AreVerdicts sessions verdicts → kept ≡ premise_from 1 sessions → IsAdvanced set.rows state records own words new
+    → AreVerdicts sessions verdicts → kept ≡ premise_from 1 sessions → IsAdvanced set.rows state records own words new → StandsAt set (early ++ all_lines records) new
     → LeadsOn set stop early state jobs (record { number = number; jobs = records; closings = closings; sessions = verdicts; premise = kept }) words new
 unfolding lawful_round
-leads_on set stop early state new words jobs records own sessions counts number closings verdicts kept apart p bound size sizes counted is withholds agree holds advanced = record {
+leads_on set stop early state new words jobs records own sessions counts number closings verdicts kept apart p bound size sizes counted is withholds agree holds advanced stands = record {
   lawful = lawful_round set stop early state.kept state.words words jobs records own sessions counts number closings verdicts kept apart p bound size sizes counted is withholds agree holds;
+  opens = advanced.opened;
   keeps = advanced.keeps ∙ put_all_alike state.kept own p.nets p.left;
+  stands = stands;
 }
 
 -- each job has a network

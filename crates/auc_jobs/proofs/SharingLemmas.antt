@@ -29,34 +29,34 @@ job_at inside shared job item asked is within there read =
 
 -- it begins
 pub job_begins_at : (inside shared : Shared) (early beside : List LineRecord) (kept now : ℕ → Option ℕ) (job : ℕ) (set : Setting) (released : Released) (asked : List Line)
-    → inside ≡ shared → set ≡ inside.set → released ≡ inside.released → now ≡ kept → slice_get inside.jobs job ≡ Some asked → BeginsAt shared early beside kept job
-    → JobBegins set.rows early beside now released inside.usims asked
+    → inside ≡ shared → set ≡ inside.set → released ≡ inside.state.released → now ≡ kept → slice_get inside.jobs job ≡ Some asked → BeginsAt shared early beside kept job
+    → JobBegins set.rows early beside now released inside.state.usims asked
 job_begins_at inside shared early beside kept now job set released asked is same_set same_released same_kept there begins =
     let at : BeginsAt inside early beside kept job = subst (λ (s : Shared). BeginsAt s early beside kept job) (sym is) begins in
-    subst (λ (s : Setting). JobBegins s.rows early beside now released inside.usims asked) (sym same_set)
-    (subst (λ (rs : Released). JobBegins inside.set.rows early beside now rs inside.usims asked) (sym same_released)
-    (subst (λ (k : ℕ → Option ℕ). JobBegins inside.set.rows early beside k inside.released inside.usims asked) (sym same_kept) (at.begins asked there)))
+    subst (λ (s : Setting). JobBegins s.rows early beside now released inside.state.usims asked) (sym same_set)
+    (subst (λ (rs : Released). JobBegins inside.set.rows early beside now rs inside.state.usims asked) (sym same_released)
+    (subst (λ (k : ℕ → Option ℕ). JobBegins inside.set.rows early beside k inside.state.released inside.state.usims asked) (sym same_kept) (at.begins asked there)))
 
 -- and is served
 module _ {C : Type 0} (kept : C → ℕ → Option ℕ) (goes : C → ℕ → List Entry → List (ℕ × Stop) → C → Type 0) where
-  served_inside : (inside : Shared) (worker after : WorkerState C) (name next : ℕ) (job : ℕ) (asked : List Line) (served : ServedJob) → worker.set ≡ inside.set → worker.released ≡ inside.released
-      → slice_get inside.jobs job ≡ Some asked → Does kept goes name next worker after inside.usims inside.stores asked → Ends worker after served.devices → served.lines ≡ after.lines
+  served_inside : (inside : Shared) (worker after : WorkerState C) (name next : ℕ) (job : ℕ) (asked : List Line) (served : ServedJob) → worker.set ≡ inside.set → worker.released ≡ inside.state.released
+      → slice_get inside.jobs job ≡ Some asked → Does kept goes name next worker after inside.state.usims inside.state.kept asked → Ends worker after served.devices → served.lines ≡ after.lines
       → served.sessions ≡ job_sessions after.world.net → served.vectors ≡ (if inside.full then vectors_in inside.set served.lines else [])
       → ServesAt (λ i es ws. goes worker.centre i es ws after.centre) (kept worker.centre) (kept after.centre) inside job served
   served_inside inside worker after name next job asked served same_set same_released there does ends lines sessions vectors = record {
     asked = asked;
     there = there;
     serves = λ early beside begins.
-        subst (λ (s : Setting). ServesJob (λ i es ws. goes worker.centre i es ws after.centre) s early beside (kept after.centre) inside.stores asked served.lines served.devices served.sessions) same_set
-        (does_job kept goes name next worker after inside.usims inside.stores asked served.devices served.lines served.sessions does ends lines sessions early beside
-        (subst (λ (s : Setting). JobBegins s.rows early beside (kept worker.centre) worker.released inside.usims asked) (sym same_set)
-        (subst (λ (rs : Released). JobBegins inside.set.rows early beside (kept worker.centre) rs inside.usims asked) (sym same_released) begins)));
+        subst (λ (s : Setting). ServesJob (λ i es ws. goes worker.centre i es ws after.centre) s early beside (kept after.centre) inside.state.kept asked served.lines served.devices served.sessions) same_set
+        (does_job kept goes name next worker after inside.state.usims inside.state.kept asked served.devices served.lines served.sessions does ends lines sessions early beside
+        (subst (λ (s : Setting). JobBegins s.rows early beside (kept worker.centre) worker.released inside.state.usims asked) (sym same_set)
+        (subst (λ (rs : Released). JobBegins inside.set.rows early beside (kept worker.centre) rs inside.state.usims asked) (sym same_released) begins)));
     vectors = vectors;
   }
 
   pub served_at : (inside shared : Shared) (worker after : WorkerState C) (name next : ℕ) (first last : C) (job : ℕ) (asked : List Line) (served : ServedJob) → inside ≡ shared
-      → worker.set ≡ inside.set → worker.released ≡ inside.released → worker.centre ≡ first → after.centre ≡ last → slice_get inside.jobs job ≡ Some asked
-      → Does kept goes name next worker after inside.usims inside.stores asked → Ends worker after served.devices → served.lines ≡ after.lines → served.sessions ≡ job_sessions after.world.net
+      → worker.set ≡ inside.set → worker.released ≡ inside.state.released → worker.centre ≡ first → after.centre ≡ last → slice_get inside.jobs job ≡ Some asked
+      → Does kept goes name next worker after inside.state.usims inside.state.kept asked → Ends worker after served.devices → served.lines ≡ after.lines → served.sessions ≡ job_sessions after.world.net
       → served.vectors ≡ (if inside.full then vectors_in inside.set served.lines else []) → ServesAt (λ i es ws. goes first i es ws last) (kept first) (kept last) shared job served
   served_at inside shared worker after name next first last job asked served is same_set same_released begun ended there does ends lines sessions vectors =
       subst (λ (s : Shared). ServesAt (λ i es ws. goes first i es ws last) (kept first) (kept last) s job served) is
@@ -65,8 +65,8 @@ module _ {C : Type 0} (kept : C → ℕ → Option ℕ) (goes : C → ℕ → Li
       (served_inside inside worker after name next job asked served same_set same_released there does ends lines sessions vectors)))
 
   pub served_result : (inside shared : Shared) (worker after : WorkerState C) (name next : ℕ) (first last : C) (job : ℕ) (asked : List Line) (lines : List LineRecord) (world : WorldState)
-      (result : Result ServedJob NoMemory) → inside ≡ shared → worker.set ≡ inside.set → worker.released ≡ inside.released → worker.centre ≡ first → after.centre ≡ last
-      → slice_get inside.jobs job ≡ Some asked → Does kept goes name next worker after inside.usims inside.stores asked → lines ≡ after.lines → world ≡ after.world
+      (result : Result ServedJob NoMemory) → inside ≡ shared → worker.set ≡ inside.set → worker.released ≡ inside.state.released → worker.centre ≡ first → after.centre ≡ last
+      → slice_get inside.jobs job ≡ Some asked → Does kept goes name next worker after inside.state.usims inside.state.kept asked → lines ≡ after.lines → world ≡ after.world
       → HaveSecrets after.set.rows (usim_of after.set.rows world) → IfOk result (λ s. s.lines ≡ lines) → IfOk result (λ s. s.devices.homes ≡ world.net.homes)
       → IfOk result (λ s. s.devices.devices ≡ world.devices) → IfOk result (λ s. map (λ device. device.store) s.devices.devices ≡ world.net.stores)
       → IfOk result (λ s. s.sessions ≡ job_sessions world.net)
@@ -87,4 +87,4 @@ module _ {C : Type 0} (kept : C → ℕ → Option ℕ) (goes : C → ℕ → Li
 -- the lines of the job of a place are known
 pub known_at : (inside shared : Shared) (job : ℕ) (asked : List Line) → inside ≡ shared → IsServable shared → slice_get inside.jobs job ≡ Some asked → AreKnown inside.set.rows asked
 known_at inside shared job asked is servable there =
-    all_at (AreKnown inside.set.rows) inside.jobs job asked (subst (λ (s : Shared). AreAllKnown s.set.rows s.jobs) (sym is) servable.known) there
+    all_at (AreKnown inside.set.rows) inside.jobs job asked (subst (λ (s : Shared). AreAllKnown s.set.rows s.jobs) (sym is) servable.round.known) there

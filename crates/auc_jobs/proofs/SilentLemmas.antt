@@ -9,11 +9,10 @@ use Rattle.auc_packet.specs.declared.subtype.Subtype.TheVariants as subtype
 use Rattle.auc_peer.specs.Asking.{answer_noted}
 use Rattle.auc_peer.specs.Attributes.{attrs_in, checkcode, differs}
 use Rattle.auc_peer.specs.Subscription.{Subscription}
-use Rattle.auc_peer.specs.Table.{accepted, accepting, again, by_answer, by_counter, client, context_of, disclosed, genuine, keys_at, master_at, opened, own_code, peer_does, resumed_by, resuming, small, sound, succeeded as peer_succeeded, taken, with_inner}
+use Rattle.auc_peer.specs.Table.{accepted, accepting, by_answer, by_counter, client, context_of, disclosed, genuine, keys_at, master_at, opened, own_code, peer_does, resumed_by, resuming, small, sound, succeeded as peer_succeeded, taken, with_inner}
 use Rattle.auc_peer.specs.declared.decrypted.Decrypted.{Decrypted}
 use Rattle.auc_peer.specs.declared.decrypted.Decrypted.TheVariants as decrypted
 use Rattle.auc_peer.specs.declared.peer.Challenge.{Challenge}
-use Rattle.auc_peer.specs.declared.peer.Last.{Last}
 use Rattle.auc_peer.specs.declared.peer.Peer.{Peer}
 use Rattle.auc_peer.specs.declared.peer.PeerState.{PeerState}
 use Rattle.auc_peer.specs.declared.peer.PeerState.TheVariants as state
@@ -56,22 +55,14 @@ server_silent set homes s text packets (row.Resume sub) notes e = by (context_in
     by None = refl
     by (Some c) = refl
 server_silent set homes s text packets row.WrongCounter notes e = refl
-server_silent set homes s text packets row.Reauthenticated notes e = by s.resumed
-  where
-    by : (o : Option Resumed) → (reauthenticated s o).1.notes.number ≡ None
-    by None = refl
-    by (Some sent) = refl
+server_silent set homes s text packets (row.Reauthenticated sent) notes e = refl
 server_silent set homes s text packets (row.Ignore cause) notes e = refl
 server_silent set homes s text packets (row.Ask kind) notes e = refl
 server_silent set homes s text packets row.UnknownIdentity notes e = refl
 server_silent set homes s text packets row.WrongMac notes e = refl
 server_silent set homes s text packets row.WrongRes notes e = refl
 server_silent set homes s text packets row.WrongCheckcode notes e = refl
-server_silent set homes s text packets row.Success notes e = by s.challenged
-  where
-    by : (o : Option Challenged) → (succeeded s o).1.notes.number ≡ None
-    by None = refl
-    by (Some sent) = refl
+server_silent set homes s text packets (row.Success sent) notes e = refl
 server_silent set homes s text packets row.SecondSync notes e = refl
 server_silent set homes s text packets row.BadAuts notes e = refl
 server_silent set homes s text packets row.Rejected notes e = refl
@@ -121,11 +112,7 @@ again_silent key keeps p seen inner (Some c) =
 
 pub peer_silent : (key : List ℕ) (s : Subscription) (keeps : Keeps) (p : Peer) (seen : Seen) (r : PeerRow) (n : Option UsimNote) (inner : Decrypted) → (peer_does key s keeps p seen r n inner).1.notes.number ≡ None
 peer_silent key s keeps p seen (peer_row.Ignore cause) n inner = refl
-peer_silent key s keeps p seen peer_row.Again n inner = by p.last
-  where
-    by : (o : Option Last) → (again p o).1.notes.number ≡ None
-    by None = refl
-    by (Some last) = refl
+peer_silent key s keeps p seen peer_row.Again n inner = refl
 peer_silent key s keeps p seen peer_row.First n inner = refl
 peer_silent key s keeps p seen (peer_row.Identity asked) n inner = refl
 peer_silent key s keeps p seen (peer_row.Client cause) n inner = refl

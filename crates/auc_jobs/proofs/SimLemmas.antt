@@ -12,7 +12,7 @@ use Rattle.auc_sim.specs.Identity.{sim_identity, with_realm}
 use Rattle.auc_sim.specs.Session.{SimInputs, SimRuns}
 use Rattle.auc_sim.specs.Triplets.{of_vector}
 use Rattle.auc_sim.specs.declared.note.SimNote.{SimNote}
-use Rattle.auc_sim.specs.declared.parts.Triplet.{Triplet}
+use Rattle.auc_sim_packet.specs.declared.parts.Triplet.{Triplet}
 use Rattle.auc_subs.specs.Subscriber.{AreSubscribers, IsRow, top_at}
 use Rattle.auc_subs.specs.declared.row.Row.{Row}
 use Rattle.auc_world.specs.Lines.{numbers_of}

@@ -1,11 +1,9 @@
 -- For the state: the numbers of the rows, and the released ones.
-use Rattle.std.proofs.Common.{◌≡◌, ℕ, zero, suc, Bool, ◌+◌, ◌<◌, ◌≤◌, List, [], ◌∷◌, ◌++◌, length, map, take, arith, refl, sym, ◌∙◌, ap, subst}
-use Rattle.std.specs.Prelude.{AllPairs, Some, slice_get, slice_index}
+use Rattle.std.proofs.Common.{◌≡◌, ℕ, zero, suc, ◌+◌, ◌<◌, ◌≤◌, List, [], ◌∷◌, ◌++◌, length, map, take, arith, refl, sym, ◌∙◌, ap, subst}
+use Rattle.std.specs.Prelude.{Some, slice_get, slice_index}
 use Rattle.std.proofs.lemmas.List.{take_more, take_all, map-append, length-map}
 use Rattle.std.proofs.lemmas.List.Elements.{All-nil}
 use Rattle.std.proofs.lemmas.Option.{get_or_from_slice_get}
-use Rattle.auc_lines.specs.declared.part.Line.{Line}
-use Rattle.auc_lines.specs.Part.{AreApart}
 use Rattle.auc_subs.specs.declared.row.Row.{Row}
 use Rattle.auc_subs.specs.Subscriber.{AreSubscribers, top_at}
 use Rattle.auc_subs.proofs.Facts.{drawn_within}
@@ -15,10 +13,9 @@ use Rattle.auc_world.specs.Setting.{Setting}
 use Rattle.auc_world.specs.Start.{Kept, fresh_kept}
 use Rattle.auc_world.specs.declared.record.LineRecord.{LineRecord}
 use Rattle.auc_jobs.specs.Usims.{AreOfRows, AreBehind}
-use Rattle.auc_jobs.specs.InnerSharing.{Shared, Begins, IsServable}
-use Rattle.auc_jobs.specs.Serving.{AreAllKnown}
+use Rattle.auc_jobs.specs.InnerSharing.{Shared, IsServable}
 use Rattle.auc_world.specs.Given.{past_of}
-use Rattle.auc_jobs.specs.State.{AcceptNothing, Standing, StandsAt}
+use Rattle.auc_jobs.specs.State.{AcceptNothing, IsStateOf, Standing, StandsAt}
 use Rattle.auc_jobs.proofs.LineLemmas.{some_at}
 
 -- the numbers of the first rows and of one more
@@ -91,38 +88,12 @@ stands_forgotten inside old none same empty set early nothing stands =
 
 -- ---- a round's beginning
 
--- what its workers share
-abbrev pub beginning : Setting → Standing → List (List Line) → Bool → Shared
-beginning set state jobs full = record { set = set; released = state.released; usims = state.usims; stores = state.kept; jobs = jobs; full = full }
-
--- its jobs can be served
-pub servable : (set : Setting) (state : Standing) (jobs : List (List Line)) (full : Bool) (shared : Shared) → shared ≡ beginning set state jobs full
-    → ((early : List LineRecord) × StandsAt set early state) → AreAllKnown set.rows jobs → length jobs ≤ 200000 → AllPairs AreApart jobs → AreSubscribers set.rows → length set.realm ≤ 255 → IsServable shared
-servable set state jobs full shared is (early, stands) known few apart subscribers realm =
-    subst IsServable (sym is) (record {
-      rows = stands.subscribers.secrets;
-      stores = stands.subscribers.kept;
-      subscribers = subscribers;
-      realm = realm;
-      few = few;
-      known = known;
-      apart = apart;
-      begins = (early, record { earlier = stands.earlier; numbers = stands.numbers; pasts = stands.pasts });
-    })
-
--- it begins after the lines of the earlier rounds
-pub begins_with : (set : Setting) (early : List LineRecord) (state : Standing) (jobs : List (List Line)) (full : Bool) (shared : Shared) → shared ≡ beginning set state jobs full
-    → StandsAt set early state → Begins shared early
-begins_with set early state jobs full shared is stands = subst (λ (s : Shared). Begins s early) (sym is) (record { earlier = stands.earlier; numbers = stands.numbers; pasts = stands.pasts })
-
--- a book can be opened at its words
-pub openings_fit : (set : Setting) (state : Standing) (words : List ℕ) → words ≡ state.words → length set.rows ≤ 65536 → ((early : List LineRecord) × StandsAt set early state)
-    → (length words ≡ length set.rows) × (length words ≤ 65536)
-openings_fit set state words is limit (early, stands) =
-    subst (λ (ws : List ℕ). (length ws ≡ length set.rows) × (length ws ≤ 65536)) (sym is)
-    (stands.subscribers.size, subst (λ (n : ℕ). n ≤ 65536) (sym stands.subscribers.size) limit)
-
-pub numbers_fit : (set : Setting) (state : Standing) (words : List ℕ) → words ≡ state.words → ((early : List LineRecord) × StandsAt set early state)
-    → (sub : ℕ) → sub < length set.rows → slice_index words sub ≤ top_at set.rows sub
-numbers_fit set state words is (early, stands) =
-    subst (λ (ws : List ℕ). (sub : ℕ) → sub < length set.rows → slice_index ws sub ≤ top_at set.rows sub) (sym is) stands.subscribers.numbers
+-- a book can be opened at the words of its state
+pub openings_fit : (inside shared : Shared) (words : List ℕ) → inside ≡ shared → words ≡ inside.state.words → IsServable shared
+    → (length words ≡ length inside.set.rows) × (length words ≤ 65536) × ((sub : ℕ) → sub < length inside.set.rows → slice_index words sub ≤ top_at inside.set.rows sub)
+openings_fit inside shared words same is servable =
+    let own : IsServable inside = subst IsServable (sym same) servable in
+    let state : IsStateOf inside.set.rows inside.state = own.begins.1.subscribers in
+    let limit : length inside.set.rows ≤ 65536 = own.round.subscribers.limit in
+    subst (λ (ws : List ℕ). (length ws ≡ length inside.set.rows) × (length ws ≤ 65536) × ((sub : ℕ) → sub < length inside.set.rows → slice_index ws sub ≤ top_at inside.set.rows sub)) (sym is)
+    (state.size, subst (λ (n : ℕ). n ≤ 65536) (sym state.size) limit, state.numbers)

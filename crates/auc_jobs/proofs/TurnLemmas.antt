@@ -114,7 +114,7 @@ quiet_turns shared early earlier (c ∷ done) job bits sub asked apart within at
     let t : Turn = record { earlier = earlier; claimed = c } in
     let here = All-head (IsGiven shared early) t (turns (earlier ++ c.served.lines) done) given in
     accepted-append bits sub c.served.lines (lines_done done)
-    ∙ ap (λ (ns : List (List ℕ)). ns ++ accepted bits sub (lines_done done)) (job_quiet shared.set (before_at early earlier []) shared.stores here.asked bits sub c.served.lines here.net here.given
+    ∙ ap (λ (ns : List (List ℕ)). ns ++ accepted bits sub (lines_done done)) (job_quiet shared.set (before_at early earlier []) shared.state.kept here.asked bits sub c.served.lines here.net here.given
     (not_given sub here.asked asked (apart_at shared.jobs c.job job here.asked asked apart (All-head (λ b. b.job < job) c done below) within here.there at) gives))
     ∙ quiet_turns shared early (earlier ++ c.served.lines) done job bits sub asked apart within at gives (All-tail (λ b. b.job < job) c done below)
     (All-tail (IsGiven shared early) t (turns (earlier ++ c.served.lines) done) given)
@@ -166,7 +166,7 @@ pub record Serves (shared : Shared) (old mid new : PassValue) (done : List Claim
 
 -- the job that was served in it
 turn_served : (shared : Shared) (early : List LineRecord) (old mid new : PassValue) (done : List ClaimedJob) (c : ClaimedJob) → (s : Serves shared old mid new done c) → IsBetween shared early old done
-    → ServesJob (λ i es ws. Adds mid i es ws new) shared.set early (lines_done done) (kept_by new) shared.stores s.serves.asked c.served.lines c.served.devices c.served.sessions
+    → ServesJob (λ i es ws. Adds mid i es ws new) shared.set early (lines_done done) (kept_by new) shared.state.kept s.serves.asked c.served.lines c.served.devices c.served.sessions
 turn_served shared early old mid new done c s between =
     s.serves.serves early (lines_done done) ((claimed_begins shared early old mid done c.job s.apart s.claim s.tops between).begins s.serves.asked s.serves.there)
 
@@ -189,7 +189,7 @@ between_more shared early old mid new done c s between = record {
     released = λ sub. All-push (λ (b : ClaimedJob). All (Contains (released_of sub new.deeds)) (numbers_of sub b.served.lines)) done c
         (jobs_grown (released_in sub) (λ (b : ClaimedJob). numbers_of sub b.served.lines) old.deeds more new.deeds done grows (was.released sub))
         (job_released shared.set.rows sub (lines_done done) c.served.lines (released_of sub new.deeds)
-        (job_own shared.set (before_at early (lines_done done) []) (start_of shared.set shared.stores s.serves.asked) served.net s.serves.asked c.served.lines (all_at (AreKnown shared.set.rows) shared.jobs c.job s.serves.asked s.known s.serves.there) served.given)
+        (job_own shared.set (before_at early (lines_done done) []) (start_of shared.set shared.state.kept s.serves.asked) served.net s.serves.asked c.served.lines (all_at (AreKnown shared.set.rows) shared.jobs c.job s.serves.asked s.known s.serves.there) served.given)
         (served.made sub).ordered
         (subst (λ (ts : List ℕ). All (IsNumberTold (slice_index ts sub) (held_of sub c.served.lines) (released_of sub new.deeds)) (drawn (entries_of_lines sub (lines_done done) c.served.lines))) s.greatest (served.made sub).told));
     withheld = λ sub. All-push (λ (b : ClaimedJob). All (Contains (pass_held sub new.deeds)) (held_of sub b.served.lines)) done c
@@ -208,7 +208,7 @@ between_more shared early old mid new done c s between = record {
     was : HasServed shared early old done
     was = between.served
 
-    served : ServesJob (λ i es ws. Adds mid i es ws new) shared.set early (lines_done done) (kept_by new) shared.stores s.serves.asked c.served.lines c.served.devices c.served.sessions
+    served : ServesJob (λ i es ws. Adds mid i es ws new) shared.set early (lines_done done) (kept_by new) shared.state.kept s.serves.asked c.served.lines c.served.devices c.served.sessions
     served = turn_served shared early old mid new done c s between
 
     more : List Deed

@@ -1,10 +1,10 @@
 -- For workers: what their calls add, and what stands after them.
-use Rattle.std.proofs.Common.{◌≡◌, ℕ, ◌<◌, ◌≤◌, List, [], ◌∷◌, ◌++◌, length, true, All, append-nil, arith, refl, sym, subst, ap, ◌∙◌}
+use Rattle.std.proofs.Common.{◌≡◌, ℕ, ◌<◌, List, [], ◌∷◌, ◌++◌, length, true, All, append-nil, arith, refl, sym, subst, ap, ◌∙◌}
 use Rattle.std.specs.Prelude.{Option, Some, None, flat_map, map, slice_get, if◌then◌else◌}
-use Rattle.std.proofs.lemmas.List.Elements.{All-append, All-cons, All-head, All-map, All-nil, All-tail}
+use Rattle.std.proofs.lemmas.List.Elements.{All-head, All-map, All-nil, All-tail}
 use Rattle.std.proofs.lemmas.List.{map-append}
 use Rattle.auc_cards.proofs.Facts.{devices_found, helds_known, holds_held}
-use Rattle.auc_cards.specs.Devices.{OwnDevices, device_of, device_with, job_devices, usim_among, usim_in}
+use Rattle.auc_cards.specs.Devices.{OwnDevices, device_of, job_devices, usim_among, usim_in}
 use Rattle.auc_edge.specs.declared.stop.Stop.{Stop}
 use Rattle.auc_history.specs.declared.entry.Entry.{Entry}
 use Rattle.auc_lines.specs.declared.part.Line.{Line}
@@ -22,7 +22,7 @@ use Rattle.auc_world.specs.Net.{Net, device_place}
 use Rattle.auc_world.specs.Released.{Released}
 use Rattle.auc_world.specs.Sessions.{job_sessions}
 use Rattle.auc_world.specs.Setting.{Setting}
-use Rattle.auc_world.specs.Start.{Kept, home_of, keeps_of, kept_of, start_of, subscription_at}
+use Rattle.auc_world.specs.Start.{Kept, home_of, keeps_of, start_of, subscription_at}
 use Rattle.auc_world.specs.Vectors.{IsReleasableLine}
 use Rattle.auc_world.specs.World.{WorldState, usim_at, usim_of}
 use Rattle.auc_world.specs.declared.record.JobSessions.{JobSessions}
@@ -30,7 +30,7 @@ use Rattle.auc_world.specs.declared.record.LineRecord.{LineRecord}
 use Rattle.auc_jobs.specs.InnerRound.{JobBegins, ServesJob}
 use Rattle.auc_jobs.specs.InnerServing.{before_at, Stands, Serves, ServesLines}
 use Rattle.auc_jobs.specs.InnerUsims.{AreCopies, has_usim}
-use Rattle.auc_jobs.specs.InnerWorker.{AreForRows, GoesOnWith, IsCentreOf, WorkerState, WorkerStands, WorkerServes, WorkerServesLines, start_world}
+use Rattle.auc_jobs.specs.InnerWorker.{AreForRows, GoesOnBeside, GoesOnWith, IsCentreOf, WorkerState, WorkerStands, WorkerServes, WorkerServesLines, start_world}
 use Rattle.auc_jobs.specs.Serving.{IsKnownLine}
 use Rattle.auc_jobs.specs.Usims.{HaveSecrets, AreOfRows}
 use Rattle.auc_jobs.proofs.CopyLemmas.{copies_keyed}
@@ -48,17 +48,6 @@ starts_copies set usims stores job sub are size known =
     usim_found set stores (held_subs job) (start_world set usims stores job) sub are refl (helds_known set.rows job known)
     ∙ devices_found set usims stores (held_subs job) sub size (helds_known set.rows job known)
     ∙ ap (λ b. if b then slice_get usims sub else None) (holds_held sub job)
-
--- their realms aren't too long
-pub realms_fit : (set : Setting) (usims : List Memory) (stores : List Kept) (subs : List ℕ) → length set.realm ≤ 255 → All (λ (d : Device). length d.realm ≤ 255) (flat_map (device_of set usims stores) subs)
-realms_fit set usims stores [] short = All-nil (λ (d : Device). length d.realm ≤ 255)
-realms_fit set usims stores (s ∷ subs) short =
-    All-append (λ (d : Device). length d.realm ≤ 255) (device_of set usims stores s) (flat_map (device_of set usims stores) subs) (by (slice_get set.rows s) (slice_get usims s) (kept_of stores s).device) (realms_fit set usims stores subs short)
-  where
-    by : (row : Option Row) (usim : Option Memory) (keeps : Keeps) → All (λ (d : Device). length d.realm ≤ 255) (device_with set row usim keeps)
-    by None usim keeps = All-nil (λ (d : Device). length d.realm ≤ 255)
-    by (Some row) None keeps = All-nil (λ (d : Device). length d.realm ≤ 255)
-    by (Some row) (Some usim) keeps = All-cons (λ (d : Device). length d.realm ≤ 255) (record { imsi = row.imsi; usim = usim; store = keeps; realm = set.realm }) [] short (All-nil (λ (d : Device). length d.realm ≤ 255))
 
 -- their subscriptions are those of the rows
 subscriptions : (set : Setting) (usims : List Memory) (stores : List Kept) (subs : List ℕ) → AreOfRows set.rows usims → All (λ s. s < length set.rows) subs
@@ -244,6 +233,28 @@ module _ {C : Type 0} where
     keyed = λ sub. b.keyed sub ∙ a.keyed sub;
     homes = b.homes ∙ a.homes;
     devices = b.devices ∙ a.devices;
+  }
+
+  -- and beside the sessions
+  pub goes_on_beside : (first second third : ℕ) (old mid new : WorkerState C) → GoesOnBeside first second old mid → GoesOnBeside second third mid new → GoesOnBeside first third old new
+  goes_on_beside first second third old mid new a b = record {
+    worker = record {
+      borrow = b.worker.borrow ∙ a.worker.borrow;
+      lent = b.worker.lent ∙ a.worker.lent;
+      set = b.worker.set ∙ a.worker.set;
+      released = b.worker.released ∙ a.worker.released;
+    };
+    keyed = λ sub. b.keyed sub ∙ a.keyed sub;
+    net = b.net ∙ a.net;
+  }
+
+  -- with its network as it is it has the same devices
+  pub goes_on_with : (first second : ℕ) (old new : WorkerState C) → GoesOnBeside first second old new → GoesOnWith first second old new
+  goes_on_with first second old new on = record {
+    worker = on.worker;
+    keyed = on.keyed;
+    homes = ap (λ (net : Net). map (λ home. home.sub) net.homes) on.net;
+    devices = ap (λ (net : Net). net.devices) on.net;
   }
 
   -- a job begins

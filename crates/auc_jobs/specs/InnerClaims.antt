@@ -6,10 +6,12 @@ use Rattle.auc_centre.specs.Adds.{kept_by}
 use Rattle.auc_draw.specs.Book.{IsOf}
 use Rattle.auc_draw.specs.Deeds.{entries_of, claims_of, released_of, held_of as pass_held}
 use Rattle.auc_draw.specs.Values.{BookValue, KeeperValue, PassValue}
+use Rattle.auc_edge.specs.declared.stop.Stop.{Stop}
 use Rattle.auc_history.specs.declared.entry.Entry.{Entry}
 use Rattle.auc_history.specs.History.{IsInOrder}
 use Rattle.auc_lines.specs.declared.part.Line.{Line}
 use Rattle.auc_sqn.specs.Number.{max_seq}
+use Rattle.auc_subs.specs.Subscriber.{tops_of}
 use Rattle.auc_world.specs.declared.record.LineRecord.{LineRecord}
 use Rattle.auc_world.specs.Entries.{entries_of_lines}
 use Rattle.auc_world.specs.Given.{JobGives}
@@ -54,7 +56,7 @@ pub record IsGiven (shared : Shared) (early : List LineRecord) (t : Turn) : Type
   pub asked : List Line
   pub there : slice_get shared.jobs t.claimed.job ≡ Some asked
   pub net : Net
-  pub given : JobGives shared.set (before_at early t.earlier []) (start_of shared.set shared.stores asked) asked t.claimed.served.lines net
+  pub given : JobGives shared.set (before_at early t.earlier []) (start_of shared.set shared.state.kept asked) asked t.claimed.served.lines net
   pub ends : t.claimed.served.sessions ≡ job_sessions net
   pub left : left_on t.claimed.served.devices ≡ left_in net
 
@@ -121,10 +123,19 @@ pub record AreCollected (all : List WorkerJobs) (passes : List PassValue) (done 
   pub served : done ≡ flat_map (λ d. d.jobs.items) all
   pub whole : All (λ d. d.is_whole ≡ true) all
 
+-- the workers of a round have worked: there is one at least, each came to something, and the keeper's pass counts them all
+pub record HaveWorked (shared : Shared) (book : BookValue) (all : List WorkerJobs) (keeper : KeeperValue) (stop : Option Stop) : Type 0 where
+  pub sized : length book.openings ≡ length shared.set.rows
+  pub tops : book.tops ≡ tops_of shared.set.rows
+  pub some : 1 ≤ length all
+  pub done : All (IsDone book.id book.tops shared) all
+  pub own : (keeper.id ≡ book.id) × (keeper.passes ≡ length all)
+  pub stopped : stop ≡ keeper.stop
+
 -- what the closing of a round's book gives: pieces that go by the openings and the limits of the book, and by the keeper's pass
 pub record ClosesAs (shared : Shared) (book : BookValue) (keeper : KeeperValue) (done : RoundPieces) : Type 0 where
   pub served : (early : List LineRecord) → Begins shared early
-      → AreServed shared.set early shared.stores book.openings shared.jobs done.jobs.records done.jobs.devices done.jobs.sessions done.words
+      → AreServed shared.set early shared.state.kept book.openings shared.jobs done.jobs.records done.jobs.devices done.jobs.sessions done.words
   pub limits : GoesByLimits shared.set done.stop done.jobs.records book.limits done.words keeper.limits
   pub looked : (i : ℕ) → i < length book.openings → slice_index keeper.seen i ≤ slice_index done.words i
   pub vectors : done.jobs.vectors ≡ (if shared.full then map (vectors_in shared.set) done.jobs.records else [])

@@ -29,7 +29,7 @@ use Rattle.auc_world.specs.Setting.{Setting}
 use Rattle.auc_world.specs.Transcript.{reopened}
 use Rattle.auc_world.specs.Released.{Released, AreReleased}
 use Rattle.auc_jobs.specs.Numbers.{AreNumbers}
-use Rattle.auc_jobs.specs.State.{Standing}
+use Rattle.auc_jobs.specs.State.{Standing, StandsAt}
 use Rattle.auc_jobs.specs.Usims.{HaveSecrets, AreBehind}
 use Rattle.auc_jobs.specs.InnerServing.{before_at, AreTold}
 use Rattle.auc_jobs.specs.InnerUsims.{OwnDevices, usim_in, has_usim, ArePutBack}
@@ -124,7 +124,10 @@ pub record IsAdvanced (rows : List Row) (old : Standing) (records : List (List L
   pub keeps : new.kept ≡ fold put_own old.kept own
   pub noted : (before : List LineRecord) → AreReleased old.released before → AreReleased new.released (before ++ all_lines records)
 
--- a round from a state to the next one is lawful, and homes and devices keep what the networks of its jobs leave
+-- a round leads from a state to the next one: it is lawful, the next round opens where its words lead, homes and devices keep
+-- what the networks of its jobs leave, and the next state is the one after its lines
 pub record LeadsOn (set : Setting) (stop : Option Stop) (early : List LineRecord) (state : Standing) (jobs : List (List Line)) (round : RoundRecord) (words : List ℕ) (next : Standing) : Type 0 where
   pub lawful : IsLawfulRound set stop early state.kept state.words jobs round words
+  pub opens : next.words ≡ reopened set.rows words
   pub keeps : next.kept ≡ kept_by_jobs state.kept lawful.nets
+  pub stands : StandsAt set (early ++ all_lines round.jobs) next

@@ -4,7 +4,7 @@ use Rattle.auc_lines.specs.Sim.{SimValue}
 use Rattle.auc_sim.specs.Session.{SimRuns}
 use Rattle.auc_sim.specs.Triplets.{of_vector}
 use Rattle.auc_sim.specs.declared.note.SimNote.{SimNote}
-use Rattle.auc_sim.specs.declared.parts.Triplet.{Triplet}
+use Rattle.auc_sim_packet.specs.declared.parts.Triplet.{Triplet}
 use Rattle.auc_subs.specs.Subscriber.{top_at}
 use Rattle.auc_subs.specs.declared.row.Row.{Row}
 use Rattle.auc_world.specs.Setting.{Setting}

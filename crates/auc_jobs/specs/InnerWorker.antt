@@ -65,6 +65,12 @@ module _ {C : Type 0} where
     pub homes : AreOfSame old.world.net.homes new.world.net.homes
     pub devices : new.world.net.devices ≡ old.world.net.devices
 
+  -- for a line beside the sessions it goes on with the network as it is
+  pub record GoesOnBeside (old_name name : ℕ) (old new : WorkerState C) : Type 0 where
+    pub worker : IsSameWorker old_name name old new
+    pub keyed : (sub : ℕ) → has_usim (usim_of new.set.rows new.world) sub ≡ has_usim (usim_of old.set.rows old.world) sub
+    pub net : new.world.net ≡ old.world.net
+
   -- what stands after a worker's lines, with the lines of earlier rounds and of its earlier jobs before them
   abbrev pub WorkerStands : (C → ℕ → Option ℕ) → List LineRecord → List LineRecord → WorkerState C → Type 0
   WorkerStands kept early beside w = Stands w.set.rows (before_at early beside w.lines) (kept w.centre) w.released (usim_of w.set.rows w.world)

@@ -1,5 +1,5 @@
 -- A round that is served with a journal.
-use Rattle.std.specs.Prelude.{◌≡◌, ◌≢◌, ℕ, ◌<◌, ◌≤◌, false, List, All, Contains, map, slice_get, Option, Some}
+use Rattle.std.specs.Prelude.{◌≡◌, ◌≢◌, ℕ, ◌<◌, ◌≤◌, false, List, All, AllPairs, Contains, length, map, slice_get, Option, Some}
 use Rattle.auc_edge.specs.Identity.{Identity}
 use Rattle.auc_edge.specs.declared.stop.Stop.{Stop}
 use Rattle.auc_edge.specs.declared.stop.Stop.TheVariants.{Full}
@@ -9,7 +9,9 @@ use Rattle.auc_journal.specs.Image.{reserved_in}
 use Rattle.auc_journal.specs.Journal.{JournalState, limits_of}
 use Rattle.auc_journal.specs.Settled.{LeavesOnly}
 use Rattle.auc_keeper.specs.Keeper.{IsAbove, IsLeft}
+use Rattle.auc_lines.specs.Part.{AreApart}
 use Rattle.auc_lines.specs.declared.part.Line.{Line}
+use Rattle.auc_subs.specs.Subscriber.{AreSubscribers}
 use Rattle.auc_subs.specs.declared.row.Row.{Row}
 use Rattle.auc_world.specs.Limits.{Raises}
 use Rattle.auc_world.specs.Lines.{all_lines, held_of, withheld_of}
@@ -19,7 +21,18 @@ use Rattle.auc_world.specs.Start.{kept_by_jobs}
 use Rattle.auc_world.specs.Transcript.{entries_of, reopened}
 use Rattle.auc_world.specs.declared.record.LineRecord.{LineRecord}
 use Rattle.auc_world.specs.declared.record.RoundRecord.{RoundRecord}
+use Rattle.auc_jobs.specs.Serving.{AreAllKnown}
 use Rattle.auc_jobs.specs.State.{Standing}
+
+-- a round of these jobs may be served by so many workers: their lines are of known subscribers, no two of them hold one USIM,
+-- and the setting is one of subscribers
+pub record IsRound (set : Setting) (jobs : List (List Line)) (workers : ℕ) : Type 0 where
+  pub subscribers : AreSubscribers set.rows
+  pub realm : length set.realm ≤ 255
+  pub known : AreAllKnown set.rows jobs
+  pub few : length jobs ≤ 200000
+  pub apart : AllPairs AreApart jobs
+  pub many : (1 ≤ workers) × (workers ≤ 64)
 
 -- a journal is one of these subscribers, and no append failed
 pub record IsJournalOf {D : Type 0} (rows : List Row) (journal : JournalState D) : Type 0 where

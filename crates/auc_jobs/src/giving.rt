@@ -10,7 +10,7 @@ ghost use Rattle.auc_world.specs.Lines.{numbers_of};
 ghost use Rattle.auc_world.specs.Released.{has, AreReleased};
 ghost use Rattle.auc_jobs.specs.InnerServing.{before_at, GivesVerdict, IsAnswered};
 ghost use Rattle.auc_jobs.specs.InnerUsims.{HasKeys, Presents, has_usim, usim_of, verdict_by};
-ghost use Rattle.auc_jobs.specs.InnerWorker.{GoesOnWith, WorkerServes};
+ghost use Rattle.auc_jobs.specs.InnerWorker.{GoesOnBeside, WorkerServes};
 ghost use Rattle.auc_jobs.specs.Numbers.{AreNumbers};
 ghost use Rattle.auc_jobs.specs.Usims.{AreBehind, HaveSecrets};
 
@@ -151,8 +151,7 @@ impl<C: Centre> Worker<'_, C> {
             (λ before. GivesVerdict self.old.set before sub n (verdict_by answer))) }
         ensures accepted { IfOk result (λ answer. (row : Row) → slice_get self.old.set.rows sub ≡ Some row
             → HasKeys row n (rand_of self.old.set.key sub n) answer) }
-        ensures same { GoesOnWith (C.name self.old.centre) (C.name self.new.centre) self.old self.new }
-        ensures net { self.new.world.net ≡ self.old.world.net }
+        ensures same { GoesOnBeside (C.name self.old.centre) (C.name self.new.centre) self.old self.new }
     {
         let answer = self.answered(sub, n)?;
         let verdict = answer.verdict();
@@ -168,8 +167,7 @@ impl<C: Centre> Worker<'_, C> {
 
         ensures given { OnOk result (WorkerServes C.kept C.goes self.old self.new
             (λ before. GiveGives self.old.set before sub n)) }
-        ensures same { GoesOnWith (C.name self.old.centre) (C.name self.new.centre) self.old self.new }
-        ensures net { self.new.world.net ≡ self.old.world.net }
+        ensures same { GoesOnBeside (C.name self.old.centre) (C.name self.new.centre) self.old self.new }
     {
         self.presented(sub, n)?;
         Ok(())

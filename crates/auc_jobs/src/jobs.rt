@@ -11,7 +11,7 @@ ghost use Rattle.auc_jobs.specs.InnerWorker.{GoesOnWith, WorkerServes, WorkerSer
 ghost use Rattle.auc_jobs.specs.Usims.{AreOfRows};
 
 use crate::worker::Worker;
-use auc_cards::{JobDevices, Stores, Usims};
+use auc_cards::{Cards, JobDevices};
 use auc_edge::{Items, NoMemory};
 use auc_lines::Line;
 use auc_vector::Centre;
@@ -171,17 +171,15 @@ impl<C: Centre> Worker<'_, C> {
 pub(crate) fn job_world(
     alloc: Global,
     set: &Setting,
-    usims: &Usims,
-    stores: &Stores,
+    cards: &Cards,
     job: &[Line],
 ) -> Result<World, NoMemory>
-    requires rows { AreOfRows set.now.rows usims.now }
-    requires stores { length stores.now ≡ length set.now.rows }
+    requires rows { AreOfRows set.now.rows cards.now.usims }
     requires known { AreKnown set.now.rows job.now }
     requires realm { length set.now.realm ≤ 255 }
-    ensures { IfOk result (λ world. world ≡ start_world set.now usims.now stores.now job.now) }
+    ensures { IfOk result (λ world. world ≡ start_world set.now cards.now.usims cards.now.kept job.now) }
 {
-    let (homes, devices) = JobDevices::of_job(alloc, set, usims, stores, job)?.into_parts();
+    let (homes, devices) = JobDevices::of_job(alloc, set, cards, job)?.into_parts();
     World::new(alloc, homes, devices)
 }
 

@@ -1,6 +1,6 @@
 //! Serving a round: what its jobs ask for, by 1 to 64 workers, each in a thread of its own.
 //!
-//! [`serve`] opens the shared words of a round at the words of a [`State`]. Each worker claims jobs and serves their lines
+//! [`serve`] opens the shared words of a [`Round`] at the words of a [`State`]. Each worker claims jobs and serves their lines
 //! at its desk: it draws vectors (TS 33.102 §6.3.2), resynchronises with a USIM's AUTS (§6.3.5), presents vectors to USIMs
 //! (§6.3.3), derives the key of EPS (TS 33.401 Annex A.2), authenticates devices as in 5G (TS 33.501 §6.1.3.2), runs sites
 //! with leased numbers, runs sessions of EAP-SIM (RFC 4186 §3), and runs the job's sessions (RFC 4187 §3, RFC 9048 §3) in a
@@ -36,5 +36,5 @@ mod worker;
 mod workers;
 
 pub use auc_world::Setting;
-pub use round::{Ran, Served, serve};
+pub use round::{Ran, Round, Served, serve};
 pub use state::State;

@@ -1,21 +1,15 @@
-//! One round.
+//! Serving a round.
 
-ghost use Rattle.std.specs.Prelude.{◌≡◌, ◌≢◌, ◌≤◌, ◌<◌, ◌^◌, ◌+◌, ◌++◌, ◌↔◌, [], ℕ, true, Some, List, All, AllPairs, length, map, IfOk, OnErr, OnOk, if◌then◌else◌};
+ghost use Rattle.std.specs.Prelude.{◌≡◌, ◌≢◌, ◌≤◌, ◌<◌, ◌^◌, ◌+◌, ◌++◌, ◌↔◌, [], ℕ, true, Some, List, All, map, IfOk, OnErr, if◌then◌else◌};
 ghost use Rattle.auc_edge.specs.Faults.{Rose};
 ghost use Rattle.auc_edge.specs.declared.stop.Stop.TheVariants.{Fault, Full};
-ghost use Rattle.auc_journal.specs.Journal.{limits_of};
-ghost use Rattle.auc_lines.specs.Part.{AreApart};
 ghost use Rattle.auc_sqn.specs.Number.{max_seq};
-ghost use Rattle.auc_subs.specs.Subscriber.{AreSubscribers};
 ghost use Rattle.auc_world.specs.Lines.{all_lines};
 ghost use Rattle.auc_world.specs.Round.{Withholds};
-ghost use Rattle.auc_world.specs.Transcript.{reopened};
 ghost use Rattle.auc_world.specs.Vectors.{vectors_in};
 ghost use Rattle.auc_world.specs.declared.record.LineRecord.{LineRecord};
-ghost use Rattle.auc_jobs.specs.InnerKeeping.{StaysNear, TellsStop};
-ghost use Rattle.auc_jobs.specs.InnerRound.{AreServed, GoesByLimits, LeadsOn};
-ghost use Rattle.auc_jobs.specs.Round.{IsJournalOf, LeavesMore, Serves};
-ghost use Rattle.auc_jobs.specs.Serving.{AreAllKnown};
+ghost use Rattle.auc_jobs.specs.InnerRound.{AreServed, LeadsOn};
+ghost use Rattle.auc_jobs.specs.Round.{IsJournalOf, IsRound, LeavesMore, Serves};
 ghost use Rattle.auc_jobs.specs.State.{StandsAt};
 
 use crate::jobs::ServedJobs;
@@ -33,6 +27,21 @@ use auc_world::{
 use std::alloc::Global;
 use std::sync::Wait;
 use std::thread::Threads;
+
+/// A round to be served: its number, its jobs, and what they are served with.
+#[derive(Drop)]
+pub struct Round<'a> {
+    /// Its number, from 1.
+    pub number: u64,
+    /// The lines of its jobs.
+    pub jobs: &'a [JobPart],
+    /// The subscribers and the keys.
+    pub set: &'a Setting<'a>,
+    /// Whether the vectors of the lines are printed.
+    pub full: bool,
+    /// By how many workers it is served, 1 to 64.
+    pub workers: u32,
+}
 
 /// What a round did: its record, and in a full print the vectors of its jobs' lines.
 #[derive(Drop)]
@@ -56,40 +65,30 @@ pub struct Served<D: Disk + Drop> {
     pub result: Result<Ran, NoMemory>,
 }
 
-/// Serves a round of this number by 1 to 64 workers, each in a thread of its own: opens each subscriber at its word of the
-/// state, has the workers claim the jobs and serve them, each with its own copies of the USIMs that it holds and of what their
-/// homes and devices keep, closes the subscribers, and puts the copies back. A number is released only if the journal has
-/// reserved it. If an append is refused, the round goes on within the limits. The gate is told before a job and after its last
-/// line, by its number from 1.
+/// Serves a round, by workers in threads of their own: opens each subscriber at its word of the state, has the workers claim the
+/// jobs and serve them, each with its own copies of the USIMs that it holds and of what their homes and devices keep, closes the
+/// subscribers, and puts the copies back. A number is released only if the journal has reserved it. If an append is refused, the
+/// round goes on within the limits. The gate is told before a job and after its last line, by its number from 1.
 pub fn serve<D: Disk + Drop + Send, G: Gate + Sync, R: Threads + Wait + Sync>(
     rt: &R,
     alloc: Global,
-    number: u64,
-    jobs: &[JobPart],
-    set: &Setting,
-    full: bool,
+    round: &Round,
     mut state: State,
     journal: Journal<D>,
-    workers: u32,
     gate: &G,
 ) -> Served<D>
-    requires state { (early : List LineRecord) × StandsAt set.now early state }
-    requires known { AreAllKnown set.now.rows jobs.now }
-    requires few { length jobs.now ≤ 200000 }
-    requires apart { AllPairs AreApart jobs.now }
-    requires workers { (1 ≤ workers) × (workers ≤ 64) }
-    requires subscribers { AreSubscribers set.now.rows }
-    requires realm { length set.now.realm ≤ 255 }
-    requires journal { IsJournalOf set.now.rows journal }
-    ensures served { IfOk result.result (λ ran. (early : List LineRecord) → StandsAt set.now early state
-        → Serves D.seen D.may_leave D.moment D.left_since set.now early state jobs.now ran.round ran.stop journal
-        result.state result.journal) }
+    requires round { IsRound round.now.set.now round.now.jobs.now round.now.workers }
+    requires state { (early : List LineRecord) × StandsAt round.now.set.now early state }
+    requires journal { IsJournalOf round.now.set.now.rows journal }
+    ensures served { IfOk result.result (λ ran. (early : List LineRecord) → StandsAt round.now.set.now early state
+        → Serves D.seen D.may_leave D.moment D.left_since round.now.set.now early state round.now.jobs.now
+        ran.round ran.stop journal result.state result.journal) }
     ensures next { IfOk result.result (λ ran. (early : List LineRecord)
-        → StandsAt set.now early state
-        → StandsAt set.now (early ++ all_lines ran.round.jobs) result.state) }
-    ensures number { IfOk result.result (λ ran. ran.round.number ≡ number) }
+        → StandsAt round.now.set.now early state
+        → StandsAt round.now.set.now (early ++ all_lines ran.round.jobs) result.state) }
+    ensures number { IfOk result.result (λ ran. ran.round.number ≡ round.now.number) }
     ensures vectors { IfOk result.result (λ ran. ran.vectors
-        ≡ (if full then map (vectors_in set.now) ran.round.jobs else [])) }
+        ≡ (if round.now.full then map (vectors_in round.now.set.now) ran.round.jobs else [])) }
     ensures kept { OnErr result.result (result.state ≡ state) }
 
     // The journal is of the same subscribers. An append failed exactly if reservations ended for a fault.
@@ -103,10 +102,14 @@ pub fn serve<D: Disk + Drop + Send, G: Gate + Sync, R: Threads + Wait + Sync>(
     ensures full { IfOk result.result (λ ran. ran.stop ≡ Some Full → 2 ^ 30 < result.journal.place + 20) }
     ensures leaves { LeavesMore D.seen D.may_leave D.moment D.left_since journal result.journal }
 {
-    let pieces = pieces(rt, alloc, jobs, set, full, &state, journal, workers, gate);
+    let jobs = RoundJobs {
+        round: &*round,
+        state: &state,
+    };
+    let pieces = serve_pieces(rt, alloc, &jobs, journal, gate);
     let Pieces { journal, result } = pieces;
     let result = match result {
-        Ok(done) => finish(alloc, number, jobs, set, &mut state, done),
+        Ok(done) => finish(alloc, round, &mut state, done),
         Err(error) => Err(error),
     };
     Served {
@@ -114,61 +117,6 @@ pub fn serve<D: Disk + Drop + Send, G: Gate + Sync, R: Threads + Wait + Sync>(
         state,
         result,
     }
-}
-
-/// Serves the jobs of a round.
-fn pieces<D: Disk + Drop + Send, G: Gate + Sync, R: Threads + Wait + Sync>(
-    rt: &R,
-    alloc: Global,
-    jobs: &[JobPart],
-    set: &Setting,
-    full: bool,
-    state: &State,
-    journal: Journal<D>,
-    workers: u32,
-    gate: &G,
-) -> Pieces<D>
-    requires state { (early : List LineRecord) × StandsAt set.now early state.now }
-    requires known { AreAllKnown set.now.rows jobs.now }
-    requires few { length jobs.now ≤ 200000 }
-    requires apart { AllPairs AreApart jobs.now }
-    requires workers { (1 ≤ workers) × (workers ≤ 64) }
-    requires subscribers { AreSubscribers set.now.rows }
-    requires realm { length set.now.realm ≤ 255 }
-    requires journal { IsJournalOf set.now.rows journal }
-    ensures served { IfOk result.result (λ done. (early : List LineRecord) → StandsAt set.now early state.now
-        → AreServed set.now early state.now.kept state.now.words jobs.now done.jobs.records done.jobs.devices
-        done.jobs.sessions done.words) }
-    ensures limits { IfOk result.result (λ done. GoesByLimits set.now done.stop done.jobs.records
-        (limits_of journal) done.words (limits_of result.journal)) }
-    ensures vectors { IfOk result.result (λ done. done.jobs.vectors
-        ≡ (if full then map (vectors_in set.now) done.jobs.records else [])) }
-    ensures bound { IfOk result.result (λ done. All (λ word. word ≤ max_seq + 64) done.words) }
-    ensures subscribers { result.journal.imsis ≡ journal.imsis }
-    ensures all { result.journal.all ≡ journal.all }
-    ensures leaves { LeavesMore D.seen D.may_leave D.moment D.left_since journal result.journal }
-    ensures near { IfOk result.result (λ done.
-        StaysNear D.seen D.may_leave D.moment D.left_since journal done.words result.journal) }
-    ensures stop { IfOk result.result (λ done. TellsStop D.faults journal done.stop result.journal) }
-{
-    let _count = set.subs.len();
-    let round = RoundJobs {
-        set,
-        released: &state.released,
-        usims: &state.usims,
-        stores: &state.stores,
-        jobs,
-        full,
-    };
-    serve_pieces(
-        rt,
-        alloc,
-        &round,
-        state.words.as_slice(),
-        journal,
-        workers,
-        gate,
-    )
 }
 
 /// What the record of a round has beside its number and the records of its jobs.
@@ -182,33 +130,28 @@ struct Summary {
 /// The summary of a round whose jobs gave this. The state is led to the next round.
 fn sum_up(
     alloc: Global,
-    jobs: &[JobPart],
-    set: &Setting,
+    round: &Round,
     state: &mut State,
     done: &RoundPieces,
 ) -> Result<Summary, NoMemory>
-    requires state { (early : List LineRecord) × StandsAt set.now early state.old }
-    requires few { length jobs.now ≤ 200000 }
-    requires apart { AllPairs AreApart jobs.now }
-    requires served { (early : List LineRecord) → StandsAt set.now early state.old
-        → AreServed set.now early state.old.kept state.old.words jobs.now done.now.jobs.records done.now.jobs.devices
-        done.now.jobs.sessions done.now.words }
+    requires round { IsRound round.now.set.now round.now.jobs.now round.now.workers }
+    requires state { (early : List LineRecord) × StandsAt round.now.set.now early state.old }
+    requires served { (early : List LineRecord) → StandsAt round.now.set.now early state.old
+        → AreServed round.now.set.now early state.old.kept state.old.words round.now.jobs.now
+        done.now.jobs.records done.now.jobs.devices done.now.jobs.sessions done.now.words }
     requires withholds { Withholds done.now.stop (all_lines done.now.jobs.records) }
     requires bound { All (λ word. word ≤ max_seq + 64) done.now.words }
-    ensures lawful { IfOk result (λ s. (number : ℕ) (early : List LineRecord) → StandsAt set.now early state.old
-        → LeadsOn set.now done.now.stop early state.old jobs.now (record {
+    ensures leads { IfOk result (λ s. (number : ℕ) (early : List LineRecord) → StandsAt round.now.set.now early state.old
+        → LeadsOn round.now.set.now done.now.stop early state.old round.now.jobs.now (record {
           number = number;
           jobs = done.now.jobs.records;
           closings = s.closings;
           sessions = s.sessions;
           premise = s.premise;
         }) done.now.words state.new) }
-    ensures opens { OnOk result (state.new.words ≡ reopened set.now.rows done.now.words) }
-    ensures next { OnOk result ((early : List LineRecord) → StandsAt set.now early state.old
-        → StandsAt set.now (early ++ all_lines done.now.jobs.records) state.new) }
     ensures kept { OnErr result (state.new ≡ state.old) }
 {
-    let _count = set.subs.len();
+    let set = round.set;
     let records = done.jobs.records.as_slice();
     let counts = counts(alloc, state.words.len(), records)?;
     let closings = closings(
@@ -233,36 +176,29 @@ fn sum_up(
     })
 }
 
-/// The record of a round whose jobs gave this. It leads the state to the next round.
+/// What a round did whose jobs gave this. It leads the state to the next round.
 fn finish(
     alloc: Global,
-    number: u64,
-    jobs: &[JobPart],
-    set: &Setting,
+    round: &Round,
     state: &mut State,
     done: RoundPieces,
 ) -> Result<Ran, NoMemory>
-    requires state { (early : List LineRecord) × StandsAt set.now early state.old }
-    requires few { length jobs.now ≤ 200000 }
-    requires apart { AllPairs AreApart jobs.now }
-    requires served { (early : List LineRecord) → StandsAt set.now early state.old
-        → AreServed set.now early state.old.kept state.old.words jobs.now done.jobs.records done.jobs.devices
-        done.jobs.sessions done.words }
+    requires round { IsRound round.now.set.now round.now.jobs.now round.now.workers }
+    requires state { (early : List LineRecord) × StandsAt round.now.set.now early state.old }
+    requires served { (early : List LineRecord) → StandsAt round.now.set.now early state.old
+        → AreServed round.now.set.now early state.old.kept state.old.words round.now.jobs.now
+        done.jobs.records done.jobs.devices done.jobs.sessions done.words }
     requires withholds { Withholds done.stop (all_lines done.jobs.records) }
     requires bound { All (λ word. word ≤ max_seq + 64) done.words }
-    ensures lawful { IfOk result (λ ran. (early : List LineRecord) → StandsAt set.now early state.old
-        → LeadsOn set.now done.stop early state.old jobs.now ran.round done.words state.new) }
-    ensures opens { OnOk result (state.new.words ≡ reopened set.now.rows done.words) }
-    ensures next { IfOk result (λ ran. (early : List LineRecord)
-        → StandsAt set.now early state.old
-        → StandsAt set.now (early ++ all_lines ran.round.jobs) state.new) }
-    ensures number { IfOk result (λ ran. ran.round.number ≡ number) }
+    ensures leads { IfOk result (λ ran. (early : List LineRecord) → StandsAt round.now.set.now early state.old
+        → LeadsOn round.now.set.now done.stop early state.old round.now.jobs.now ran.round done.words state.new) }
+    ensures number { IfOk result (λ ran. ran.round.number ≡ round.now.number) }
     ensures parts { IfOk result (λ ran. (ran.round.jobs ≡ done.jobs.records)
         × (ran.vectors ≡ done.jobs.vectors) × (ran.stop ≡ done.stop)) }
     ensures kept { OnErr result (state.new ≡ state.old) }
 {
-    match sum_up(alloc, jobs, set, state, &done) {
-        Ok(summary) => Ok(record_round(number, summary, done)),
+    match sum_up(alloc, round, state, &done) {
+        Ok(summary) => Ok(record_round(round.number, summary, done)),
         Err(error) => {
             give_back(done);
             Err(error)

@@ -5,7 +5,7 @@ ghost use Rattle.auc_sim.specs.declared.note.SimNote.{SimNote};
 ghost use Rattle.auc_subs.specs.Subscriber.{AreSubscribers};
 ghost use Rattle.auc_world.specs.Sim.{SimGives};
 ghost use Rattle.auc_jobs.specs.InnerSim.{AreNotesOf, AreTripletsOf, IsNumber, said_lines};
-ghost use Rattle.auc_jobs.specs.InnerWorker.{GoesOnWith, WorkerServes};
+ghost use Rattle.auc_jobs.specs.InnerWorker.{GoesOnBeside, WorkerServes};
 
 use crate::worker::Worker;
 use auc_edge::{Items, NoMemory};
@@ -87,8 +87,7 @@ impl<C: Centre> Worker<'_, C> {
         requires sub { line.now.sub < length self.old.set.rows }
         ensures given { OnOk result (WorkerServes C.kept C.goes self.old self.new
             (λ before. SimGives self.old.set line.now)) }
-        ensures same { GoesOnWith (C.name self.old.centre) (C.name self.new.centre) self.old self.new }
-        ensures net { self.new.world.net ≡ self.old.world.net }
+        ensures same { GoesOnBeside (C.name self.old.centre) (C.name self.new.centre) self.old self.new }
     {
         let numbers = self.lease(rt, line.sub(), line.count())?;
         if numbers.len() != line.count() {
@@ -102,8 +101,7 @@ impl<C: Centre> Worker<'_, C> {
     fn say_notes(&mut self, alloc: Global, sub: u32, notes: Items<SimNote>) -> Result<(), NoMemory>
         ensures said { OnOk result (WorkerServes C.kept C.goes self.old self.new
             (λ before lines. lines ≡ said_lines sub notes)) }
-        ensures same { GoesOnWith (C.name self.old.centre) (C.name self.new.centre) self.old self.new }
-        ensures net { self.new.world.net ≡ self.old.world.net }
+        ensures same { GoesOnBeside (C.name self.old.centre) (C.name self.new.centre) self.old self.new }
     {
         let mut left = reversed(alloc, notes)?;
         while let Some(note) = left.pop() {

@@ -7,7 +7,7 @@ ghost use Rattle.auc_sites.specs.Site.{greatest_u32};
 ghost use Rattle.auc_sites.specs.SiteNet.{GrowsByOne};
 ghost use Rattle.auc_world.specs.Sites.{SitesGives, note_of_number};
 ghost use Rattle.auc_jobs.specs.InnerSites.{DeliveryDoes, DrawsIn, EventDoes, GrantDoes, outcome_known};
-ghost use Rattle.auc_jobs.specs.InnerWorker.{GoesOnWith, WorkerServes};
+ghost use Rattle.auc_jobs.specs.InnerWorker.{GoesOnBeside, WorkerServes};
 
 use crate::worker::Worker;
 use auc_edge::NoMemory;
@@ -54,8 +54,7 @@ impl<C: Centre> Worker<'_, C> {
         requires few { length line.now.schedule ≤ 200 }
         ensures given { OnOk result (WorkerServes C.kept C.goes self.old self.new
             (λ before. SitesGives self.old.set line.now)) }
-        ensures same { GoesOnWith (C.name self.old.centre) (C.name self.new.centre) self.old self.new }
-        ensures net { self.new.world.net ≡ self.old.world.net }
+        ensures same { GoesOnBeside (C.name self.old.centre) (C.name self.new.centre) self.old self.new }
     {
         let mut net = SiteNet::new(alloc, line.sites())?;
         for event in line.schedule() {
@@ -85,8 +84,7 @@ impl<C: Centre> Worker<'_, C> {
         ensures served { IfOk result (λ note. DrawsIn C.kept C.goes self.old self.new net.old net.new
             (EventDoes self.old.set line.now event.now note)) }
         ensures grows { GrowsByOne net.old net.new }
-        ensures same { GoesOnWith (C.name self.old.centre) (C.name self.new.centre) self.old self.new }
-        ensures net { self.new.world.net ≡ self.old.world.net }
+        ensures same { GoesOnBeside (C.name self.old.centre) (C.name self.new.centre) self.old self.new }
     {
         match *event {
             SiteEvent::Ask(site) => Ok(SitesNote::Asked {
@@ -122,8 +120,7 @@ impl<C: Centre> Worker<'_, C> {
         ensures served { IfOk result (λ outcome. DrawsIn C.kept C.goes self.old self.new net.old net.new
             (DeliveryDoes self.old.set line.now packet outcome)) }
         ensures grows { GrowsByOne net.old net.new }
-        ensures same { GoesOnWith (C.name self.old.centre) (C.name self.new.centre) self.old self.new }
-        ensures net { self.new.world.net ≡ self.old.world.net }
+        ensures same { GoesOnBeside (C.name self.old.centre) (C.name self.new.centre) self.old self.new }
     {
         match outcome_known(net.deliver(packet)?) {
             Ok(outcome) => Ok(outcome),
@@ -146,8 +143,7 @@ impl<C: Centre> Worker<'_, C> {
         ensures served { IfOk result (λ outcome. DrawsIn C.kept C.goes self.old self.new net.old net.new
             (GrantDoes self.old.set line.now request outcome)) }
         ensures grows { GrowsByOne net.old net.new }
-        ensures same { GoesOnWith (C.name self.old.centre) (C.name self.new.centre) self.old self.new }
-        ensures net { self.new.world.net ≡ self.old.world.net }
+        ensures same { GoesOnBeside (C.name self.old.centre) (C.name self.new.centre) self.old self.new }
     {
         let lease = self.lease(rt, line.sub(), line.size())?;
         let count = lease.len();

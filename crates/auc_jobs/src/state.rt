@@ -10,7 +10,7 @@ ghost use Rattle.auc_world.specs.declared.record.LineRecord.{LineRecord};
 ghost use Rattle.auc_jobs.specs.InnerRound.{IsAdvanced};
 ghost use Rattle.auc_jobs.specs.State.{AcceptNothing, StandsAt};
 
-use auc_cards::{JobDevices, Stores, Usims};
+use auc_cards::{Cards, JobDevices};
 use auc_edge::NoMemory;
 use auc_released::Numbers;
 use auc_subs::Subscribers;
@@ -23,8 +23,7 @@ use std::marker::Model;
 #[derive(Drop)]
 pub struct State {
     pub(crate) words: Vec<u64>,
-    pub(crate) usims: Usims,
-    pub(crate) stores: Stores,
+    pub(crate) cards: Cards,
     pub(crate) released: Numbers,
 }
 
@@ -35,8 +34,8 @@ impl Model for State {
 
     ghost view = { λ state. record {
       words = state.words.items;
-      usims = state.usims;
-      kept = state.stores;
+      usims = state.cards.usims;
+      kept = state.cards.kept;
       released = state.released;
     } };
 }
@@ -50,10 +49,30 @@ impl State {
     {
         Ok(State {
             words: first_words(alloc, subs)?,
-            usims: Usims::new(alloc, subs)?,
-            stores: Stores::new(alloc, subs)?,
+            cards: Cards::new(alloc, subs)?,
             released: Numbers::new(alloc),
         })
+    }
+
+    /// The words at which the next round opens the subscribers.
+    pub(crate) fn words(&self) -> &[u64]
+        ensures { result.now ≡ self.now.words }
+    {
+        self.words.as_slice()
+    }
+
+    /// The subscribers' USIMs, and what their homes and devices keep of their names.
+    pub(crate) fn cards(&self) -> &Cards
+        ensures { result.now ≡ record { usims = self.now.usims; kept = self.now.kept } }
+    {
+        &self.cards
+    }
+
+    /// The numbers whose vectors were released.
+    pub(crate) fn released(&self) -> &Numbers
+        ensures { result.now ≡ self.now.released }
+    {
+        &self.released
     }
 
     /// Opens the next round at other words, as a restart does. All else stays.
@@ -118,8 +137,7 @@ impl State {
         let opened = reopened(alloc, subs, words)?;
         let openings = opened.as_slice().to_vec(alloc)?;
         note_all(&mut self.released, records)?;
-        self.usims.put_back(devices);
-        self.stores.put_back(devices);
+        self.cards.put_back(devices);
         self.words = openings;
         Ok(())
     }

@@ -10,7 +10,7 @@ ghost use Rattle.auc_world.specs.declared.record.GiveVerdict.TheVariants as give
 ghost use Rattle.auc_world.specs.Given.{Authenticates, EpsGives, FivegFollows, FivegGives, hxres_lines, judged_lines, outcome_of as outcome_is};
 ghost use Rattle.auc_world.specs.VectorAt.{vector_of_row};
 ghost use Rattle.auc_jobs.specs.InnerUsims.{has_usim, usim_of};
-ghost use Rattle.auc_jobs.specs.InnerWorker.{GoesOnWith, WorkerServes};
+ghost use Rattle.auc_jobs.specs.InnerWorker.{GoesOnBeside, WorkerServes};
 
 use crate::giving::UsimAnswer;
 use crate::worker::Worker;
@@ -42,8 +42,7 @@ impl<C: Centre> Worker<'_, C> {
     pub(crate) fn say(&mut self, alloc: Global, said: Further) -> Result<(), NoMemory>
         ensures said { OnOk result (WorkerServes C.kept C.goes self.old self.new
             (λ before lines. lines ≡ LineRecord.Further said ∷ [])) }
-        ensures same { GoesOnWith (C.name self.old.centre) (C.name self.new.centre) self.old self.new }
-        ensures net { self.new.world.net ≡ self.old.world.net }
+        ensures same { GoesOnBeside (C.name self.old.centre) (C.name self.new.centre) self.old self.new }
     {
         let further = BoxedFurther::new(alloc, said)?;
         self.lines.push(LineRecord::Further(further))
@@ -60,8 +59,7 @@ impl<C: Centre> Worker<'_, C> {
         requires { sub < length self.old.set.rows }
         ensures given { OnOk result (WorkerServes C.kept C.goes self.old self.new
             (λ before. EpsGives self.old.set sub snid)) }
-        ensures same { GoesOnWith (C.name self.old.centre) (C.name self.new.centre) self.old self.new }
-        ensures net { self.new.world.net ≡ self.old.world.net }
+        ensures same { GoesOnBeside (C.name self.old.centre) (C.name self.new.centre) self.old self.new }
     {
         let Some(n) = self.draw_next(rt, sub)? else {
             return Ok(());
@@ -82,8 +80,7 @@ impl<C: Centre> Worker<'_, C> {
 
         ensures given { OnOk result (WorkerServes C.kept C.goes self.old self.new
             (λ before. FivegGives self.old.set before line.now)) }
-        ensures same { GoesOnWith (C.name self.old.centre) (C.name self.new.centre) self.old self.new }
-        ensures net { self.new.world.net ≡ self.old.world.net }
+        ensures same { GoesOnBeside (C.name self.old.centre) (C.name self.new.centre) self.old self.new }
     {
         let Some(n) = self.draw_next(rt, line.sub)? else {
             return Ok(());
@@ -100,8 +97,7 @@ impl<C: Centre> Worker<'_, C> {
 
         ensures given { OnOk result (WorkerServes C.kept C.goes self.old self.new
             (λ before. FivegFollows self.old.set before line.now n)) }
-        ensures same { GoesOnWith (C.name self.old.centre) (C.name self.new.centre) self.old self.new }
-        ensures net { self.new.world.net ≡ self.old.world.net }
+        ensures same { GoesOnBeside (C.name self.old.centre) (C.name self.new.centre) self.old self.new }
     {
         let vector = vector_at(self.set, line.sub, n);
         if is_separated(vector.autn) {
@@ -128,8 +124,7 @@ impl<C: Centre> Worker<'_, C> {
             (λ before lines. (row : Row) → slice_get self.old.set.rows line.now.sub ≡ Some row
             → home.now ≡ home_of (vector_of_row self.old.set row line.now.sub n) line.now.home
             → Authenticates self.old.set before line.now row n lines)) }
-        ensures same { GoesOnWith (C.name self.old.centre) (C.name self.new.centre) self.old self.new }
-        ensures net { self.new.world.net ≡ self.old.world.net }
+        ensures same { GoesOnBeside (C.name self.old.centre) (C.name self.new.centre) self.old self.new }
     {
         let UsimAnswer::Accepted(usim) = self.presented(line.sub, n)? else {
             return Ok(());
@@ -153,8 +148,7 @@ impl<C: Centre> Worker<'_, C> {
         requires bit { IsStarBit line.now.bit }
         ensures told { OnOk result (WorkerServes C.kept C.goes self.old self.new
             (λ before lines. lines ≡ judged_lines line.now home.now device.now given.Accepted)) }
-        ensures same { GoesOnWith (C.name self.old.centre) (C.name self.new.centre) self.old self.new }
-        ensures net { self.new.world.net ≡ self.old.world.net }
+        ensures same { GoesOnBeside (C.name self.old.centre) (C.name self.new.centre) self.old self.new }
     {
         self.say_hxres_star(alloc, line.hxres, home)?;
         let res_star = turned(device.res_star, line.bit);
@@ -170,8 +164,7 @@ impl<C: Centre> Worker<'_, C> {
     ) -> Result<(), NoMemory>
         ensures told { OnOk result (WorkerServes C.kept C.goes self.old self.new
             (λ before lines. lines ≡ hxres_lines asked home.now)) }
-        ensures same { GoesOnWith (C.name self.old.centre) (C.name self.new.centre) self.old self.new }
-        ensures net { self.new.world.net ≡ self.old.world.net }
+        ensures same { GoesOnBeside (C.name self.old.centre) (C.name self.new.centre) self.old self.new }
     {
         if asked {
             self.say(
@@ -192,8 +185,7 @@ impl<C: Centre> Worker<'_, C> {
     ) -> Result<(), NoMemory>
         ensures told { OnOk result (WorkerServes C.kept C.goes self.old self.new
             (λ before lines. lines ≡ LineRecord.Further (Further.Fiveg sub outcome) ∷ [])) }
-        ensures same { GoesOnWith (C.name self.old.centre) (C.name self.new.centre) self.old self.new }
-        ensures net { self.new.world.net ≡ self.old.world.net }
+        ensures same { GoesOnBeside (C.name self.old.centre) (C.name self.new.centre) self.old self.new }
     {
         self.say(alloc, Further::Fiveg { sub, outcome })
     }

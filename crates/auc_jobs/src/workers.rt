@@ -1,22 +1,22 @@
 //! The workers of a round, and what they served in the order of the jobs.
 
-ghost use Rattle.std.specs.Prelude.{◌≡◌, ◌≤◌, ◌<◌, ◌+◌, ℕ, [], All, AllPairs, IsPermutation, List, length, map, slice_index, IfOk, if◌then◌else◌};
+ghost use Rattle.std.specs.Prelude.{◌≡◌, ◌≤◌, ◌+◌, [], All, AllPairs, IsPermutation, List, length, map, IfOk, if◌then◌else◌};
 ghost use Rattle.auc_centre.specs.Kept.{subs_of};
 ghost use Rattle.auc_draw.specs.Book.{Closes, IsNew, IsOf, Opens};
 ghost use Rattle.auc_journal.specs.Journal.{limits_of};
 ghost use Rattle.auc_keeper.specs.Keeper.{Since};
 ghost use Rattle.auc_sqn.specs.Number.{max_seq};
-ghost use Rattle.auc_subs.specs.Subscriber.{AreSubscribers, top_at, tops_of};
+ghost use Rattle.auc_subs.specs.Subscriber.{tops_of};
 ghost use Rattle.auc_world.specs.declared.record.LineRecord.{LineRecord};
 ghost use Rattle.auc_world.specs.Vectors.{vectors_in};
-ghost use Rattle.auc_jobs.specs.InnerClaims.{AreCollected, ClosesAs, IsDone};
+ghost use Rattle.auc_jobs.specs.InnerClaims.{AreCollected, ClosesAs, HaveWorked, IsDone};
 ghost use Rattle.auc_jobs.specs.InnerKeeping.{CanKeep, StaysNear, TellsStop};
 ghost use Rattle.auc_jobs.specs.InnerPreparing.{AreReservable, needed_by};
 ghost use Rattle.auc_jobs.specs.InnerRound.{AreServed, GoesByLimits};
-ghost use Rattle.auc_jobs.specs.InnerSharing.{Begins, IsBookOf, IsServable};
+ghost use Rattle.auc_jobs.specs.InnerSharing.{Begins, IsServable, IsShared};
 ghost use Rattle.auc_jobs.specs.Round.{IsJournalOf, LeavesMore};
 
-use crate::claiming::{ClaimedJob, WorkerJobs, work};
+use crate::claiming::{ClaimedJob, SharedRound, WorkerJobs, work};
 use crate::jobs::ServedJobs;
 use crate::preparing::{needed, prepare_groups};
 use crate::round_jobs::RoundJobs;
@@ -48,9 +48,19 @@ pub(crate) struct Pieces<D: Disk + Drop> {
     pub(crate) result: Result<RoundPieces, NoMemory>,
 }
 
-/// What the workers of a round come to, and the parts of its keeper after them.
+/// What a round is opened with: its book, a pass for each worker, the keeper's pass, and the reservations that its jobs need.
+#[derive(Drop)]
+struct Opened {
+    book: Book,
+    passes: Vec<Pass>,
+    keeper: KeeperPass,
+    needed: Items<(u32, u64)>,
+}
+
+/// What the workers of a round come to, with its book, and the parts of its keeper after them.
 #[derive(Drop)]
 struct Worked<D: Disk + Drop> {
+    book: Book,
     all: Result<Vec<WorkerJobs>, AllocError>,
     journal: Journal<D>,
     keeper: KeeperPass,
@@ -66,29 +76,24 @@ fn run_workers<
 >(
     rt: &R,
     alloc: Global,
-    round: &RoundJobs,
-    book: &Book,
-    keeper: &Mutex<Kept<L, D>>,
-    gate: &G,
+    shared: &SharedRound<L, D, G>,
     passes: Vec<Pass>,
 ) -> Result<Vec<WorkerJobs>, AllocError>
-    requires round { IsServable round.now }
-    requires book { IsBookOf L.table L.tops (subs_of L.opening) round.now.set.rows book.now }
+    requires shared { IsShared L.table L.tops (subs_of L.opening) shared.now.round.now shared.now.book.now }
     requires new { All (IsNew L.table L.tops) passes.items }
     ensures { IfOk result (λ all. (length all.items ≡ length passes.items)
-        × All (IsDone L.table L.tops round.now) all.items) }
+        × All (IsDone L.table L.tops shared.now.round.now) all.items) }
 {
     let one = |pass: Pass| -> WorkerJobs
-        requires { IsServable round.now
-            × IsBookOf L.table L.tops (subs_of L.opening) round.now.set.rows book.now
+        requires { IsShared L.table L.tops (subs_of L.opening) shared.now.round.now shared.now.book.now
             × IsNew L.table L.tops pass }
-        ensures { IsDone L.table L.tops round.entry.now result }
-    { work(rt, alloc, round, book, keeper, gate, pass) };
+        ensures { IsDone L.table L.tops shared.entry.now.round.now result }
+    { work(rt, alloc, shared, pass) };
     thread::map_vec(rt, passes, &one)
 }
 
 /// Has the keeper of a journal reserve what the round needs, and then runs a worker for each pass, over the keeper in a lock. The
-/// parts of the keeper are handed back.
+/// book and the parts of the keeper are handed back.
 fn work_all<
     L: Naming<D> + Send + Sync,
     D: Disk + Drop + Send,
@@ -98,33 +103,43 @@ fn work_all<
     rt: &R,
     alloc: Global,
     round: &RoundJobs,
-    book: &Book,
-    gate: &G,
-    passes: Vec<Pass>,
+    opened: Opened,
     journal: Journal<D>,
-    keeper: KeeperPass,
-    needed: &[(u32, u64)],
+    gate: &G,
 ) -> Worked<D>
-    requires round { IsServable round.now }
-    requires book { IsBookOf L.table L.tops (subs_of L.opening) round.now.set.rows book.now }
-    requires new { All (IsNew L.table L.tops) passes.items }
-    requires keeper { CanKeep L.table L.passes L.opening journal keeper }
-    requires needed { AreReservable (length book.now.openings) keeper needed.now }
-    ensures all { IfOk result.all (λ all. (length all.items ≡ length passes.items)
+    requires shared { IsShared L.table L.tops (subs_of L.opening) round.now opened.book }
+    requires new { All (IsNew L.table L.tops) opened.passes.items }
+    requires keeper { CanKeep L.table L.passes L.opening journal opened.keeper }
+    requires needed { AreReservable (length opened.book.openings) opened.keeper opened.needed }
+    ensures book { result.book ≡ opened.book }
+    ensures all { IfOk result.all (λ all. (length all.items ≡ length opened.passes.items)
         × All (IsDone L.table L.tops round.now) all.items) }
     ensures own { (result.keeper.id ≡ L.table) × (result.keeper.passes ≡ L.passes) }
     ensures stop { result.stop ≡ result.keeper.stop }
     ensures since { Since D.seen D.may_leave D.faults D.moment D.left_since journal
         (record { journal = result.journal; pass = result.keeper }) }
 {
+    let Opened {
+        book,
+        passes,
+        keeper,
+        needed,
+    } = opened;
     let mut keeper = Keeper::new(journal, keeper);
-    prepare_groups(&mut keeper, book, needed);
+    prepare_groups(&mut keeper, &book, needed.as_slice());
     let lock = Mutex::new(Kept::<L, D>::new(keeper));
-    let all = run_workers(rt, alloc, round, book, &lock, gate, passes);
+    let shared = SharedRound {
+        round: &*round,
+        book: &book,
+        keeper: &lock,
+        gate: &*gate,
+    };
+    let all = run_workers(rt, alloc, &shared, passes);
     let keeper = lock.into_inner().into_keeper();
     let stop = keeper.stop();
     let (journal, keeper) = keeper.parts();
     Worked {
+        book,
         all,
         journal,
         keeper,
@@ -176,37 +191,39 @@ fn served_jobs(alloc: Global, jobs: Vec<ClaimedJob>, full: bool) -> Result<Serve
     Ok(done)
 }
 
-/// Opens a book at the openings, with the subscribers' greatest numbers and the limits of a journal, and tells the reservations
-/// that the jobs of a round need before their workers begin.
+/// Opens the book of a round at the words of its state, with the subscribers' greatest numbers and the limits of a journal, and
+/// tells the reservations that its jobs need before its workers begin.
 fn open_book<D: Disk + Drop>(
     alloc: Global,
     round: &RoundJobs,
-    openings: &[u64],
     journal: &Journal<D>,
-    workers: u32,
-) -> Result<(Book, Vec<Pass>, KeeperPass, Items<(u32, u64)>), NoMemory>
-    requires openings { (length openings.now ≡ length round.now.set.rows) × (length openings.now ≤ 65536) }
-    requires numbers { (sub : ℕ) → sub < length round.now.set.rows
-        → slice_index openings.now sub ≤ top_at round.now.set.rows sub }
-    requires journal { length journal.now.imsis ≡ length openings.now }
-    requires workers { (1 ≤ workers) × (workers ≤ 64) }
-    ensures opens { IfOk result (λ opened. Opens openings.now (tops_of round.now.set.rows) (limits_of journal.now) workers
-        opened.0 opened.1.items opened.2) }
-    ensures needed { IfOk result (λ opened. opened.3
-        ≡ needed_by round.now.jobs (tops_of round.now.set.rows) openings.now (limits_of journal.now)) }
+) -> Result<Opened, NoMemory>
+    requires round { IsServable round.now }
+    requires journal { IsJournalOf round.now.set.rows journal.now }
+    ensures opens { IfOk result (λ opened. Opens round.now.state.words (tops_of round.now.set.rows)
+        (limits_of journal.now) round.now.workers opened.book opened.passes.items opened.keeper) }
+    ensures needed { IfOk result (λ opened. opened.needed ≡ needed_by round.now.jobs (tops_of round.now.set.rows)
+        round.now.state.words (limits_of journal.now)) }
 {
-    let set = round.set;
+    let openings = round.state.words();
+    let asked = round.round;
+    let set = asked.set;
     let tops = set.subs.tops(alloc)?;
-    let needed = needed(alloc, round.jobs, tops.as_slice(), openings, journal)?;
+    let needed = needed(alloc, asked.jobs, tops.as_slice(), openings, journal)?;
     let limits = limits(alloc, journal, openings.len() as u32)?;
     let (book, passes, keeper) = Book::open(
         alloc,
         openings,
         tops.as_slice(),
         limits.as_slice(),
-        workers,
+        asked.workers,
     )?;
-    Ok((book, passes, keeper, needed))
+    Ok(Opened {
+        book,
+        passes,
+        keeper,
+        needed,
+    })
 }
 
 /// The limits of a journal of so many subscribers.
@@ -267,11 +284,7 @@ fn close(
     stop: Option<Stop>,
 ) -> Result<RoundPieces, NoMemory>
     requires round { IsServable round.now }
-    requires book { length book.openings ≡ length round.now.set.rows }
-    requires tops { book.tops ≡ tops_of round.now.set.rows }
-    requires all { (1 ≤ length all.items) × All (IsDone book.id book.tops round.now) all.items }
-    requires keeper { (keeper.id ≡ book.id) × (keeper.passes ≡ length all.items) }
-    requires stop { stop ≡ keeper.stop }
+    requires worked { HaveWorked round.now book all.items keeper stop }
     ensures { IfOk result (λ done. ClosesAs round.now book keeper done) }
 {
     recut_split_is_a_split();
@@ -282,9 +295,10 @@ fn close(
             return Err(error);
         }
     };
-    let set = round.set;
+    let asked = round.round;
+    let set = asked.set;
     let words = last_words(alloc, book, passes, keeper, set.subs.len())?;
-    let jobs = served_jobs(alloc, in_order(done)?, round.full)?;
+    let jobs = served_jobs(alloc, in_order(done)?, asked.full)?;
     let stop = told_stop(stop, jobs.records.as_slice());
     Ok(RoundPieces { jobs, words, stop })
 }
@@ -293,23 +307,14 @@ fn close(
 fn give_back(_book: Book, _keeper: KeeperPass) {}
 
 /// What a round came to whose workers came to this: its pieces, if each worker had the memory, and the journal.
-fn settle<D: Disk + Drop>(
-    alloc: Global,
-    round: &RoundJobs,
-    book: Book,
-    worked: Worked<D>,
-) -> Pieces<D>
+fn settle<D: Disk + Drop>(alloc: Global, round: &RoundJobs, worked: Worked<D>) -> Pieces<D>
     requires round { IsServable round.now }
-    requires book { length book.openings ≡ length round.now.set.rows }
-    requires tops { book.tops ≡ tops_of round.now.set.rows }
-    requires all { IfOk worked.all (λ all. (1 ≤ length all.items) × (worked.keeper.passes ≡ length all.items)
-        × All (IsDone book.id book.tops round.now) all.items) }
-    requires keeper { worked.keeper.id ≡ book.id }
-    requires stop { worked.stop ≡ worked.keeper.stop }
-    ensures closes { IfOk result.result (λ done. ClosesAs round.now book worked.keeper done) }
+    requires worked { IfOk worked.all (λ all. HaveWorked round.now worked.book all.items worked.keeper worked.stop) }
+    ensures closes { IfOk result.result (λ done. ClosesAs round.now worked.book worked.keeper done) }
     ensures journal { result.journal ≡ worked.journal }
 {
     let Worked {
+        book,
         all,
         journal,
         keeper,
@@ -330,26 +335,19 @@ fn settle<D: Disk + Drop>(
     }
 }
 
-/// Serves the jobs of a round by so many workers, with a journal, which is handed back.
+/// Serves the jobs of a round with a journal, which is handed back.
 pub(crate) fn serve_pieces<D: Disk + Drop + Send, G: Gate + Sync, R: Threads + Wait + Sync>(
     rt: &R,
     alloc: Global,
     round: &RoundJobs,
-    openings: &[u64],
     journal: Journal<D>,
-    workers: u32,
     gate: &G,
 ) -> Pieces<D>
     requires round { IsServable round.now }
-    requires openings { (length openings.now ≡ length round.now.set.rows) × (length openings.now ≤ 65536) }
-    requires numbers { (sub : ℕ) → sub < length round.now.set.rows
-        → slice_index openings.now sub ≤ top_at round.now.set.rows sub }
-    requires subscribers { AreSubscribers round.now.set.rows }
     requires journal { IsJournalOf round.now.set.rows journal }
-    requires workers { (1 ≤ workers) × (workers ≤ 64) }
     ensures served { IfOk result.result (λ done. (early : List LineRecord) → Begins round.now early
-        → AreServed round.now.set early round.now.stores openings.now round.now.jobs done.jobs.records done.jobs.devices
-        done.jobs.sessions done.words) }
+        → AreServed round.now.set early round.now.state.kept round.now.state.words round.now.jobs
+        done.jobs.records done.jobs.devices done.jobs.sessions done.words) }
     ensures limits { IfOk result.result (λ done. GoesByLimits round.now.set done.stop done.jobs.records
         (limits_of journal) done.words (limits_of result.journal)) }
     ensures vectors { IfOk result.result (λ done. done.jobs.vectors
@@ -364,21 +362,10 @@ pub(crate) fn serve_pieces<D: Disk + Drop + Send, G: Gate + Sync, R: Threads + W
         StaysNear D.seen D.may_leave D.moment D.left_since journal done.words result.journal) }
     ensures stop { IfOk result.result (λ done. TellsStop D.faults journal done.stop result.journal) }
 {
-    match open_book(alloc, round, openings, &journal, workers) {
+    match open_book(alloc, round, &journal) {
         Ok(opened) => {
-            let (book, passes, keeper, needed) = opened;
-            let worked = work_all::<Brand, D, G, R>(
-                rt,
-                alloc,
-                round,
-                &book,
-                gate,
-                passes,
-                journal,
-                keeper,
-                needed.as_slice(),
-            );
-            settle(alloc, round, book, worked)
+            let worked = work_all::<Brand, D, G, R>(rt, alloc, round, opened, journal, gate);
+            settle(alloc, round, worked)
         }
         Err(error) => Pieces {
             journal,

@@ -1,6 +1,6 @@
 -- How an opening and an append keep what a crash may leave: for the journal.
 use Rattle.std.proofs.Common.{◌≡◌, inl, inr, ⊎_elim, ℕ, ◌+◌, ◌≤◌, List, [], ◌∷◌, ◌++◌, Option, Some, None, is_some, refl, sym, ◌∙◌, ap, subst, arith, true≢false}
-use Rattle.std.specs.Prelude.{Bool, true, false, max, if◌then◌else◌, Result, Ok}
+use Rattle.std.specs.Prelude.{Bool, true, false, max, if◌then◌else◌, Result, Ok, Err, OnOk}
 use Rattle.auc_edge.specs.Identity.{Identity}
 use Rattle.auc_disk.specs.Disk.{Puts}
 use Rattle.auc_journal.specs.Durable.{AdmitsAll, AreBetween, IsBetween, IsDurable, IsReady, IsTold}
@@ -8,10 +8,22 @@ use Rattle.auc_journal.specs.Image.{Frame, Keeps, Reading, read_image, reserved_
 use Rattle.auc_journal.specs.Journal.{JournalState}
 use Rattle.auc_journal.specs.Limits.{AreLimits}
 use Rattle.auc_journal.specs.Opening.{Opens}
+use Rattle.auc_journal.specs.declared.append_refusal.AppendRefusal.{AppendRefusal}
+use Rattle.auc_journal.specs.declared.append_refusal.AppendRefusal.TheVariants as refusal
 use Rattle.auc_journal.specs.Settled.{AtRest, IsAppendingAll, IsBeforeOrAfter, IsClosable, IsSettled, LeavesOnly}
 use Rattle.auc_journal.proofs.AppendLemmas.{rest_closable}
 use Rattle.auc_journal.proofs.LimitLemmas.{reserved-append, same_is}
 use Rattle.auc_journal.proofs.MomentLemmas.{leaves_now}
+
+-- what holds of an append that succeeded
+pub ok_part : {P : Type 0} (answer : Result (Unit {0}) AppendRefusal) → answer ≡ Ok tt → OnOk answer P → P
+ok_part (Ok value) ok is = is
+ok_part (Err why) ok is = absurd (cc)
+
+-- a test that can't hold doesn't
+pub no_fault : (fault : Bool) → (fault ≡ true → ⊥) → fault ≡ false
+no_fault true none = absurd (none refl)
+no_fault false none = refl
 
 -- a write doesn't change whether a disk tells its bytes
 pub is_some-Puts : (old new : Option (List ℕ)) (at : ℕ) (bytes : List ℕ) → Puts old at bytes new → is_some new ≡ is_some old
@@ -170,6 +182,14 @@ module _ {D : Type 0} (seen : D → Option (List ℕ)) (may_leave : D → List �
             let ready = was.ready told going in
             let is = left told.0 ready image now in
             (keeps_append told.0 image ready.frames old.place added size ready.keeps is.0, is.1)
+
+    -- after one that was refused: a call failed, or nothing changed
+    pub refused_durable : (size : ℕ) (moment : D → ℕ) (left_since : D → ℕ → List ℕ → Type 0) (counts_now : (disk : D) (t : ℕ) (image : List ℕ) → t ≤ moment disk → may_leave disk image → left_since disk t image)
+        → (why : AppendRefusal) → (why ≡ refusal.StoreFault → new.failed ≡ true) → ((len : ℕ) → why ≡ refusal.StoreFull len → new ≡ old) → new.limits ≡ old.limits
+        → ((frames : List Frame) → IsSettled seen may_leave old.disk frames old.place → (file : List ℕ) → seen old.disk ≡ Some file → LeavesOnly moment left_since old.disk new.disk (IsAppendingAll frames old.place added size))
+        → IsDurable seen may_leave from most new
+    refused_durable size moment left_since counts_now refusal.StoreFault failed same limits leaves = failed_durable size moment left_since counts_now (failed refl) limits leaves
+    refused_durable size moment left_since counts_now (refusal.StoreFull len) failed same limits leaves = subst (IsDurable seen may_leave from most) (sym (same len refl)) was
 
 -- a bound for an identity's limit is one for its frame
 pub admits_frame : (frame : Frame) (most : Identity → ℕ) → frame.limit ≤ most frame.imsi → AdmitsAll (frame ∷ []) most

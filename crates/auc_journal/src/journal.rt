@@ -1,6 +1,6 @@
 //! Journals.
 
-ghost use Rattle.std.specs.Prelude.{◌≡◌, ◌≢◌, ◌≤◌, ◌<◌, ◌+◌, ◌*◌, ◌^◌, ◌++◌, [], ◌∷◌, ◌↔◌, ℕ, List, Some, Err, false, true, length, All, Contains, ◌==◌, if◌then◌else◌, IfOk, IfErr, OnOk, OnErr, IsErrOf};
+ghost use Rattle.std.specs.Prelude.{◌≡◌, ◌≢◌, ◌≤◌, ◌<◌, ◌+◌, ◌*◌, ◌^◌, ◌++◌, [], ◌∷◌, ◌↔◌, ℕ, List, Some, Err, false, true, length, All, Contains, ◌==◌, if◌then◌else◌, IfOk, IfErr, OnOk, OnErr, IsErrOf, IsTrue};
 ghost use Rattle.std.specs.Option.{is_some};
 ghost use Rattle.auc_edge.specs.Faults.{Rose};
 ghost use Rattle.auc_edge.specs.Identity.{Identity};
@@ -179,17 +179,11 @@ impl<D: Disk + Drop> Journal<D> {
         ensures calls { D.calls self.new.disk ≤ D.calls self.old.disk + 4 }
     {
         let imsi = self.places.at(sub);
-        match self.log.append(imsi, limit) {
-            Ok(()) => {
-                raise(&mut self.limits, imsi, limit);
-                Ok(())
-            }
-            Err(AppendRefusal::StoreFault) => {
-                self.failed = true;
-                Err(AppendRefusal::StoreFault)
-            }
-            Err(AppendRefusal::StoreFull(len)) => Err(AppendRefusal::StoreFull(len)),
-        }
+        let appended = self.log.append(imsi, limit);
+        self.failed = is_fault(appended);
+        appended?;
+        raise(&mut self.limits, imsi, limit);
+        Ok(())
     }
 
     /// Appends the limits of 2 to 256 subscribers, each at its place, in one frame. After `Ok` all of them are
@@ -242,17 +236,11 @@ impl<D: Disk + Drop> Journal<D> {
         ensures calls { D.calls self.new.disk ≤ D.calls self.old.disk + 4 }
     {
         let group = spell(self.places.imsis(), items);
-        match self.log.append_bytes(&group.bytes[..group.len]) {
-            Ok(()) => {
-                raise_group(&mut self.limits, &self.places, items);
-                Ok(())
-            }
-            Err(AppendRefusal::StoreFault) => {
-                self.failed = true;
-                Err(AppendRefusal::StoreFault)
-            }
-            Err(AppendRefusal::StoreFull(len)) => Err(AppendRefusal::StoreFull(len)),
-        }
+        let appended = self.log.append_bytes(&group.bytes[..group.len]);
+        self.failed = is_fault(appended);
+        appended?;
+        raise_group(&mut self.limits, &self.places, items);
+        Ok(())
     }
 
     // The journal of an opened disk.
@@ -314,6 +302,16 @@ fn prepare<D: Disk>(alloc: Global, disk: &mut D, imsis: &[Imsi]) -> Result<Opene
         imsis: own,
         limits,
     })
+}
+
+// Whether a call of the disk failed in an append.
+fn is_fault(appended: Result<(), AppendRefusal>) -> bool
+    ensures { IsTrue result ↔ (appended ≡ Err AppendRefusal.StoreFault) }
+{
+    match appended {
+        Err(AppendRefusal::StoreFault) => true,
+        Ok(()) | Err(AppendRefusal::StoreFull(_)) => false,
+    }
 }
 
 // Raises the limit of an identity, for which there is room.

@@ -11,7 +11,7 @@
 //! or appended to and after that, is said for every disk.
 //!
 //! An opening takes memory for the whole file and for the limits; an append takes none and makes at most
-//! four calls of the disk. Nothing here waits for another thread. The tests stand in `auc_number_tests`.
+//! four calls of the disk. Nothing here waits for another thread. The tests stand in `auc_disk_tests`.
 #![tactic(auto)]
 
 mod append_refusal;

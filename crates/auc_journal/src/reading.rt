@@ -163,9 +163,8 @@ fn raise_all(entries: &[u8], count: usize, limits: &mut LimitList) -> Result<(),
     let mut rest = entries;
     for _ in 0..count {
         let (entry, more) = rest.split_at(17);
-        match frame_of(entry) {
-            Some(frame) => limits.raise(frame.imsi, frame.limit)?,
-            None => unreachable!(),
+        if let Some(frame) = frame_of(entry) {
+            limits.raise(frame.imsi, frame.limit)?;
         }
         rest = more;
     }

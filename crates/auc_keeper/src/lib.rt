@@ -10,7 +10,7 @@
 //! since the round began, whatever the calls were, is one record (`specs/Keeper`).
 //!
 //! Nothing here takes memory or waits. A call for a number up to its limit makes no call of the disk.
-//! The tests stand in `auc_number_tests`.
+//! The tests stand in `auc_disk_tests`.
 #![tactic(auto)]
 
 mod keeper;

@@ -1,7 +1,7 @@
 //! The input of the round.
 
-ghost use Rattle.std.specs.Prelude.{◌≡◌, ◌<◌, ◌+◌, ◌*◌, ◌^◌, ◌++◌, ◌∷◌, [], None, length, IfOk, OnOk};
-ghost use Rattle.auc_subs.specs.Subscriber.{IsRow, most_subscribers, place_of};
+ghost use Rattle.std.specs.Prelude.{◌≡◌, ◌<◌, ◌+◌, ◌*◌, ◌^◌, ◌∷◌, [], None, IfOk};
+ghost use Rattle.auc_subs.specs.Subscriber.{IsRow, most_subscribers};
 ghost use Rattle.auc_load.specs.Input.{job_at, load_jobs, load_key, load_rows, row_at};
 ghost use Rattle.auc_load.specs.Words.{IsLoad};
 
@@ -10,7 +10,7 @@ use auc_edge::{Imsi, Items, NoMemory};
 use auc_lines::{JobPart, Line};
 use auc_milenage::Secret;
 use auc_random::Rands;
-use auc_subs::{AddRefusal, Row, Subscribers};
+use auc_subs::{Row, Subscribers};
 use std::alloc::Global;
 
 /// The stream of the subscribers' K and OPc, 2^41.
@@ -38,23 +38,9 @@ pub fn subscribers(alloc: Global, load: &LoadWords) -> Result<Subscribers, NoMem
     let rands = Rands::new(key_of(load.key));
     let mut subs = Subscribers::new(alloc);
     for i in 0..load.subscribers {
-        add_row(&mut subs, row(&rands, i))?;
+        subs.push(row(&rands, i))?;
     }
     Ok(subs)
-}
-
-/// Adds a subscriber with a new identity.
-fn add_row(subs: &mut Subscribers, row: Row) -> Result<(), NoMemory>
-    requires row { IsRow row }
-    requires new { place_of subs.old row.imsi ≡ None }
-    requires room { length subs.old < most_subscribers }
-    ensures { OnOk result (subs.new ≡ subs.old ++ row ∷ []) }
-{
-    match subs.admit(row) {
-        Ok(_) => Ok(()),
-        Err(AddRefusal::NoMemory) => Err(NoMemory),
-        Err(AddRefusal::Why(_)) => unreachable!(),
-    }
 }
 
 /// Subscriber i.
@@ -67,24 +53,13 @@ fn row(rands: &Rands, i: u32) -> Row
     let k = rands.sixteen_at(SECRETS_STREAM, place);
     let opc = rands.sixteen_at(SECRETS_STREAM, place + 4);
     Row {
-        imsi: imsi(FIRST_IMSI + u64::from(i)),
+        imsi: Imsi::new(15, FIRST_IMSI + u64::from(i)),
         secret: Secret { k, opc },
         amf: [0x80, 0],
         seq: 0,
         usim: 0,
         bits: 5,
         age: None,
-    }
-}
-
-/// The identity of 15 digits that are a number.
-fn imsi(number: u64) -> Imsi
-    requires { number < 10 ^ 15 }
-    ensures { result ≡ record { digits = 15; number = number } }
-{
-    match Imsi::of(15, number) {
-        Some(imsi) => imsi,
-        None => unreachable!(),
     }
 }
 

@@ -1,12 +1,13 @@
 //! Plain lines over the places of the subscribers that they name.
 
-ghost use Rattle.std.specs.Prelude.{◌≡◌, ◌<◌, All, AllPairs, IfOk, length, map};
+ghost use Rattle.std.specs.Prelude.{◌≡◌, ◌<◌, All, AllPairs, Contains, IfOk, IfSome, length, map, true};
+ghost use Rattle.std.specs.Option.{is_some};
 ghost use Rattle.auc_named.specs.InnerNaming.{IsAtAPlace, IsOwnLine};
-ghost use Rattle.auc_named.specs.Named.{line_of, lines_of};
+ghost use Rattle.auc_named.specs.Named.{is_plain, line_of, lines_of, sub_of};
 
 use crate::places::position;
 use auc_edge::{Items, NoMemory};
-use auc_lines::{JobPart, Line};
+use auc_lines::{JobPart, Line, Report};
 use std::alloc::Global;
 
 /// Jobs over the subscribers at some places.
@@ -36,28 +37,35 @@ fn own_job(alloc: Global, places: &[u32], job: &[Line]) -> Result<JobPart, NoMem
 {
     let mut own = Items::new(alloc);
     for line in job {
-        own.push(own_line(places, line))?;
+        if let Some(line) = own_line(places, line) {
+            own.push(line)?;
+        }
     }
     Ok(own)
 }
 
-/// A line over the subscribers at some places.
-fn own_line(places: &[u32], line: &Line) -> Line
+/// A plain line over the subscribers at some places, or `None` if a line isn't plain.
+fn own_line(places: &[u32], line: &Line) -> Option<Line>
     requires rising { AllPairs ◌<◌ places.now }
-    requires there { IsAtAPlace places.now line.now }
-    ensures own { IsOwnLine (length places.now) result }
-    ensures same { line_of places.now result ≡ line.now }
+    requires there { is_plain line.now ≡ true → Contains places.now (sub_of line.now) }
+    ensures own { IfSome result (IsOwnLine (length places.now)) }
+    ensures same { IfSome result (λ own. line_of places.now own ≡ line.now) }
+    ensures plain { is_some result ≡ is_plain line.now }
 {
     match *line {
-        Line::Draw { sub, count } => Line::Draw {
+        Line::Draw { sub, count } => Some(Line::Draw {
             sub: position(places, sub),
             count,
-        },
-        Line::Sync { sub, report, count } => Line::Sync {
-            sub: position(places, sub),
-            report,
+        }),
+        Line::Sync {
+            sub,
+            report: Report::Auts { auts, rand },
             count,
-        },
-        _ => unreachable!(),
+        } => Some(Line::Sync {
+            sub: position(places, sub),
+            report: Report::Auts { auts, rand },
+            count,
+        }),
+        _ => None,
     }
 }

@@ -36,19 +36,27 @@ pub fn read_packet(alloc: Global, bytes: &[u8]) -> Result<Packet, PacketRefusal>
                 request,
                 id,
                 kind,
-                subtype,
+                subtype: number,
                 attrs,
             },
-        ) => match read_attrs(alloc, attrs) {
-            Ok(attrs) => Ok(Packet::Aka {
-                request,
-                id,
-                method: method_of(kind),
-                subtype: subtype_of(subtype),
-                attrs,
-            }),
-            Err(fault) => Err(refusal_within(fault)),
-        },
+        ) => {
+            let Some(method) = method_of(kind) else {
+                return Err(PacketRefusal::OtherType(kind));
+            };
+            let Some(subtype) = subtype_of(number) else {
+                return Err(PacketRefusal::UnknownSubtype(number));
+            };
+            match read_attrs(alloc, attrs) {
+                Ok(attrs) => Ok(Packet::Aka {
+                    request,
+                    id,
+                    method,
+                    subtype,
+                    attrs,
+                }),
+                Err(fault) => Err(refusal_within(fault)),
+            }
+        }
     }
 }
 

@@ -9,7 +9,7 @@ ghost use Rattle.auc_packet.specs.Sealed.{MayBeSealed, sealed, with_mac};
 ghost use Rattle.auc_packet.specs.Spelling.{packet_text};
 
 use crate::subtype::{Subtype, method_type, subtype_number};
-use crate::writing::{are_short, message_code, put_head, size_of_attrs};
+use crate::writing::{message_code, put_head};
 use auc_attr::{AttrList, put_attrs};
 use auc_edge::Room;
 use auc_hmac::{MacInput, Method, mac_of};
@@ -41,7 +41,7 @@ impl Draft {
         if self.attrs.has(11) {
             return false;
         }
-        are_short(&self.attrs, 4068)
+        self.attrs.is_within(4068)
     }
 }
 
@@ -66,7 +66,7 @@ fn put_front(draft: &Draft, room: &mut Room)
     requires room { length (front_of draft.now) ≤ room.old.left }
     ensures { room.new ≡ wrote room.old (front_of draft.now) }
 {
-    let size = 28 + size_of_attrs(&draft.attrs);
+    let size = 28 + draft.attrs.size();
     put_head(room, message_code(draft.request), draft.id, size);
     room.put(&[
         method_type(draft.method),

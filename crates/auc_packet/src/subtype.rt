@@ -1,6 +1,7 @@
 //! Subtypes and methods by their numbers.
 
-ghost use Rattle.std.specs.Prelude.{◌≡◌, true};
+ghost use Rattle.std.specs.Prelude.{◌≡◌, IfSome};
+ghost use Rattle.std.specs.Option.{is_some};
 ghost use Rattle.auc_attr.specs.Frame.{is_method, is_subtype};
 ghost use Rattle.auc_packet.specs.Packet.{method_type, subtype_number};
 
@@ -25,20 +26,20 @@ pub enum Subtype {
     ClientError,
 }
 
-/// The Subtype of a number.
-pub fn subtype_of(number: u8) -> Subtype
-    requires { is_subtype number ≡ true }
-    ensures { subtype_number result ≡ number }
+/// The Subtype of a number, or `None` if no Subtype has it.
+pub fn subtype_of(number: u8) -> Option<Subtype>
+    ensures value { IfSome result (λ subtype. subtype_number subtype ≡ number) }
+    ensures exact { is_some result ≡ is_subtype number }
 {
     match number {
-        1 => Subtype::Challenge,
-        2 => Subtype::AuthenticationReject,
-        4 => Subtype::SynchronizationFailure,
-        5 => Subtype::Identity,
-        12 => Subtype::Notification,
-        13 => Subtype::Reauthentication,
-        14 => Subtype::ClientError,
-        _ => unreachable!(),
+        1 => Some(Subtype::Challenge),
+        2 => Some(Subtype::AuthenticationReject),
+        4 => Some(Subtype::SynchronizationFailure),
+        5 => Some(Subtype::Identity),
+        12 => Some(Subtype::Notification),
+        13 => Some(Subtype::Reauthentication),
+        14 => Some(Subtype::ClientError),
+        _ => None,
     }
 }
 
@@ -57,15 +58,15 @@ pub fn subtype_number(subtype: Subtype) -> u8
     }
 }
 
-/// The method of a type.
-pub fn method_of(kind: u8) -> Method
-    requires { is_method kind ≡ true }
-    ensures { method_type result ≡ kind }
+/// The method of a type, or `None` if no method has it.
+pub fn method_of(kind: u8) -> Option<Method>
+    ensures value { IfSome result (λ method. method_type method ≡ kind) }
+    ensures exact { is_some result ≡ is_method kind }
 {
     match kind {
-        23 => Method::Aka,
-        50 => Method::Prime,
-        _ => unreachable!(),
+        23 => Some(Method::Aka),
+        50 => Some(Method::Prime),
+        _ => None,
     }
 }
 

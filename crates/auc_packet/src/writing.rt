@@ -1,15 +1,14 @@
 //! Packets as bytes.
 
-ghost use Rattle.std.specs.Prelude.{◌≡◌, ◌+◌, ◌≤◌, ◌++◌, length, true, IsTrue, ◌↔◌, OnOk, OnErr, [], ◌∷◌};
+ghost use Rattle.std.specs.Prelude.{◌≡◌, ◌+◌, ◌≤◌, ◌++◌, length, IsTrue, ◌↔◌, OnOk, OnErr, [], ◌∷◌};
 ghost use Rattle.std.specs.Int.{w16, to_be_bytes};
 ghost use Rattle.auc_attr.specs.Frame.{end_code, message_code};
-ghost use Rattle.auc_attr.specs.Spelling.{spelling, writable};
 ghost use Rattle.auc_edge.specs.Reserved.{wrote};
 ghost use Rattle.auc_packet.specs.Spelling.{packet_text, whole, MayBeWritten};
 
 use crate::packet::Packet;
 use crate::subtype::{method_type, subtype_number};
-use auc_attr::{AttrList, put_attrs};
+use auc_attr::put_attrs;
 use auc_edge::{NoMemory, Octets, Room};
 
 /// Appends a packet to `out`, with zeros as reserved bytes and fill. If memory runs out, `out` stays as it was.
@@ -71,7 +70,7 @@ pub fn size_of(packet: &Packet) -> usize
             method: _,
             subtype: _,
             attrs,
-        } => 8 + size_of_attrs(attrs),
+        } => 8 + attrs.size(),
     }
 }
 
@@ -93,30 +92,8 @@ impl Packet {
                 method: _,
                 subtype: _,
                 attrs,
-            } => attrs.writable() && are_short(attrs, 4088),
+            } => attrs.writable() && attrs.is_within(4088),
         }
-    }
-}
-
-/// Whether attributes take at most so many bytes.
-pub(crate) fn are_short(attrs: &AttrList, most: usize) -> bool
-    requires { writable attrs.now ≡ true }
-    ensures { IsTrue result ↔ (length (spelling attrs.now) ≤ most) }
-{
-    match attrs.size() {
-        Some(size) => size <= most,
-        None => false,
-    }
-}
-
-pub(crate) fn size_of_attrs(attrs: &AttrList) -> usize
-    requires writable { writable attrs.now ≡ true }
-    requires small { length (spelling attrs.now) ≤ 4096 }
-    ensures { result ≡ length (spelling attrs.now) }
-{
-    match attrs.size() {
-        Some(size) => size,
-        None => unreachable!(),
     }
 }
 

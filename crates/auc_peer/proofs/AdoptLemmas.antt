@@ -13,12 +13,11 @@ use Rattle.auc_peer.specs.Identities.{context_or}
 use Rattle.auc_peer.specs.Laws.{AcceptedIsOfTheContext, Adopted, Counted, EachTurnAdopts, MayResume}
 use Rattle.auc_peer.specs.Rows.{peer_row}
 use Rattle.auc_peer.specs.Subscription.{Subscription}
-use Rattle.auc_peer.specs.Table.{accepted, accepting, again, by_answer, challenged, client, context_named, counted_up, genuine, kept_by, keys_at, master_at, opened, own_code, peer_does, reauthenticated, succeeded, taken_up}
+use Rattle.auc_peer.specs.Table.{accepted, accepting, by_answer, challenged, client, context_named, counted_up, genuine, kept_by, keys_at, master_at, opened, own_code, peer_does, reauthenticated, succeeded, taken_up}
 use Rattle.auc_peer.specs.declared.decrypted.Decrypted.{Decrypted}
 use Rattle.auc_peer.specs.declared.decrypted.Decrypted.TheVariants as decrypted
 use Rattle.auc_peer.specs.declared.peer.Challenge.{Challenge}
-use Rattle.auc_peer.specs.declared.peer.Last.{Last}
-use Rattle.auc_peer.specs.declared.peer.Peer.{Peer}
+use Rattle.auc_peer.specs.Peer.{PeerEnd}
 use Rattle.auc_peer.specs.declared.peer.PeerState.{PeerState}
 use Rattle.auc_peer.specs.declared.peer.PeerState.TheVariants as state
 use Rattle.auc_peer.specs.declared.rows.Row.{Row}
@@ -42,39 +41,35 @@ use Rattle.auc_peer.proofs.ReauthLemmas.{on_reauth}
 
 -- ---- what was given
 
-abbrev Taken : Peer → Peer × Turn PeerWhy → Type 0
+abbrev Taken : PeerEnd → PeerEnd × Turn PeerWhy → Type 0
 Taken p t = ((t.0.inner ≡ p.inner) × (t.0.next ≡ p.next)) ⊎ (t.1.checked ≡ true)
 
-opened_taken : (p : Peer) (seen : Seen) (res sqn : List ℕ) (k : KeySet) (m : Master) (inner : Decrypted) → (opened p seen res sqn k m inner).1.checked ≡ true
+opened_taken : (p : PeerEnd) (seen : Seen) (res sqn : List ℕ) (k : KeySet) (m : Master) (inner : Decrypted) → (opened p seen res sqn k m inner).1.checked ≡ true
 opened_taken p seen res sqn k m decrypted.Unreadable = refl
 opened_taken p seen res sqn k m (decrypted.Attributes next) = refl
 
-accepted_taken : (p : Peer) (seen : Seen) (c : Challenge) (res sqn : List ℕ) (k : KeySet) (m : Master) (inner : Decrypted) → Taken p (accepted p seen c res sqn k m inner)
+accepted_taken : (p : PeerEnd) (seen : Seen) (c : Challenge) (res sqn : List ℕ) (k : KeySet) (m : Master) (inner : Decrypted) → Taken p (accepted p seen c res sqn k m inner)
 accepted_taken p seen c res sqn k m inner =
     on_cond (Taken p) (not (is_sealed p.options.method k.k_aut [] seen)) (client p seen why.WrongMac (Some (note.Accepted sqn)) false) (genuine (accepting p seen c) seen res sqn k m inner) (inl (refl, refl))
     (on_cond (Taken p) (differs (own_code p) (checkcode seen)) (client (accepting p seen c) seen why.WrongCheckcode (Some (note.Accepted sqn)) true) (opened (accepting p seen c) seen res sqn k m inner) (inr refl)
     (inr (opened_taken (accepting p seen c) seen res sqn k m inner)))
 
-answer_taken : (p : Peer) (seen : Seen) (c : Challenge) (a : Answer) (inner : Decrypted) → Taken p (by_answer p seen c a inner)
+answer_taken : (p : PeerEnd) (seen : Seen) (c : Challenge) (a : Answer) (inner : Decrypted) → Taken p (by_answer p seen c a inner)
 answer_taken p seen c answer.WrongMac inner = inl (refl, refl)
 answer_taken p seen c (answer.SyncFailure auts sqn) inner = inl (refl, refl)
 answer_taken p seen c (answer.Accepted res ck ik ak amf sqn) inner = accepted_taken p seen c res sqn (keys_at p seen c ik ck) (master_at p seen c ik ck) inner
 
-challenged_taken : (s : Subscription) (p : Peer) (seen : Seen) (c : Challenge) (n : Option UsimNote) (inner : Decrypted) → Taken p (challenged s p seen c n inner)
+challenged_taken : (s : Subscription) (p : PeerEnd) (seen : Seen) (c : Challenge) (n : Option UsimNote) (inner : Decrypted) → Taken p (challenged s p seen c n inner)
 challenged_taken s p seen c None inner = inl (refl, refl)
 challenged_taken s p seen c (Some n) inner = answer_taken p seen c (answer_noted s.secret c n) inner
 
-again_taken : (p : Peer) (last : Option Last) → Taken p (again p last)
-again_taken p None = inl (refl, refl)
-again_taken p (Some last) = inl (refl, refl)
-
-succeeded_taken : (p : Peer) (s : PeerState) → Taken p (succeeded p s)
+succeeded_taken : (p : PeerEnd) (s : PeerState) → Taken p (succeeded p s)
 succeeded_taken p (state.Answered keys) = inl (refl, refl)
 succeeded_taken p state.Waiting = inl (refl, refl)
 succeeded_taken p (state.Refusing cause) = inl (refl, refl)
 succeeded_taken p state.Ended = inl (refl, refl)
 
-reauth_taken : (key : List ℕ) (keeps : Keeps) (p : Peer) (seen : Seen) (inner : Decrypted) → Taken p (reauthenticated key keeps p seen inner)
+reauth_taken : (key : List ℕ) (keeps : Keeps) (p : PeerEnd) (seen : Seen) (inner : Decrypted) → Taken p (reauthenticated key keeps p seen inner)
 reauth_taken key keeps p seen inner =
     on_reauth (Taken p) key keeps p seen inner (inl (refl, refl))
     (λ c here. record {
@@ -86,9 +81,9 @@ reauth_taken key keeps p seen inner =
       refuses = λ given counter nonce. inr refl;
     })
 
-row_taken : (key : List ℕ) (s : Subscription) (keeps : Keeps) (p : Peer) (seen : Seen) (r : Row) (n : Option UsimNote) (inner : Decrypted) → Taken p (peer_does key s keeps p seen r n inner)
+row_taken : (key : List ℕ) (s : Subscription) (keeps : Keeps) (p : PeerEnd) (seen : Seen) (r : Row) (n : Option UsimNote) (inner : Decrypted) → Taken p (peer_does key s keeps p seen r n inner)
 row_taken key s keeps p seen (row.Ignore cause) n inner = inl (refl, refl)
-row_taken key s keeps p seen row.Again n inner = again_taken p p.last
+row_taken key s keeps p seen row.Again n inner = inl (refl, refl)
 row_taken key s keeps p seen row.First n inner = inl (refl, refl)
 row_taken key s keeps p seen (row.Identity asked) n inner = inl (refl, refl)
 row_taken key s keeps p seen (row.Client cause) n inner = inl (refl, refl)
@@ -101,16 +96,16 @@ row_taken key s keeps p seen (row.Failure cause) n inner = inl (refl, refl)
 
 -- ---- what the device keeps
 
-abbrev Stored : Peer → Keeps → Keeps → Turn PeerWhy → Type 0
+abbrev Stored : PeerEnd → Keeps → Keeps → Turn PeerWhy → Type 0
 Stored p keeps kept turn = (kept ≡ keeps) ⊎ (Adopted p turn keeps kept ⊎ Counted p turn keeps kept)
 
-succeeded_stored : (p : Peer) (s : PeerState) (keeps : Keeps) → Stored p keeps (taken_up s p keeps) (succeeded p s).1
+succeeded_stored : (p : PeerEnd) (s : PeerState) (keeps : Keeps) → Stored p keeps (taken_up s p keeps) (succeeded p s).1
 succeeded_stored p (state.Answered keys) keeps = inr (inl (record { keys = keys; succeeded = refl; stored = refl }))
 succeeded_stored p state.Waiting keeps = inl refl
 succeeded_stored p (state.Refusing cause) keeps = inl refl
 succeeded_stored p state.Ended keeps = inl refl
 
-reauth_stored : (key : List ℕ) (keeps : Keeps) (p : Peer) (seen : Seen) (inner : Decrypted)
+reauth_stored : (key : List ℕ) (keeps : Keeps) (p : PeerEnd) (seen : Seen) (inner : Decrypted)
     → Stored p keeps (counted_up p.options.method (reauthenticated key keeps p seen inner).1.notes.counter keeps) (reauthenticated key keeps p seen inner).1
 reauth_stored key keeps p seen inner =
     on_reauth (λ t. Stored p keeps (counted_up p.options.method t.1.notes.counter keeps) t.1) key keeps p seen inner (inl refl)
@@ -123,7 +118,7 @@ reauth_stored key keeps p seen inner =
       refuses = λ given counter nonce. inl refl;
     })
 
-row_stored : (key : List ℕ) (s : Subscription) (keeps : Keeps) (p : Peer) (seen : Seen) (r : Row) (n : Option UsimNote) (inner : Decrypted)
+row_stored : (key : List ℕ) (s : Subscription) (keeps : Keeps) (p : PeerEnd) (seen : Seen) (r : Row) (n : Option UsimNote) (inner : Decrypted)
     → Stored p keeps (kept_by r p (peer_does key s keeps p seen r n inner).1.notes.counter keeps) (peer_does key s keeps p seen r n inner).1
 row_stored key s keeps p seen (row.Ignore cause) n inner = inl refl
 row_stored key s keeps p seen row.Again n inner = inl refl
@@ -146,7 +141,7 @@ each_turn_adopts key s keeps p seen n inner = record {
 
 -- ---- the context of a counter that is accepted
 
-abbrev Resumes : Keeps → Peer → ℕ → Peer × Turn PeerWhy → Type 0
+abbrev Resumes : Keeps → PeerEnd → ℕ → PeerEnd × Turn PeerWhy → Type 0
 Resumes keeps p counter t = t.1.notes.counter ≡ Some (counts.Taken counter) → MayResume keeps p counter
 
 not_taken : (counter : ℕ) → ◌≡◌ {A = Option CounterNote} None (Some (counts.Taken counter)) → ⊥
@@ -168,7 +163,7 @@ named_is m name (Some d) c e = by (bytes_eq d.identity name) refl e
     by false f g = absurd cc
 
 -- it is the device's, under the identity that was sent last
-context_is : (keeps : Keeps) (p : Peer) (sent : Option (List ℕ)) (c : Context) (counter : ℕ) → p.identity ≡ sent → context_named sent (entry p.options.method keeps.contexts) ≡ Some c
+context_is : (keeps : Keeps) (p : PeerEnd) (sent : Option (List ℕ)) (c : Context) (counter : ℕ) → p.identity ≡ sent → context_named sent (entry p.options.method keeps.contexts) ≡ Some c
     → is_open counter (entry p.options.method keeps.contexts) ≡ true → MayResume keeps p counter
 context_is keeps p None c counter is e o = absurd cc
 context_is keeps p (Some text) c counter is e o =
@@ -181,22 +176,18 @@ context_is keeps p (Some text) c counter is e o =
       is_open = leb-true c.counter counter (ap (λ (d : Option Context). is_open counter d) (sym found.0) ∙ o);
     }
 
-again_resumes : (keeps : Keeps) (p : Peer) (counter : ℕ) (last : Option Last) → Resumes keeps p counter (again p last)
-again_resumes keeps p counter None = λ e. absurd (not_taken counter e)
-again_resumes keeps p counter (Some last) = λ e. absurd (not_taken counter e)
-
-succeeded_resumes : (keeps : Keeps) (p : Peer) (counter : ℕ) (s : PeerState) → Resumes keeps p counter (succeeded p s)
+succeeded_resumes : (keeps : Keeps) (p : PeerEnd) (counter : ℕ) (s : PeerState) → Resumes keeps p counter (succeeded p s)
 succeeded_resumes keeps p counter (state.Answered keys) = λ e. absurd (not_taken counter e)
 succeeded_resumes keeps p counter state.Waiting = λ e. absurd (not_taken counter e)
 succeeded_resumes keeps p counter (state.Refusing cause) = λ e. absurd (not_taken counter e)
 succeeded_resumes keeps p counter state.Ended = λ e. absurd (not_taken counter e)
 
 -- a Challenge accepts no counter
-opened_resumes : (keeps : Keeps) (q p : Peer) (seen : Seen) (res sqn : List ℕ) (k : KeySet) (m : Master) (inner : Decrypted) (counter : ℕ) → Resumes keeps q counter (opened p seen res sqn k m inner)
+opened_resumes : (keeps : Keeps) (q p : PeerEnd) (seen : Seen) (res sqn : List ℕ) (k : KeySet) (m : Master) (inner : Decrypted) (counter : ℕ) → Resumes keeps q counter (opened p seen res sqn k m inner)
 opened_resumes keeps q p seen res sqn k m decrypted.Unreadable counter = λ e. absurd (not_taken counter e)
 opened_resumes keeps q p seen res sqn k m (decrypted.Attributes given) counter = λ e. absurd (not_taken counter e)
 
-accepted_resumes : (keeps : Keeps) (p : Peer) (seen : Seen) (c : Challenge) (res sqn : List ℕ) (k : KeySet) (m : Master) (inner : Decrypted) (counter : ℕ)
+accepted_resumes : (keeps : Keeps) (p : PeerEnd) (seen : Seen) (c : Challenge) (res sqn : List ℕ) (k : KeySet) (m : Master) (inner : Decrypted) (counter : ℕ)
     → Resumes keeps p counter (accepted p seen c res sqn k m inner)
 accepted_resumes keeps p seen c res sqn k m inner counter =
     on_cond (Resumes keeps p counter) (not (is_sealed p.options.method k.k_aut [] seen)) (client p seen why.WrongMac (Some (note.Accepted sqn)) false) (genuine (accepting p seen c) seen res sqn k m inner)
@@ -204,17 +195,17 @@ accepted_resumes keeps p seen c res sqn k m inner counter =
     (on_cond (Resumes keeps p counter) (differs (own_code p) (checkcode seen)) (client (accepting p seen c) seen why.WrongCheckcode (Some (note.Accepted sqn)) true) (opened (accepting p seen c) seen res sqn k m inner)
     (λ e. absurd (not_taken counter e)) (opened_resumes keeps p (accepting p seen c) seen res sqn k m inner counter))
 
-answer_resumes : (keeps : Keeps) (p : Peer) (seen : Seen) (c : Challenge) (a : Answer) (inner : Decrypted) (counter : ℕ) → Resumes keeps p counter (by_answer p seen c a inner)
+answer_resumes : (keeps : Keeps) (p : PeerEnd) (seen : Seen) (c : Challenge) (a : Answer) (inner : Decrypted) (counter : ℕ) → Resumes keeps p counter (by_answer p seen c a inner)
 answer_resumes keeps p seen c answer.WrongMac inner counter = λ e. absurd (not_taken counter e)
 answer_resumes keeps p seen c (answer.SyncFailure auts sqn) inner counter = λ e. absurd (not_taken counter e)
 answer_resumes keeps p seen c (answer.Accepted res ck ik ak amf sqn) inner counter =
     accepted_resumes keeps p seen c res sqn (keys_at p seen c ik ck) (master_at p seen c ik ck) inner counter
 
-challenged_resumes : (s : Subscription) (keeps : Keeps) (p : Peer) (seen : Seen) (c : Challenge) (n : Option UsimNote) (inner : Decrypted) (counter : ℕ) → Resumes keeps p counter (challenged s p seen c n inner)
+challenged_resumes : (s : Subscription) (keeps : Keeps) (p : PeerEnd) (seen : Seen) (c : Challenge) (n : Option UsimNote) (inner : Decrypted) (counter : ℕ) → Resumes keeps p counter (challenged s p seen c n inner)
 challenged_resumes s keeps p seen c None inner counter = λ e. absurd (not_taken counter e)
 challenged_resumes s keeps p seen c (Some n) inner counter = answer_resumes keeps p seen c (answer_noted s.secret c n) inner counter
 
-reauth_resumes : (key : List ℕ) (keeps : Keeps) (p : Peer) (seen : Seen) (inner : Decrypted) (counter : ℕ) → Resumes keeps p counter (reauthenticated key keeps p seen inner)
+reauth_resumes : (key : List ℕ) (keeps : Keeps) (p : PeerEnd) (seen : Seen) (inner : Decrypted) (counter : ℕ) → Resumes keeps p counter (reauthenticated key keeps p seen inner)
 reauth_resumes key keeps p seen inner counter =
     on_reauth (Resumes keeps p counter) key keeps p seen inner (λ e. absurd (not_taken counter e))
     (λ c here. record {
@@ -226,10 +217,10 @@ reauth_resumes key keeps p seen inner counter =
       refuses = λ given k nonce e. absurd (small_or_taken k counter e);
     })
 
-row_resumes : (key : List ℕ) (s : Subscription) (keeps : Keeps) (p : Peer) (seen : Seen) (r : Row) (n : Option UsimNote) (inner : Decrypted) (counter : ℕ)
+row_resumes : (key : List ℕ) (s : Subscription) (keeps : Keeps) (p : PeerEnd) (seen : Seen) (r : Row) (n : Option UsimNote) (inner : Decrypted) (counter : ℕ)
     → Resumes keeps p counter (peer_does key s keeps p seen r n inner)
 row_resumes key s keeps p seen (row.Ignore cause) n inner counter = λ e. absurd (not_taken counter e)
-row_resumes key s keeps p seen row.Again n inner counter = again_resumes keeps p counter p.last
+row_resumes key s keeps p seen row.Again n inner counter = λ e. absurd (not_taken counter e)
 row_resumes key s keeps p seen row.First n inner counter = λ e. absurd (not_taken counter e)
 row_resumes key s keeps p seen (row.Identity asked) n inner counter = λ e. absurd (not_taken counter e)
 row_resumes key s keeps p seen (row.Client cause) n inner counter = λ e. absurd (not_taken counter e)

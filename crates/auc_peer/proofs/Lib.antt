@@ -11,5 +11,6 @@ mod NameLemmas
 mod NetworkLemmas
 mod TurnLemmas
 mod AdoptLemmas
+mod SendLemmas
 mod StepLemmas
 mod PlaceLemmas

@@ -18,13 +18,13 @@ use Rattle.auc_peer.specs.Attributes.{checkcode, differs}
 use Rattle.auc_peer.specs.Laws.{EachTurnMoves}
 use Rattle.auc_peer.specs.Rows.{is_last, late, notified_or, of_kind, on_failure, on_success, peer_row, repeats, requested, row_headed, row_in}
 use Rattle.auc_peer.specs.Subscription.{Subscription}
-use Rattle.auc_peer.specs.Table.{accepted, accepting, again, by_answer, challenged, client, genuine, keys_at, master_at, opened, own_code, peer_does, reauthenticated, succeeded, with_inner}
+use Rattle.auc_peer.specs.Table.{accepted, accepting, by_answer, challenged, client, genuine, keys_at, master_at, opened, own_code, peer_does, reauthenticated, succeeded, with_inner}
 use Rattle.auc_peer.specs.declared.decrypted.Decrypted.{Decrypted}
 use Rattle.auc_peer.specs.declared.decrypted.Decrypted.TheVariants as decrypted
 use Rattle.auc_reauth.specs.Device.{Keeps}
 use Rattle.auc_peer.specs.declared.peer.Challenge.{Challenge}
 use Rattle.auc_peer.specs.declared.peer.Last.{Last}
-use Rattle.auc_peer.specs.declared.peer.Peer.{Peer}
+use Rattle.auc_peer.specs.Peer.{PeerEnd}
 use Rattle.auc_peer.specs.declared.peer.PeerState.{PeerState}
 use Rattle.auc_peer.specs.declared.peer.PeerState.TheVariants as state
 use Rattle.auc_peer.specs.declared.rows.Row.{Row}
@@ -39,14 +39,14 @@ use Rattle.auc_vector.specs.declared.turn.Outcome.TheVariants as outcome
 use Rattle.auc_vector.specs.declared.turn.Reason.TheVariants as reason
 use Rattle.auc_vector.specs.declared.turn.Step.TheVariants as step
 use Rattle.auc_vector.specs.declared.turn.Turn.{Turn}
-use Rattle.auc_peer.proofs.LawLemmas.{again_none, challenged_none, reauth_none, row_success}
+use Rattle.auc_peer.proofs.LawLemmas.{challenged_none, reauth_none, row_success}
 use Rattle.auc_peer.proofs.OptionLemmas.{on_cond, row_options}
 use Rattle.auc_peer.proofs.ReauthLemmas.{on_reauth}
 
 -- ---- which rows are a waiting peer's
 
 -- an identity is sent, a challenge taken and a context resumed by a waiting peer
-abbrev pub Waits : Peer → Row → Type 0
+abbrev pub Waits : PeerEnd → Row → Type 0
 Waits p row.First = p.state ≡ state.Waiting
 Waits p (row.Identity asked) = p.state ≡ state.Waiting
 Waits p (row.Challenged c) = p.state ≡ state.Waiting
@@ -57,7 +57,7 @@ picked : (P : Row → Type 0) (b : Bool) (x y : Row) → P x → P y → P (cond
 picked P true x y f g = f
 picked P false x y f g = g
 
-any_waits : (p : Peer) (r : Row) → p.state ≡ state.Waiting → Waits p r
+any_waits : (p : PeerEnd) (r : Row) → p.state ≡ state.Waiting → Waits p r
 any_waits p row.First e = e
 any_waits p (row.Identity asked) e = e
 any_waits p (row.Challenged c) e = e
@@ -70,7 +70,7 @@ any_waits p (row.Notified code) e = tt
 any_waits p row.Success e = tt
 any_waits p (row.Failure cause) e = tt
 
-late_waits : (p : Peer) (own : Method) (r : Reading) → Waits p (late own r)
+late_waits : (p : PeerEnd) (own : Method) (r : Reading) → Waits p (late own r)
 late_waits p own (reading.Read (packet.Aka request id m subtype.Notification list)) =
     picked (Waits p) (is_malformed subtype.Notification true own list) (row.Ignore reason.Unexpected) (notified_or (row.Ignore reason.Unexpected) (first_code list)) tt (by (first_code list))
   where
@@ -88,38 +88,38 @@ late_waits p own (reading.Read (packet.Success id)) = tt
 late_waits p own (reading.Read (packet.Failure id)) = tt
 late_waits p own (reading.Fault fault) = tt
 
-requested_waits : (p : Peer) (s : PeerState) (r : Reading) → p.state ≡ s → Waits p (requested p.options s r)
+requested_waits : (p : PeerEnd) (s : PeerState) (r : Reading) → p.state ≡ s → Waits p (requested p.options s r)
 requested_waits p state.Waiting r e = any_waits p (requested p.options state.Waiting r) e
 requested_waits p (state.Answered keys) r e = late_waits p p.options.method r
 requested_waits p (state.Refusing cause) r e = tt
 requested_waits p state.Ended r e = tt
 
-success_waits : (p : Peer) (s : PeerState) → Waits p (on_success s)
+success_waits : (p : PeerEnd) (s : PeerState) → Waits p (on_success s)
 success_waits p (state.Answered keys) = tt
 success_waits p state.Waiting = tt
 success_waits p (state.Refusing cause) = tt
 success_waits p state.Ended = tt
 
-failure_waits : (p : Peer) (s : PeerState) → Waits p (on_failure s)
+failure_waits : (p : PeerEnd) (s : PeerState) → Waits p (on_failure s)
 failure_waits p (state.Answered keys) = tt
 failure_waits p state.Waiting = tt
 failure_waits p (state.Refusing cause) = tt
 failure_waits p state.Ended = tt
 
-kind_waits : (p : Peer) (s : PeerState) (last : Option Last) (seen : Seen) (head : Head) (kind : Option ℕ) → p.state ≡ s → Waits p (of_kind p.options s last seen head kind)
+kind_waits : (p : PeerEnd) (s : PeerState) (last : Option Last) (seen : Seen) (head : Head) (kind : Option ℕ) → p.state ≡ s → Waits p (of_kind p.options s last seen head kind)
 kind_waits p s last seen head None e =
     picked (Waits p) (not (is_last last head.id)) (row.Ignore reason.Unexpected) (cond (head.code == 3) (on_success s) (on_failure s)) tt
     (picked (Waits p) (head.code == 3) (on_success s) (on_failure s) (success_waits p s) (failure_waits p s))
 kind_waits p s last seen head (Some kind) e =
     picked (Waits p) (not (kind == 1 || kind == method_type p.options.method)) (row.Ignore reason.OtherType) (requested p.options s seen.reading) tt (requested_waits p s seen.reading e)
 
-headed_waits : (p : Peer) (s : PeerState) (last : Option Last) (seen : Seen) (head : Option Head) → p.state ≡ s → Waits p (row_headed p.options s last seen head)
+headed_waits : (p : PeerEnd) (s : PeerState) (last : Option Last) (seen : Seen) (head : Option Head) → p.state ≡ s → Waits p (row_headed p.options s last seen head)
 headed_waits p s last seen None e = tt
 headed_waits p s last seen (Some head) e =
     picked (Waits p) (head.code == 2) (row.Ignore reason.NotForMe) (cond (repeats last seen.bytes) row.Again (of_kind p.options s last seen head head.kind)) tt
     (picked (Waits p) (repeats last seen.bytes) row.Again (of_kind p.options s last seen head head.kind) tt (kind_waits p s last seen head head.kind e))
 
-pub in_waits : (p : Peer) (s : PeerState) (last : Option Last) (seen : Seen) → p.state ≡ s → Waits p (row_in p.options s last seen)
+pub in_waits : (p : PeerEnd) (s : PeerState) (last : Option Last) (seen : Seen) → p.state ≡ s → Waits p (row_in p.options s last seen)
 in_waits p state.Ended last seen e = tt
 in_waits p state.Waiting last seen e = headed_waits p state.Waiting last seen (head_at seen.bytes) e
 in_waits p (state.Answered keys) last seen e = headed_waits p (state.Answered keys) last seen (head_at seen.bytes) e
@@ -127,22 +127,18 @@ in_waits p (state.Refusing cause) last seen e = headed_waits p (state.Refusing c
 
 -- ---- what a turn keeps
 
-abbrev Stays : Peer → Peer × Turn PeerWhy → Type 0
-Stays p t = (p.state ≡ state.Waiting) ⊎ ((t.0.accepted ≡ p.accepted) × (t.0.identity ≡ p.identity))
+abbrev Stays : PeerEnd → PeerEnd × Turn PeerWhy → Type 0
+Stays p t = (p.state ≡ state.Waiting) ⊎ ((t.0.source ≡ p.source) × (t.0.identity ≡ p.identity))
 
-again_keeps : (p : Peer) (last : Option Last) → Stays p (again p last)
-again_keeps p None = inr (refl, refl)
-again_keeps p (Some last) = inr (refl, refl)
-
-succeeded_keeps : (p : Peer) (s : PeerState) → Stays p (succeeded p s)
+succeeded_keeps : (p : PeerEnd) (s : PeerState) → Stays p (succeeded p s)
 succeeded_keeps p (state.Answered keys) = inr (refl, refl)
 succeeded_keeps p state.Waiting = inr (refl, refl)
 succeeded_keeps p (state.Refusing cause) = inr (refl, refl)
 succeeded_keeps p state.Ended = inr (refl, refl)
 
-row_keeps : (key : List ℕ) (s : Subscription) (keeps : Keeps) (p : Peer) (seen : Seen) (r : Row) (n : Option UsimNote) (inner : Decrypted) → Waits p r → Stays p (peer_does key s keeps p seen r n inner)
+row_keeps : (key : List ℕ) (s : Subscription) (keeps : Keeps) (p : PeerEnd) (seen : Seen) (r : Row) (n : Option UsimNote) (inner : Decrypted) → Waits p r → Stays p (peer_does key s keeps p seen r n inner)
 row_keeps key s keeps p seen (row.Ignore cause) n inner w = inr (refl, refl)
-row_keeps key s keeps p seen row.Again n inner w = again_keeps p p.last
+row_keeps key s keeps p seen row.Again n inner w = inr (refl, refl)
 row_keeps key s keeps p seen row.First n inner w = inl w
 row_keeps key s keeps p seen (row.Identity asked) n inner w = inl w
 row_keeps key s keeps p seen (row.Client cause) n inner w = inr (refl, refl)
@@ -153,106 +149,71 @@ row_keeps key s keeps p seen row.Reauthentication n inner w = inl w
 row_keeps key s keeps p seen row.Success n inner w = succeeded_keeps p p.state
 row_keeps key s keeps p seen (row.Failure cause) n inner w = inr (refl, refl)
 
--- the name of the network stays, unless a waiting peer takes a challenge
-abbrev KeepsNetwork : Peer → Peer × Turn PeerWhy → Type 0
-KeepsNetwork p t = (p.state ≡ state.Waiting) ⊎ (t.0.network ≡ p.network)
+-- so does what was decrypted
+abbrev KeepsInner : PeerEnd → PeerEnd × Turn PeerWhy → Type 0
+KeepsInner p t = (p.state ≡ state.Waiting) ⊎ (t.0.inner ≡ p.inner)
 
-again_network : (p : Peer) (last : Option Last) → KeepsNetwork p (again p last)
-again_network p None = inr refl
-again_network p (Some last) = inr refl
+succeeded_inner : (p : PeerEnd) (s : PeerState) → KeepsInner p (succeeded p s)
+succeeded_inner p (state.Answered keys) = inr refl
+succeeded_inner p state.Waiting = inr refl
+succeeded_inner p (state.Refusing cause) = inr refl
+succeeded_inner p state.Ended = inr refl
 
-succeeded_network : (p : Peer) (s : PeerState) → KeepsNetwork p (succeeded p s)
-succeeded_network p (state.Answered keys) = inr refl
-succeeded_network p state.Waiting = inr refl
-succeeded_network p (state.Refusing cause) = inr refl
-succeeded_network p state.Ended = inr refl
-
-row_network : (key : List ℕ) (s : Subscription) (keeps : Keeps) (p : Peer) (seen : Seen) (r : Row) (n : Option UsimNote) (inner : Decrypted) → Waits p r → KeepsNetwork p (peer_does key s keeps p seen r n inner)
-row_network key s keeps p seen (row.Ignore cause) n inner w = inr refl
-row_network key s keeps p seen row.Again n inner w = again_network p p.last
-row_network key s keeps p seen row.First n inner w = inr refl
-row_network key s keeps p seen (row.Identity asked) n inner w = inr refl
-row_network key s keeps p seen (row.Client cause) n inner w = inr refl
-row_network key s keeps p seen (row.Reject cause) n inner w = inr refl
-row_network key s keeps p seen (row.Notified code) n inner w = inr refl
-row_network key s keeps p seen (row.Challenged c) n inner w = inl w
-row_network key s keeps p seen row.Reauthentication n inner w = inl w
-row_network key s keeps p seen row.Success n inner w = succeeded_network p p.state
-row_network key s keeps p seen (row.Failure cause) n inner w = inr refl
-
--- so does the context that was resumed, and what was decrypted
-abbrev KeepsInner : Peer → Peer × Turn PeerWhy → Type 0
-KeepsInner p t = (p.state ≡ state.Waiting) ⊎ ((t.0.resumed ≡ p.resumed) × (t.0.inner ≡ p.inner))
-
-again_inner : (p : Peer) (last : Option Last) → KeepsInner p (again p last)
-again_inner p None = inr (refl, refl)
-again_inner p (Some last) = inr (refl, refl)
-
-succeeded_inner : (p : Peer) (s : PeerState) → KeepsInner p (succeeded p s)
-succeeded_inner p (state.Answered keys) = inr (refl, refl)
-succeeded_inner p state.Waiting = inr (refl, refl)
-succeeded_inner p (state.Refusing cause) = inr (refl, refl)
-succeeded_inner p state.Ended = inr (refl, refl)
-
-row_inner : (key : List ℕ) (s : Subscription) (keeps : Keeps) (p : Peer) (seen : Seen) (r : Row) (n : Option UsimNote) (inner : Decrypted) → Waits p r → KeepsInner p (peer_does key s keeps p seen r n inner)
-row_inner key s keeps p seen (row.Ignore cause) n inner w = inr (refl, refl)
-row_inner key s keeps p seen row.Again n inner w = again_inner p p.last
-row_inner key s keeps p seen row.First n inner w = inr (refl, refl)
-row_inner key s keeps p seen (row.Identity asked) n inner w = inr (refl, refl)
-row_inner key s keeps p seen (row.Client cause) n inner w = inr (refl, refl)
-row_inner key s keeps p seen (row.Reject cause) n inner w = inr (refl, refl)
-row_inner key s keeps p seen (row.Notified code) n inner w = inr (refl, refl)
+row_inner : (key : List ℕ) (s : Subscription) (keeps : Keeps) (p : PeerEnd) (seen : Seen) (r : Row) (n : Option UsimNote) (inner : Decrypted) → Waits p r → KeepsInner p (peer_does key s keeps p seen r n inner)
+row_inner key s keeps p seen (row.Ignore cause) n inner w = inr refl
+row_inner key s keeps p seen row.Again n inner w = inr refl
+row_inner key s keeps p seen row.First n inner w = inr refl
+row_inner key s keeps p seen (row.Identity asked) n inner w = inr refl
+row_inner key s keeps p seen (row.Client cause) n inner w = inr refl
+row_inner key s keeps p seen (row.Reject cause) n inner w = inr refl
+row_inner key s keeps p seen (row.Notified code) n inner w = inr refl
 row_inner key s keeps p seen (row.Challenged c) n inner w = inl w
 row_inner key s keeps p seen row.Reauthentication n inner w = inl w
 row_inner key s keeps p seen row.Success n inner w = succeeded_inner p p.state
-row_inner key s keeps p seen (row.Failure cause) n inner w = inr (refl, refl)
+row_inner key s keeps p seen (row.Failure cause) n inner w = inr refl
 
 -- ---- keys come with a right AT_MAC
 
-abbrev Checks : KeySet → Peer × Turn PeerWhy → Type 0
+abbrev Checks : KeySet → PeerEnd × Turn PeerWhy → Type 0
 Checks keys t = t.0.state ≡ state.Answered keys → t.1.checked ≡ true
 
 refused : (keys : KeySet) (w : PeerWhy) → state.Refusing w ≡ state.Answered keys → ⊥
 refused keys w e = cc
 
-client_checks : (p : Peer) (seen : Seen) (w : PeerWhy) (n : Option UsimNote) (checked : Bool) (keys : KeySet) → Checks keys (client p seen w n checked)
+client_checks : (p : PeerEnd) (seen : Seen) (w : PeerWhy) (n : Option UsimNote) (checked : Bool) (keys : KeySet) → Checks keys (client p seen w n checked)
 client_checks p seen w n checked keys = λ e. absurd (refused keys w e)
 
-opened_checks : (p : Peer) (seen : Seen) (res sqn : List ℕ) (k : KeySet) (m : Master) (inner : Decrypted) (keys : KeySet) → Checks keys (opened p seen res sqn k m inner)
+opened_checks : (p : PeerEnd) (seen : Seen) (res sqn : List ℕ) (k : KeySet) (m : Master) (inner : Decrypted) (keys : KeySet) → Checks keys (opened p seen res sqn k m inner)
 opened_checks p seen res sqn k m (decrypted.Attributes next) keys = λ e. refl
 opened_checks p seen res sqn k m decrypted.Unreadable keys = client_checks (with_inner p decrypted.Unreadable) seen why.Undecryptable (Some (note.Accepted sqn)) true keys
 
-accepted_checks : (p : Peer) (seen : Seen) (c : Challenge) (res sqn : List ℕ) (k : KeySet) (m : Master) (inner : Decrypted) (keys : KeySet) → Checks keys (accepted p seen c res sqn k m inner)
+accepted_checks : (p : PeerEnd) (seen : Seen) (c : Challenge) (res sqn : List ℕ) (k : KeySet) (m : Master) (inner : Decrypted) (keys : KeySet) → Checks keys (accepted p seen c res sqn k m inner)
 accepted_checks p seen c res sqn k m inner keys =
     on_cond (Checks keys) (not (is_sealed p.options.method k.k_aut [] seen)) (client p seen why.WrongMac (Some (note.Accepted sqn)) false) (genuine (accepting p seen c) seen res sqn k m inner)
     (client_checks p seen why.WrongMac (Some (note.Accepted sqn)) false keys)
     (on_cond (Checks keys) (differs (own_code p) (checkcode seen)) (client (accepting p seen c) seen why.WrongCheckcode (Some (note.Accepted sqn)) true) (opened (accepting p seen c) seen res sqn k m inner)
     (client_checks (accepting p seen c) seen why.WrongCheckcode (Some (note.Accepted sqn)) true keys) (opened_checks (accepting p seen c) seen res sqn k m inner keys))
 
-answer_checks : (p : Peer) (seen : Seen) (c : Challenge) (a : Answer) (inner : Decrypted) (keys : KeySet) → Checks keys (by_answer p seen c a inner)
+answer_checks : (p : PeerEnd) (seen : Seen) (c : Challenge) (a : Answer) (inner : Decrypted) (keys : KeySet) → Checks keys (by_answer p seen c a inner)
 answer_checks p seen c answer.WrongMac inner keys = λ e. absurd cc
 answer_checks p seen c (answer.SyncFailure auts sqn) inner keys = λ e. absurd cc
 answer_checks p seen c (answer.Accepted res ck ik ak amf sqn) inner keys = accepted_checks p seen c res sqn (keys_at p seen c ik ck) (master_at p seen c ik ck) inner keys
 
-abbrev Right : KeySet → Peer → Peer × Turn PeerWhy → Type 0
+abbrev Right : KeySet → PeerEnd → PeerEnd × Turn PeerWhy → Type 0
 Right keys p t = (p.state ≡ state.Answered keys) ⊎ (t.1.checked ≡ true)
 
-challenged_checks : (s : Subscription) (p : Peer) (seen : Seen) (c : Challenge) (n : Option UsimNote) (inner : Decrypted) (keys : KeySet)
+challenged_checks : (s : Subscription) (p : PeerEnd) (seen : Seen) (c : Challenge) (n : Option UsimNote) (inner : Decrypted) (keys : KeySet)
     → (challenged s p seen c n inner).0.state ≡ state.Answered keys → Right keys p (challenged s p seen c n inner)
 challenged_checks s p seen c None inner keys e = inl e
 challenged_checks s p seen c (Some n) inner keys e = inr (answer_checks p seen c (answer_noted s.secret c n) inner keys e)
 
-again_checks : (p : Peer) (last : Option Last) (keys : KeySet) → (again p last).0.state ≡ state.Answered keys → Right keys p (again p last)
-again_checks p None keys e = inl e
-again_checks p (Some last) keys e = inl e
-
-succeeded_checks : (p : Peer) (s : PeerState) (keys : KeySet) → (succeeded p s).0.state ≡ state.Answered keys → Right keys p (succeeded p s)
+succeeded_checks : (p : PeerEnd) (s : PeerState) (keys : KeySet) → (succeeded p s).0.state ≡ state.Answered keys → Right keys p (succeeded p s)
 succeeded_checks p (state.Answered k) keys e = absurd cc
 succeeded_checks p state.Waiting keys e = inl e
 succeeded_checks p (state.Refusing cause) keys e = inl e
 succeeded_checks p state.Ended keys e = inl e
 
-reauth_checks : (key : List ℕ) (keeps : Keeps) (p : Peer) (seen : Seen) (inner : Decrypted) (keys : KeySet)
+reauth_checks : (key : List ℕ) (keeps : Keeps) (p : PeerEnd) (seen : Seen) (inner : Decrypted) (keys : KeySet)
     → (reauthenticated key keeps p seen inner).0.state ≡ state.Answered keys → Right keys p (reauthenticated key keeps p seen inner)
 reauth_checks key keeps p seen inner keys =
     on_reauth (λ t. t.0.state ≡ state.Answered keys → Right keys p t) key keeps p seen inner (λ e. inl e)
@@ -265,10 +226,10 @@ reauth_checks key keeps p seen inner keys =
       refuses = λ given counter nonce e. inr refl;
     })
 
-row_checks : (key : List ℕ) (s : Subscription) (keeps : Keeps) (p : Peer) (seen : Seen) (r : Row) (n : Option UsimNote) (inner : Decrypted) (keys : KeySet)
+row_checks : (key : List ℕ) (s : Subscription) (keeps : Keeps) (p : PeerEnd) (seen : Seen) (r : Row) (n : Option UsimNote) (inner : Decrypted) (keys : KeySet)
     → (peer_does key s keeps p seen r n inner).0.state ≡ state.Answered keys → Right keys p (peer_does key s keeps p seen r n inner)
 row_checks key s keeps p seen (row.Ignore cause) n inner keys e = inl e
-row_checks key s keeps p seen row.Again n inner keys e = again_checks p p.last keys e
+row_checks key s keeps p seen row.Again n inner keys e = inl e
 row_checks key s keeps p seen row.First n inner keys e = absurd cc
 row_checks key s keeps p seen (row.Identity asked) n inner keys e = absurd cc
 row_checks key s keeps p seen (row.Client cause) n inner keys e = absurd cc
@@ -281,19 +242,19 @@ row_checks key s keeps p seen (row.Failure cause) n inner keys e = absurd cc
 
 -- ---- the end of a session
 
-abbrev Succeeds : KeySet → List ℕ → Peer × Turn PeerWhy → Type 0
+abbrev Succeeds : KeySet → List ℕ → PeerEnd × Turn PeerWhy → Type 0
 Succeeds keys bytes t = t.1.step ≡ step.Ended (outcome.Success keys) bytes
 
-succeeded_ends : (p : Peer) (s : PeerState) (keys : KeySet) (bytes : List ℕ) → Succeeds keys bytes (succeeded p s) → (succeeded p s).0.state ≡ state.Ended
+succeeded_ends : (p : PeerEnd) (s : PeerState) (keys : KeySet) (bytes : List ℕ) → Succeeds keys bytes (succeeded p s) → (succeeded p s).0.state ≡ state.Ended
 succeeded_ends p (state.Answered k) keys bytes e = refl
 succeeded_ends p state.Waiting keys bytes e = absurd cc
 succeeded_ends p (state.Refusing cause) keys bytes e = absurd cc
 succeeded_ends p state.Ended keys bytes e = absurd cc
 
-row_ends : (key : List ℕ) (s : Subscription) (keeps : Keeps) (p : Peer) (seen : Seen) (r : Row) (n : Option UsimNote) (inner : Decrypted) (keys : KeySet) (bytes : List ℕ)
+row_ends : (key : List ℕ) (s : Subscription) (keeps : Keeps) (p : PeerEnd) (seen : Seen) (r : Row) (n : Option UsimNote) (inner : Decrypted) (keys : KeySet) (bytes : List ℕ)
     → Succeeds keys bytes (peer_does key s keeps p seen r n inner) → (peer_does key s keeps p seen r n inner).0.state ≡ state.Ended
 row_ends key s keeps p seen (row.Ignore cause) n inner keys bytes e = absurd cc
-row_ends key s keeps p seen row.Again n inner keys bytes e = absurd (again_none p p.last keys bytes e)
+row_ends key s keeps p seen row.Again n inner keys bytes e = absurd cc
 row_ends key s keeps p seen row.First n inner keys bytes e = absurd cc
 row_ends key s keeps p seen (row.Identity asked) n inner keys bytes e = absurd cc
 row_ends key s keeps p seen (row.Client cause) n inner keys bytes e = absurd cc
@@ -308,10 +269,9 @@ row_ends key s keeps p seen (row.Failure cause) n inner keys bytes e = refl
 pub each_turn_moves : EachTurnMoves
 each_turn_moves key s keeps p seen n inner = record {
   options = row_options key s keeps p seen (peer_row p seen) n inner;
-  network = row_network key s keeps p seen (peer_row p seen) n inner (in_waits p p.state p.last seen refl);
-  keeps = row_keeps key s keeps p seen (peer_row p seen) n inner (in_waits p p.state p.last seen refl);
-  resumed = elim (row_inner key s keeps p seen (peer_row p seen) n inner (in_waits p p.state p.last seen refl)) [ inl h ↦ inl h | inr h ↦ inr h.0 ];
-  inner = elim (row_inner key s keeps p seen (peer_row p seen) n inner (in_waits p p.state p.last seen refl)) [ inl h ↦ inl h | inr h ↦ inr h.1 ];
+  source = elim (row_keeps key s keeps p seen (peer_row p seen) n inner (in_waits p p.state p.last seen refl)) [ inl h ↦ inl h | inr h ↦ inr h.0 ];
+  identity = elim (row_keeps key s keeps p seen (peer_row p seen) n inner (in_waits p p.state p.last seen refl)) [ inl h ↦ inl h | inr h ↦ inr h.1 ];
+  inner = row_inner key s keeps p seen (peer_row p seen) n inner (in_waits p p.state p.last seen refl);
   keys = λ keys e. row_checks key s keeps p seen (peer_row p seen) n inner keys e;
   success = λ keys bytes e. (
     row_success key s keeps p seen (peer_row p seen) n inner keys bytes e,

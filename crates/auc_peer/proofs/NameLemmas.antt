@@ -24,14 +24,14 @@ use Rattle.auc_peer.specs.Attributes.{attrs_in, checkcode, differs}
 use Rattle.auc_peer.specs.Laws.{EachTurnIsNamed, Named}
 use Rattle.auc_peer.specs.Rows.{challenge_of, is_last, is_response, late, method_row, notified_or, of_kind, on_failure, on_sound, on_success, peer_row, repeats, requested, row_headed, row_in, waiting}
 use Rattle.auc_peer.specs.Subscription.{Subscription}
-use Rattle.auc_peer.specs.Table.{accepted, accepting, again, by_answer, challenged, client, genuine, keys_at, master_at, network_of, opened, own_code, peer_does, succeeded}
+use Rattle.auc_peer.specs.Table.{accepted, accepting, by_answer, challenged, client, genuine, keys_at, master_at, network_of, opened, own_code, peer_does, resuming, succeeded}
 use Rattle.auc_peer.specs.Told.{Told}
 use Rattle.auc_peer.specs.declared.decrypted.Decrypted.{Decrypted}
 use Rattle.auc_peer.specs.declared.decrypted.Decrypted.TheVariants as decrypted
 use Rattle.auc_reauth.specs.Device.{Keeps}
 use Rattle.auc_peer.specs.declared.peer.Challenge.{Challenge}
 use Rattle.auc_peer.specs.declared.peer.Last.{Last}
-use Rattle.auc_peer.specs.declared.peer.Peer.{Peer}
+use Rattle.auc_peer.specs.Peer.{PeerEnd, accepted_in}
 use Rattle.auc_peer.specs.declared.peer.PeerState.{PeerState}
 use Rattle.auc_peer.specs.declared.peer.PeerState.TheVariants as state
 use Rattle.auc_peer.specs.declared.rows.Row.{Row}
@@ -45,7 +45,7 @@ use Rattle.auc_vector.specs.declared.notes.UsimNote.TheVariants as note
 use Rattle.auc_vector.specs.declared.turn.Reason.TheVariants as reason
 use Rattle.auc_vector.specs.declared.turn.Turn.{Turn}
 use Rattle.auc_peer.proofs.OptionLemmas.{on_cond}
-use Rattle.auc_peer.proofs.ReauthLemmas.{on_reauth}
+use Rattle.auc_peer.proofs.ReauthLemmas.{on_reauth, opening}
 
 -- ---- which challenges are taken
 
@@ -172,41 +172,44 @@ in_tests o (state.Refusing cause) last seen = headed_tests o (state.Refusing cau
 
 -- ---- what a turn accepts
 
-abbrev IsNamed : Peer × Turn PeerWhy → Type 0
+abbrev IsNamed : PeerEnd × Turn PeerWhy → Type 0
 IsNamed t = Named t.0
 
-opened_named : (p : Peer) (seen : Seen) (res sqn : List ℕ) (k : KeySet) (m : Master) (inner : Decrypted) → Named p → IsNamed (opened p seen res sqn k m inner)
+opened_named : (p : PeerEnd) (seen : Seen) (res sqn : List ℕ) (k : KeySet) (m : Master) (inner : Decrypted) → Named p → IsNamed (opened p seen res sqn k m inner)
 opened_named p seen res sqn k m (decrypted.Attributes next) f = f
 opened_named p seen res sqn k m decrypted.Unreadable f = f
 
-accepted_named : (p : Peer) (seen : Seen) (c : Challenge) (res sqn : List ℕ) (k : KeySet) (m : Master) (inner : Decrypted) → Named p → Named (accepting p seen c) → IsNamed (accepted p seen c res sqn k m inner)
+accepted_named : (p : PeerEnd) (seen : Seen) (c : Challenge) (res sqn : List ℕ) (k : KeySet) (m : Master) (inner : Decrypted) → Named p → Named (accepting p seen c) → IsNamed (accepted p seen c res sqn k m inner)
 accepted_named p seen c res sqn k m inner f g =
     on_cond IsNamed (not (is_sealed p.options.method k.k_aut [] seen)) (client p seen why.WrongMac (Some (note.Accepted sqn)) false) (genuine (accepting p seen c) seen res sqn k m inner) f
     (on_cond IsNamed (differs (own_code p) (checkcode seen)) (client (accepting p seen c) seen why.WrongCheckcode (Some (note.Accepted sqn)) true) (opened (accepting p seen c) seen res sqn k m inner) g
     (opened_named (accepting p seen c) seen res sqn k m inner g))
 
-answer_named : (p : Peer) (seen : Seen) (c : Challenge) (a : Answer) (inner : Decrypted) → Named p → Named (accepting p seen c) → IsNamed (by_answer p seen c a inner)
+answer_named : (p : PeerEnd) (seen : Seen) (c : Challenge) (a : Answer) (inner : Decrypted) → Named p → Named (accepting p seen c) → IsNamed (by_answer p seen c a inner)
 answer_named p seen c answer.WrongMac inner f g = f
 answer_named p seen c (answer.SyncFailure auts sqn) inner f g = f
 answer_named p seen c (answer.Accepted res ck ik ak amf sqn) inner f g = accepted_named p seen c res sqn (keys_at p seen c ik ck) (master_at p seen c ik ck) inner f g
 
-challenged_named : (s : Subscription) (p : Peer) (seen : Seen) (c : Challenge) (n : Option UsimNote) (inner : Decrypted) → Named p → Named (accepting p seen c) → IsNamed (challenged s p seen c n inner)
+challenged_named : (s : Subscription) (p : PeerEnd) (seen : Seen) (c : Challenge) (n : Option UsimNote) (inner : Decrypted) → Named p → Named (accepting p seen c) → IsNamed (challenged s p seen c n inner)
 challenged_named s p seen c None inner f g = f
 challenged_named s p seen c (Some n) inner f g = answer_named p seen c (answer_noted s.secret c n) inner f g
 
-again_named : (p : Peer) (last : Option Last) → Named p → IsNamed (again p last)
-again_named p None f = f
-again_named p (Some last) f = f
+-- a peer that resumed a context has no challenge
+resumed_named : (p : PeerEnd) → accepted_in p.source ≡ None → Named p
+resumed_named p none = λ c name m own e. absurd (no_challenge c (sym none ∙ e))
+  where
+    no_challenge : (c : Challenge) → ◌≡◌ {A = Option Challenge} None (Some c) → ⊥
+    no_challenge c e = cc
 
-succeeded_named : (p : Peer) (s : PeerState) → Named p → IsNamed (succeeded p s)
+succeeded_named : (p : PeerEnd) (s : PeerState) → Named p → IsNamed (succeeded p s)
 succeeded_named p (state.Answered keys) f = f
 succeeded_named p state.Waiting f = f
 succeeded_named p (state.Refusing cause) f = f
 succeeded_named p state.Ended f = f
 
-row_named : (key : List ℕ) (s : Subscription) (keeps : Keeps) (p : Peer) (seen : Seen) (r : Row) (n : Option UsimNote) (inner : Decrypted) → Tests p.options (attrs_in seen.reading) r → Named p → IsNamed (peer_does key s keeps p seen r n inner)
+row_named : (key : List ℕ) (s : Subscription) (keeps : Keeps) (p : PeerEnd) (seen : Seen) (r : Row) (n : Option UsimNote) (inner : Decrypted) → Tests p.options (attrs_in seen.reading) r → Named p → IsNamed (peer_does key s keeps p seen r n inner)
 row_named key s keeps p seen (row.Ignore cause) n inner t f = f
-row_named key s keeps p seen row.Again n inner t f = again_named p p.last f
+row_named key s keeps p seen row.Again n inner t f = f
 row_named key s keeps p seen row.First n inner t f = f
 row_named key s keeps p seen (row.Identity asked) n inner t f = f
 row_named key s keeps p seen (row.Client cause) n inner t f = f
@@ -215,7 +218,14 @@ row_named key s keeps p seen (row.Notified code) n inner t f = f
 row_named key s keeps p seen (row.Challenged c) n inner t f = challenged_named s p seen c n inner f (λ d name m own e. t name m own)
 row_named key s keeps p seen row.Reauthentication n inner t f =
     on_reauth IsNamed key keeps p seen inner f
-    (λ c e. record { missing = f; wrong = f; other = f; hidden = f; accepts = λ given counter nonce is. f; refuses = λ given counter nonce. f })
+    (λ c e. record {
+      missing = f;
+      wrong = f;
+      other = resumed_named (resuming p c) refl;
+      hidden = resumed_named (opening p c inner) refl;
+      accepts = λ given counter nonce is. resumed_named (opening p c (decrypted.Attributes given)) refl;
+      refuses = λ given counter nonce. resumed_named (opening p c (decrypted.Attributes given)) refl;
+    })
 row_named key s keeps p seen row.Success n inner t f = succeeded_named p p.state f
 row_named key s keeps p seen (row.Failure cause) n inner t f = f
 

@@ -13,14 +13,13 @@ use Rattle.auc_peer.specs.Identities.{renamed, under, with_next_context, with_ne
 use Rattle.auc_peer.specs.Places.{EachTurnIsOfMethod, EachTurnLeavesTheOther, EachTurnMovesOnce, IsOfMethod, MovesOnce, Originates, Shows, place_in, place_of}
 use Rattle.auc_peer.specs.Rows.{peer_row}
 use Rattle.auc_peer.specs.Subscription.{Subscription}
-use Rattle.auc_peer.specs.Table.{accepted, accepting, again, by_answer, challenged, client, context_from, counted_up, genuine, kept_by, keys_at, master_at, opened, own_code, peer_does, pseudonym_given, reauthenticated, succeeded, taken_up}
+use Rattle.auc_peer.specs.Table.{accepted, accepting, by_answer, challenged, client, context_from, counted_up, genuine, kept_by, keys_at, master_at, opened, own_code, peer_does, pseudonym_given, reauthenticated, succeeded, taken_up}
 use Rattle.auc_peer.specs.declared.decrypted.Decrypted.{Decrypted}
 use Rattle.auc_peer.specs.declared.decrypted.Decrypted.TheVariants as decrypted
 use Rattle.auc_peer.specs.declared.next.NextContext.{NextContext}
 use Rattle.auc_peer.specs.declared.next.NextContext.TheVariants as next
 use Rattle.auc_peer.specs.declared.peer.Challenge.{Challenge}
-use Rattle.auc_peer.specs.declared.peer.Last.{Last}
-use Rattle.auc_peer.specs.declared.peer.Peer.{Peer}
+use Rattle.auc_peer.specs.Peer.{PeerEnd}
 use Rattle.auc_peer.specs.declared.peer.PeerState.{PeerState}
 use Rattle.auc_peer.specs.declared.peer.PeerState.TheVariants as state
 use Rattle.auc_peer.specs.declared.rows.Row.{Row}
@@ -104,12 +103,12 @@ small_taken k counter e = cc
 taken_is : (k counter : ℕ) → ◌≡◌ {A = Option CounterNote} (Some (counts.Taken k)) (Some (counts.Taken counter)) → ◌≡◌ {A = Option Move} (Some (Accept k)) (Some (Accept counter))
 taken_is k counter e = cc
 
-module _ (t : ℕ) (w : Home) (p : Peer) (keeps : Keeps) (shown : Shows w p.options.method t keeps p) where
-  abbrev Once : Keeps → Peer × Turn PeerWhy → Type 0
+module _ (t : ℕ) (w : Home) (p : PeerEnd) (keeps : Keeps) (shown : Shows w p.options.method t keeps p) where
+  abbrev Once : Keeps → PeerEnd × Turn PeerWhy → Type 0
   Once kept x = MovesOnce t w p x.0 x.1.notes keeps kept
 
   -- nothing changes
-  stays : (new : Peer) (notes : Notes) (kept : Keeps) → entry p.options.method kept.contexts ≡ entry p.options.method keeps.contexts → place_of new ≡ place_of p → Untaken notes
+  stays : (new : PeerEnd) (notes : Notes) (kept : Keeps) → entry p.options.method kept.contexts ≡ entry p.options.method keeps.contexts → place_of new ≡ place_of p → Untaken notes
       → MovesOnce t w p new notes keeps kept
   stays new notes kept same place untaken = record {
     move = None;
@@ -120,7 +119,7 @@ module _ (t : ℕ) (w : Home) (p : Peer) (keeps : Keeps) (shown : Shows w p.opti
   }
 
   -- the peer would put no context
-  loses : (new : Peer) (notes : Notes) (kept : Keeps) → entry p.options.method kept.contexts ≡ entry p.options.method keeps.contexts → place_of new ≡ None → Untaken notes
+  loses : (new : PeerEnd) (notes : Notes) (kept : Keeps) → entry p.options.method kept.contexts ≡ entry p.options.method keeps.contexts → place_of new ≡ None → Untaken notes
       → MovesOnce t w p new notes keeps kept
   loses new notes kept same place untaken = record {
     move = Some (Lose t);
@@ -134,7 +133,7 @@ module _ (t : ℕ) (w : Home) (p : Peer) (keeps : Keeps) (shown : Shows w p.opti
   }
 
   -- a Challenge is answered that gave an identity
-  challenges : (new : Peer) (notes : Notes) (c : Context) → place_of new ≡ Some c → Originates notes c → Untaken notes → MovesOnce t w p new notes keeps keeps
+  challenges : (new : PeerEnd) (notes : Notes) (c : Context) → place_of new ≡ Some c → Originates notes c → Untaken notes → MovesOnce t w p new notes keeps keeps
   challenges new notes c place comes untaken = record {
     move = Some (Challenges t c);
     own = (refl, comes);
@@ -147,7 +146,7 @@ module _ (t : ℕ) (w : Home) (p : Peer) (keeps : Keeps) (shown : Shows w p.opti
   }
 
   -- a counter is accepted
-  accepts : (new : Peer) (notes : Notes) (k : ℕ) → place_of p ≡ None → place_of new ≡ None → notes.counter ≡ Some (counts.Taken k) → is_open k (entry p.options.method keeps.contexts) ≡ true
+  accepts : (new : PeerEnd) (notes : Notes) (k : ℕ) → place_of p ≡ None → place_of new ≡ None → notes.counter ≡ Some (counts.Taken k) → is_open k (entry p.options.method keeps.contexts) ≡ true
       → MovesOnce t w p new notes keeps (with_accepted p.options.method k keeps)
   accepts new notes k before place taken is = record {
     move = Some (Accept k);
@@ -163,7 +162,7 @@ module _ (t : ℕ) (w : Home) (p : Peer) (keeps : Keeps) (shown : Shows w p.opti
   }
 
   -- the peer's context takes the place of the device's
-  wins : (new : Peer) (notes : Notes) (kept : Keeps) (c : Context) → place_of p ≡ Some c → entry p.options.method kept.contexts ≡ Some c → place_of new ≡ None → Untaken notes
+  wins : (new : PeerEnd) (notes : Notes) (kept : Keeps) (c : Context) → place_of p ≡ Some c → entry p.options.method kept.contexts ≡ Some c → place_of new ≡ None → Untaken notes
       → MovesOnce t w p new notes keeps kept
   wins new notes kept c has same place untaken =
       let rest : Places = with_place (suc t) None w.place in record {
@@ -182,7 +181,7 @@ module _ (t : ℕ) (w : Home) (p : Peer) (keeps : Keeps) (shown : Shows w p.opti
   renamed_under (Some identity) c = refl
 
   -- the device's context gets its next identity
-  adopts : (new : Peer) (notes : Notes) (kept : Keeps) (to : Option (List ℕ)) (c : Context) → place_of p ≡ None → entry p.options.method keeps.contexts ≡ Some c
+  adopts : (new : PeerEnd) (notes : Notes) (kept : Keeps) (to : Option (List ℕ)) (c : Context) → place_of p ≡ None → entry p.options.method keeps.contexts ≡ Some c
       → entry p.options.method kept.contexts ≡ under to c → place_of new ≡ None → Untaken notes → MovesOnce t w p new notes keeps kept
   adopts new notes kept to c before has same place untaken = record {
     move = Some (Adopt to);
@@ -197,12 +196,12 @@ module _ (t : ℕ) (w : Home) (p : Peer) (keeps : Keeps) (shown : Shows w p.opti
 
   -- ---- a Challenge
 
-  answers_once : (new : Peer) (notes : Notes) (keys : KeySet) (m : Master) (sqn : List ℕ) (identity : Option (List ℕ)) → notes.usim ≡ Some (note.Accepted sqn) → Untaken notes
+  answers_once : (new : PeerEnd) (notes : Notes) (keys : KeySet) (m : Master) (sqn : List ℕ) (identity : Option (List ℕ)) → notes.usim ≡ Some (note.Accepted sqn) → Untaken notes
       → place_of new ≡ place_in (state.Answered keys) (context_from keys m sqn identity) → MovesOnce t w p new notes keeps keeps
   answers_once new notes keys m sqn None e untaken place = loses new notes keeps refl place untaken
   answers_once new notes keys m sqn (Some identity) e untaken place = challenges new notes _ place (record { sqn = sqn; accepted = e; same = refl }) untaken
 
-  opened_once : (q : Peer) (seen : Seen) (res sqn : List ℕ) (k : KeySet) (m : Master) (inner : Decrypted) → Once keeps (opened q seen res sqn k m inner)
+  opened_once : (q : PeerEnd) (seen : Seen) (res sqn : List ℕ) (k : KeySet) (m : Master) (inner : Decrypted) → Once keeps (opened q seen res sqn k m inner)
   opened_once q seen res sqn k m decrypted.Unreadable = loses _ _ keeps refl refl none_taken
   opened_once q seen res sqn k m (decrypted.Attributes given) = answers_once _ _ k m sqn given.identity refl none_taken refl
 
@@ -243,11 +242,7 @@ module _ (t : ℕ) (w : Home) (p : Peer) (keeps : Keeps) (shown : Shows w p.opti
 
   -- ---- Success
 
-  again_once : (last : Option Last) → Once keeps (again p last)
-  again_once None = stays _ _ keeps refl refl none_taken
-  again_once (Some last) = stays _ _ keeps refl refl none_taken
-
-  renames_once : (new : Peer) (notes : Notes) (from : List ℕ) (to : Option (List ℕ)) (later : Keeps) (o : Option Context) → place_of p ≡ None → place_of new ≡ None → Untaken notes
+  renames_once : (new : PeerEnd) (notes : Notes) (from : List ℕ) (to : Option (List ℕ)) (later : Keeps) (o : Option Context) → place_of p ≡ None → place_of new ≡ None → Untaken notes
       → later.contexts ≡ keeps.contexts → entry p.options.method later.contexts ≡ o → MovesOnce t w p new notes keeps (renamed p.options.method from to o later)
   renames_once new notes from to later None before place untaken same is = loses new notes later (ap (λ (cs : ByMethod (Option Context)). entry p.options.method cs) same) place untaken
   renames_once new notes from to later (Some c) before place untaken same is = by (bytes_eq c.identity from)
@@ -257,7 +252,7 @@ module _ (t : ℕ) (w : Home) (p : Peer) (keeps : Keeps) (shown : Shows w p.opti
           (entry_same p.options.method (under to c) later.contexts) place untaken
       by false = loses new notes later (ap (λ (cs : ByMethod (Option Context)). entry p.options.method cs) same) place untaken
 
-  adopts_once : (new : Peer) (notes : Notes) (keys : KeySet) (following : NextContext) (later : Keeps) → IsOfMethod p → p.state ≡ state.Answered keys → p.next ≡ following → place_of new ≡ None
+  adopts_once : (new : PeerEnd) (notes : Notes) (keys : KeySet) (following : NextContext) (later : Keeps) → IsOfMethod p → p.state ≡ state.Answered keys → p.next ≡ following → place_of new ≡ None
       → Untaken notes → later.contexts ≡ keeps.contexts → MovesOnce t w p new notes keeps (with_next_context p.options.method following later)
   adopts_once new notes keys next.Same later own answered is place untaken same = loses new notes later (ap (λ (cs : ByMethod (Option Context)). entry p.options.method cs) same) place untaken
   adopts_once new notes keys (next.New c) later own answered is place untaken same =
@@ -281,7 +276,7 @@ module _ (t : ℕ) (w : Home) (p : Peer) (keeps : Keeps) (shown : Shows w p.opti
   row_once : (key : List ℕ) (s : Subscription) (seen : Seen) (r : Row) (n : Option UsimNote) (inner : Decrypted) → IsOfMethod p → Waits p r
       → Once (kept_by r p (peer_does key s keeps p seen r n inner).1.notes.counter keeps) (peer_does key s keeps p seen r n inner)
   row_once key s seen (row.Ignore cause) n inner own waits = stays _ _ keeps refl refl none_taken
-  row_once key s seen row.Again n inner own waits = again_once p.last
+  row_once key s seen row.Again n inner own waits = stays _ _ keeps refl refl none_taken
   row_once key s seen row.First n inner own waits = loses _ _ keeps refl refl none_taken
   row_once key s seen (row.Identity asked) n inner own waits = loses _ _ keeps refl refl none_taken
   row_once key s seen (row.Client cause) n inner own waits = loses _ _ keeps refl refl none_taken
@@ -303,7 +298,7 @@ unfolding master_of
 master_is method.Aka identity ik ck = refl
 master_is method.Prime identity ik ck = refl
 
-abbrev Own : Peer × Turn PeerWhy → Type 0
+abbrev Own : PeerEnd × Turn PeerWhy → Type 0
 Own x = IsOfMethod x.0
 
 no_context : (c : Context) → ◌≡◌ {A = Option Context} None (Some c) → ⊥
@@ -317,38 +312,34 @@ from_own : (keys : KeySet) (m : Master) (own : Method) (sqn : List ℕ) (identit
 from_own keys m own sqn None c e f = absurd (no_context c f)
 from_own keys m own sqn (Some identity) c e f = ap method_of (sym (same_master _ c f)) ∙ e
 
-opened_own : (p : Peer) (seen : Seen) (res sqn : List ℕ) (k : KeySet) (m : Master) (inner : Decrypted) → method_of m ≡ p.options.method → Own (opened p seen res sqn k m inner)
+opened_own : (p : PeerEnd) (seen : Seen) (res sqn : List ℕ) (k : KeySet) (m : Master) (inner : Decrypted) → method_of m ≡ p.options.method → Own (opened p seen res sqn k m inner)
 opened_own p seen res sqn k m decrypted.Unreadable e = λ c f. absurd (no_context c f)
 opened_own p seen res sqn k m (decrypted.Attributes given) e = λ c f. from_own k m p.options.method sqn given.identity c e f
 
-accepted_own : (p : Peer) (seen : Seen) (c : Challenge) (res sqn : List ℕ) (k : KeySet) (m : Master) (inner : Decrypted) → method_of m ≡ p.options.method → Own (accepted p seen c res sqn k m inner)
+accepted_own : (p : PeerEnd) (seen : Seen) (c : Challenge) (res sqn : List ℕ) (k : KeySet) (m : Master) (inner : Decrypted) → method_of m ≡ p.options.method → Own (accepted p seen c res sqn k m inner)
 accepted_own p seen c res sqn k m inner e =
     on_cond Own (not (is_sealed p.options.method k.k_aut [] seen)) (client p seen why.WrongMac (Some (note.Accepted sqn)) false) (genuine (accepting p seen c) seen res sqn k m inner)
     (λ d f. absurd (no_context d f))
     (on_cond Own (differs (own_code p) (checkcode seen)) (client (accepting p seen c) seen why.WrongCheckcode (Some (note.Accepted sqn)) true) (opened (accepting p seen c) seen res sqn k m inner)
     (λ d f. absurd (no_context d f)) (opened_own (accepting p seen c) seen res sqn k m inner e))
 
-answer_own : (p : Peer) (seen : Seen) (c : Challenge) (a : Answer) (inner : Decrypted) → Own (by_answer p seen c a inner)
+answer_own : (p : PeerEnd) (seen : Seen) (c : Challenge) (a : Answer) (inner : Decrypted) → Own (by_answer p seen c a inner)
 answer_own p seen c answer.WrongMac inner = λ d f. absurd (no_context d f)
 answer_own p seen c (answer.SyncFailure auts sqn) inner = λ d f. absurd (no_context d f)
 answer_own p seen c (answer.Accepted res ck ik ak amf sqn) inner =
     accepted_own p seen c res sqn (keys_at p seen c ik ck) (master_at p seen c ik ck) inner (master_is p.options.method _ _ _)
 
-challenged_own : (s : Subscription) (p : Peer) (seen : Seen) (c : Challenge) (n : Option UsimNote) (inner : Decrypted) → IsOfMethod p → Own (challenged s p seen c n inner)
+challenged_own : (s : Subscription) (p : PeerEnd) (seen : Seen) (c : Challenge) (n : Option UsimNote) (inner : Decrypted) → IsOfMethod p → Own (challenged s p seen c n inner)
 challenged_own s p seen c None inner own = own
 challenged_own s p seen c (Some n) inner own = answer_own p seen c (answer_noted s.secret c n) inner
 
-again_own : (p : Peer) (last : Option Last) → IsOfMethod p → Own (again p last)
-again_own p None own = own
-again_own p (Some last) own = own
-
-succeeded_own : (p : Peer) (at' : PeerState) → IsOfMethod p → Own (succeeded p at')
+succeeded_own : (p : PeerEnd) (at' : PeerState) → IsOfMethod p → Own (succeeded p at')
 succeeded_own p (state.Answered keys) own = λ d f. absurd (no_context d f)
 succeeded_own p state.Waiting own = own
 succeeded_own p (state.Refusing cause) own = own
 succeeded_own p state.Ended own = own
 
-reauth_own : (key : List ℕ) (keeps : Keeps) (p : Peer) (seen : Seen) (inner : Decrypted) → IsOfMethod p → Own (reauthenticated key keeps p seen inner)
+reauth_own : (key : List ℕ) (keeps : Keeps) (p : PeerEnd) (seen : Seen) (inner : Decrypted) → IsOfMethod p → Own (reauthenticated key keeps p seen inner)
 reauth_own key keeps p seen inner own =
     on_reauth Own key keeps p seen inner own
     (λ c here. record {
@@ -360,9 +351,9 @@ reauth_own key keeps p seen inner own =
       refuses = λ given k nonce d f. absurd (no_context d f);
     })
 
-row_own : (key : List ℕ) (s : Subscription) (keeps : Keeps) (p : Peer) (seen : Seen) (r : Row) (n : Option UsimNote) (inner : Decrypted) → IsOfMethod p → Own (peer_does key s keeps p seen r n inner)
+row_own : (key : List ℕ) (s : Subscription) (keeps : Keeps) (p : PeerEnd) (seen : Seen) (r : Row) (n : Option UsimNote) (inner : Decrypted) → IsOfMethod p → Own (peer_does key s keeps p seen r n inner)
 row_own key s keeps p seen (row.Ignore cause) n inner own = own
-row_own key s keeps p seen row.Again n inner own = again_own p p.last own
+row_own key s keeps p seen row.Again n inner own = own
 row_own key s keeps p seen row.First n inner own = λ d f. absurd (no_context d f)
 row_own key s keeps p seen (row.Identity asked) n inner own = λ d f. absurd (no_context d f)
 row_own key s keeps p seen (row.Client cause) n inner own = λ d f. absurd (no_context d f)
@@ -379,15 +370,15 @@ each_turn_is_of_method key s keeps p seen n inner own = row_own key s keeps p se
 
 -- ---- the other method
 
-abbrev Left : Peer → Keeps → Keeps → Type 0
+abbrev Left : PeerEnd → Keeps → Keeps → Type 0
 Left p keeps kept = (m : Method) → m ≢ p.options.method → entry m kept.contexts ≡ entry m keeps.contexts
 
-counted_left : (p : Peer) (keeps : Keeps) (n : Option CounterNote) → Left p keeps (counted_up p.options.method n keeps)
+counted_left : (p : PeerEnd) (keeps : Keeps) (n : Option CounterNote) → Left p keeps (counted_up p.options.method n keeps)
 counted_left p keeps None = λ m e. refl
 counted_left p keeps (Some (counts.Small k)) = λ m e. refl
 counted_left p keeps (Some (counts.Taken k)) = λ m e. entry_other p.options.method m (accepting_counter k (entry p.options.method keeps.contexts)) keeps.contexts e
 
-renamed_left : (p : Peer) (keeps later : Keeps) (from : List ℕ) (to : Option (List ℕ)) (o : Option Context) → later.contexts ≡ keeps.contexts → Left p keeps (renamed p.options.method from to o later)
+renamed_left : (p : PeerEnd) (keeps later : Keeps) (from : List ℕ) (to : Option (List ℕ)) (o : Option Context) → later.contexts ≡ keeps.contexts → Left p keeps (renamed p.options.method from to o later)
 renamed_left p keeps later from to None same = λ m e. ap (λ (cs : ByMethod (Option Context)). entry m cs) same
 renamed_left p keeps later from to (Some c) same = by (bytes_eq c.identity from)
   where
@@ -395,7 +386,7 @@ renamed_left p keeps later from to (Some c) same = by (bytes_eq c.identity from)
     by true = λ m e. entry_other p.options.method m (under to c) later.contexts e ∙ ap (λ (cs : ByMethod (Option Context)). entry m cs) same
     by false = λ m e. ap (λ (cs : ByMethod (Option Context)). entry m cs) same
 
-adopted_left : (p : Peer) (keeps later : Keeps) (keys : KeySet) (following : NextContext) → IsOfMethod p → p.state ≡ state.Answered keys → p.next ≡ following → later.contexts ≡ keeps.contexts
+adopted_left : (p : PeerEnd) (keeps later : Keeps) (keys : KeySet) (following : NextContext) → IsOfMethod p → p.state ≡ state.Answered keys → p.next ≡ following → later.contexts ≡ keeps.contexts
     → Left p keeps (with_next_context p.options.method following later)
 adopted_left p keeps later keys next.Same own answered is same = λ m e. ap (λ (cs : ByMethod (Option Context)). entry m cs) same
 adopted_left p keeps later keys (next.New c) own answered is same =
@@ -404,14 +395,14 @@ adopted_left p keeps later keys (next.New c) own answered is same =
     ∙ ap (λ (cs : ByMethod (Option Context)). entry m cs) same
 adopted_left p keeps later keys (next.Renamed from to) own answered is same = renamed_left p keeps later from to (entry p.options.method later.contexts) same
 
-taken_left : (p : Peer) (keeps : Keeps) (at' : PeerState) → IsOfMethod p → p.state ≡ at' → Left p keeps (taken_up at' p keeps)
+taken_left : (p : PeerEnd) (keeps : Keeps) (at' : PeerState) → IsOfMethod p → p.state ≡ at' → Left p keeps (taken_up at' p keeps)
 taken_left p keeps (state.Answered keys) own e =
     adopted_left p keeps (with_next_pseudonym p.options.method (pseudonym_given p.inner) keeps) keys p.next own e refl (pseudonym_leaves p.options.method (pseudonym_given p.inner) keeps)
 taken_left p keeps state.Waiting own e = λ m f. refl
 taken_left p keeps (state.Refusing cause) own e = λ m f. refl
 taken_left p keeps state.Ended own e = λ m f. refl
 
-row_left : (p : Peer) (keeps : Keeps) (r : Row) (n : Option CounterNote) → IsOfMethod p → Left p keeps (kept_by r p n keeps)
+row_left : (p : PeerEnd) (keeps : Keeps) (r : Row) (n : Option CounterNote) → IsOfMethod p → Left p keeps (kept_by r p n keeps)
 row_left p keeps (row.Ignore cause) n own = λ m e. refl
 row_left p keeps row.Again n own = λ m e. refl
 row_left p keeps row.First n own = λ m e. refl

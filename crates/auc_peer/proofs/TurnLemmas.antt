@@ -22,7 +22,7 @@ use Rattle.auc_peer.specs.Subscription.{Subscription}
 use Rattle.auc_peer.specs.Table.{accepting, by_answer, client, context_of, disclosed, kept_by, keys_at, master_at, opened, own_code, peer_does, peer_step, resumed_by, resuming, with_inner}
 use Rattle.auc_peer.specs.Turn.{Decryption, Decrypts, IsInner, decryption_by, decryption_made, decryption_resumed, inner_of}
 use Rattle.auc_peer.specs.declared.peer.Challenge.{Challenge}
-use Rattle.auc_peer.specs.declared.peer.Peer.{Peer}
+use Rattle.auc_peer.specs.Peer.{PeerEnd}
 use Rattle.auc_peer.specs.declared.rows.Row.{Row}
 use Rattle.auc_peer.specs.declared.rows.Row.TheVariants as row
 use Rattle.auc_peer.specs.declared.why.PeerWhy.{PeerWhy}
@@ -75,13 +75,13 @@ picked walk one true other made x y f b d p q = refl
 picked walk one false true made x y f b d p q = refl
 picked walk one false false made x y f b d p q = ap f (inner_once walk one made.k_encr made.list b d p q)
 
-answer_once : OneWalk → OneOpening → (p : Peer) (seen : Seen) (c : Challenge) (a : Answer) (b d : Decrypted) → Decrypts (decryption_by p seen c a) b → Decrypts (decryption_by p seen c a) d
+answer_once : OneWalk → OneOpening → (p : PeerEnd) (seen : Seen) (c : Challenge) (a : Answer) (b d : Decrypted) → Decrypts (decryption_by p seen c a) b → Decrypts (decryption_by p seen c a) d
     → by_answer p seen c a b ≡ by_answer p seen c a d
 answer_once walk one p seen c answer.WrongMac b d x y = refl
 answer_once walk one p seen c (answer.SyncFailure auts sqn) b d x y = refl
 answer_once walk one p seen c (answer.Accepted res ck ik ak amf sqn) b d x y =
     let keys = keys_at p seen c ik ck in
-    picked {T = Peer × Turn PeerWhy} walk one (not (is_sealed p.options.method keys.k_aut [] seen)) (differs (own_code p) (checkcode seen)) (record { k_encr = keys.k_encr; list = attrs_in seen.reading })
+    picked {T = PeerEnd × Turn PeerWhy} walk one (not (is_sealed p.options.method keys.k_aut [] seen)) (differs (own_code p) (checkcode seen)) (record { k_encr = keys.k_encr; list = attrs_in seen.reading })
     (client p seen why.WrongMac (Some (note.Accepted sqn)) false) (client (accepting p seen c) seen why.WrongCheckcode (Some (note.Accepted sqn)) true)
     (λ (inner : Decrypted). opened (accepting p seen c) seen res sqn keys (master_at p seen c ik ck) inner) b d x y
 
@@ -93,16 +93,16 @@ thrice walk one true wrong other made w x y f b d p q = refl
 thrice walk one false wrong other made w x y f b d p q = picked walk one wrong other made x y f b d p q
 
 -- a Reauthentication
-reauth_once : OneWalk → OneOpening → (key : List ℕ) (keeps : Keeps) (p : Peer) (seen : Seen) (o : Option Context) (b d : Decrypted)
+reauth_once : OneWalk → OneOpening → (key : List ℕ) (keeps : Keeps) (p : PeerEnd) (seen : Seen) (o : Option Context) (b d : Decrypted)
     → Decrypts (decryption_resumed p seen o) b → Decrypts (decryption_resumed p seen o) d → resumed_by key keeps p seen o b ≡ resumed_by key keeps p seen o d
 reauth_once walk one key keeps p seen None b d x y = refl
 reauth_once walk one key keeps p seen (Some c) b d x y =
-    thrice {T = Peer × Turn PeerWhy} walk one (is_missing subtype.Reauthentication true (attrs_in seen.reading)) (not (is_sealed p.options.method c.k_aut [] seen)) (differs (own_code p) (checkcode seen))
+    thrice {T = PeerEnd × Turn PeerWhy} walk one (is_missing subtype.Reauthentication true (attrs_in seen.reading)) (not (is_sealed p.options.method c.k_aut [] seen)) (differs (own_code p) (checkcode seen))
     (record { k_encr = c.k_encr; list = attrs_in seen.reading }) (client p seen why.Missing None false) (client p seen why.WrongMac None false) (client (resuming p c) seen why.WrongCheckcode None true)
     (λ (inner : Decrypted). disclosed key keeps (with_inner (resuming p c) inner) seen c inner) b d x y
 
 -- what a row does depends on what was decrypted alone, and not on a decryption that it doesn't make
-pub row_once : OneWalk → OneOpening → (key : List ℕ) (s : Subscription) (keeps : Keeps) (p : Peer) (seen : Seen) (r : Row) (n : Option UsimNote) (b d : Decrypted) → Decrypts (decryption_made s keeps p seen r n) b → Decrypts (decryption_made s keeps p seen r n) d
+pub row_once : OneWalk → OneOpening → (key : List ℕ) (s : Subscription) (keeps : Keeps) (p : PeerEnd) (seen : Seen) (r : Row) (n : Option UsimNote) (b d : Decrypted) → Decrypts (decryption_made s keeps p seen r n) b → Decrypts (decryption_made s keeps p seen r n) d
     → peer_does key s keeps p seen r n b ≡ peer_does key s keeps p seen r n d
 row_once walk one key s keeps p seen (row.Ignore cause) n b d x y = refl
 row_once walk one key s keeps p seen row.Again n b d x y = refl
@@ -118,10 +118,10 @@ row_once walk one key s keeps p seen row.Success n b d x y = refl
 row_once walk one key s keeps p seen (row.Failure cause) n b d x y = refl
 
 -- what a step decrypts
-abbrev Did : Subscription → Keeps → Peer → Seen → Option UsimNote → Decrypted → Type 0
+abbrev Did : Subscription → Keeps → PeerEnd → Seen → Option UsimNote → Decrypted → Type 0
 Did s keeps p seen n inner = Decrypts (decryption_made s keeps p seen (peer_row p seen) n) inner
 
-step_once : OneWalk → OneOpening → (key : List ℕ) (s : Subscription) (keeps : Keeps) (p : Peer) (seen other : Seen) (n m : Option UsimNote) (b d : Decrypted) → seen ≡ other → n ≡ m → Did s keeps p seen n b → Did s keeps p other m d
+step_once : OneWalk → OneOpening → (key : List ℕ) (s : Subscription) (keeps : Keeps) (p : PeerEnd) (seen other : Seen) (n m : Option UsimNote) (b d : Decrypted) → seen ≡ other → n ≡ m → Did s keeps p seen n b → Did s keeps p other m d
     → peer_step key s keeps p seen n b ≡ peer_step key s keeps p other m d
 step_once walk one key s keeps p seen other n m b d e f x y =
     let back : Did s keeps p seen n d = subst (λ (z : Seen). Did s keeps p z n d) (sym e) (subst (λ (k : Option UsimNote). Did s keeps p other k d) (sym f) y) in
@@ -132,12 +132,12 @@ step_once walk one key s keeps p seen other n m b d e f x y =
 pub equal_turns : OneReceived → OneWalk → OneOpening → EqualTurnsAreOne
 equal_turns received walk one key s keeps kept stored old new other bytes before left right turn another past remembers x y alike =
     let seen : x.seen ≡ y.seen = received x.seen y.seen (x.of ∙ sym y.of) x.received y.received in
-    let same : ◌≡◌ {A = Peer × Turn PeerWhy} (new, turn) (other, another) =
+    let same : ◌≡◌ {A = PeerEnd × Turn PeerWhy} (new, turn) (other, another) =
     x.same past remembers
     ∙ step_once walk one key s keeps old x.seen y.seen turn.notes.usim another.notes.usim (inner_of new) (inner_of other) seen alike (x.decrypts past remembers) (y.decrypts past remembers)
     ∙ sym (y.same past remembers) in (
-      ap (λ (t : Peer × Turn PeerWhy). t.0) same,
-      ap (λ (t : Peer × Turn PeerWhy). t.1) same,
+      ap (λ (t : PeerEnd × Turn PeerWhy). t.0) same,
+      ap (λ (t : PeerEnd × Turn PeerWhy). t.1) same,
       x.stored ∙ ap (λ (z : Seen). kept_by (peer_row old z) old turn.notes.counter keeps) seen
-          ∙ ap (λ (t : Peer × Turn PeerWhy). kept_by (peer_row old y.seen) old t.1.notes.counter keeps) same ∙ sym y.stored,
+          ∙ ap (λ (t : PeerEnd × Turn PeerWhy). kept_by (peer_row old y.seen) old t.1.notes.counter keeps) same ∙ sym y.stored,
     )

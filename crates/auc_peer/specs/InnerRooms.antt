@@ -1,5 +1,5 @@
 -- Inner facts: what only private contracts of this crate cite. Memory for a turn, and messages that fit into it.
-use Rattle.std.specs.Prelude.{◌≡◌, ℕ, ◌+◌, ◌≤◌, Bool, List, [], length}
+use Rattle.std.specs.Prelude.{◌≡◌, ℕ, ◌≤◌, Bool, List, [], length}
 use Rattle.auc_aes.specs.Cbc.{cbc_encrypted}
 use Rattle.auc_attr.specs.Spelling.{spelling}
 use Rattle.auc_attr.specs.declared.attr.Attr.{Attr}
@@ -9,15 +9,27 @@ use Rattle.auc_packet.specs.Sealed.{with_mac}
 use Rattle.auc_packet.specs.Spelling.{MayBeWritten, packet_text}
 use Rattle.auc_packet.specs.declared.packet.Packet.{Packet}
 use Rattle.auc_packet.specs.declared.sealing.Draft.{Draft}
-use Rattle.auc_peer.specs.Messages.{counter_attrs}
-use Rattle.auc_peer.specs.declared.rows.Row.{Row}
-use Rattle.auc_peer.specs.declared.rows.Row.TheVariants as row
+use Rattle.auc_hmac.specs.declared.method.Method.{Method}
+use Rattle.auc_peer.specs.Messages.{client_error, counter_attrs, notified, reject, sync_failure}
+use Rattle.auc_peer.specs.declared.messages.Plain.{Plain}
+use Rattle.auc_peer.specs.declared.messages.Plain.TheVariants as message
 use Rattle.auc_seal.specs.Encrypted.{padded}
 
 -- memory for so many bytes, none of which is written
 pub record HasRoom (room : Reserved ℕ) (size : ℕ) : Type 0 where
   pub empty : room.written ≡ []
   pub left : room.left ≡ size
+
+-- an answer to a request
+pub record Answer : Type 0 where
+  pub request : List ℕ
+  pub bytes : List ℕ
+
+-- an answer isn't too long, and there is memory for a copy of it
+pub record IsKeepable (bytes : List ℕ) (kept : Reserved ℕ) : Type 0 where
+  pub short : length bytes ≤ 526
+  pub empty : kept.written ≡ []
+  pub left : length bytes ≤ kept.left
 
 -- places for the attributes of a message before AT_MAC
 pub record HasPlaces (places : Reserved Attr) : Type 0 where
@@ -44,7 +56,9 @@ pub record IsShortDraft (draft : Draft) : Type 0 where
   pub zero : IsShort (with_mac draft no_mac)
   pub any : (mac : List ℕ) → length mac ≡ 16 → length (packet_text (with_mac draft mac)) ≤ 76
 
--- for how many bytes a row needs memory, given the size of the first identity
-abbrev pub room_for : Row → ℕ → ℕ
-room_for row.First identity = 5 + identity
-room_for other identity = 76
+-- a message without AT_MAC
+abbrev pub plain : Method → ℕ → Plain → Packet
+plain m id message.ClientError = client_error m id
+plain m id message.Reject = reject m id
+plain m id message.Notified = notified m id
+plain m id (message.SyncFailure auts) = sync_failure m id auts

@@ -1,4 +1,6 @@
 pub mod Told
+pub mod Device
+pub mod Peer
 pub mod Subscription
 pub mod Identities
 pub mod Asking
@@ -9,4 +11,5 @@ pub mod Table
 pub mod Turn
 pub mod Laws
 pub mod Places
+pub mod InnerPeer
 pub mod InnerRooms

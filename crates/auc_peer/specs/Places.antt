@@ -9,7 +9,7 @@ use Rattle.auc_peer.specs.Table.{origin_of, peer_step}
 use Rattle.auc_peer.specs.declared.decrypted.Decrypted.{Decrypted}
 use Rattle.auc_peer.specs.declared.next.NextContext.{NextContext}
 use Rattle.auc_peer.specs.declared.next.NextContext.TheVariants as next
-use Rattle.auc_peer.specs.declared.peer.Peer.{Peer}
+use Rattle.auc_peer.specs.Peer.{PeerEnd}
 use Rattle.auc_peer.specs.declared.peer.PeerState.{PeerState}
 use Rattle.auc_peer.specs.declared.peer.PeerState.TheVariants as state
 use Rattle.auc_reauth.specs.Device.{Keeps, is_open}
@@ -27,16 +27,16 @@ place_in (state.Answered keys) (next.New c) = Some c
 place_in (state.Answered keys) other = None
 place_in other following = None
 
-abbrev pub place_of : Peer → Option Context
+abbrev pub place_of : PeerEnd → Option Context
 place_of p = place_in p.state p.next
 
 -- the places show a device's context of a method, and at session t that of a peer
-pub record Shows (w : Home) (m : Method) (t : ℕ) (keeps : Keeps) (p : Peer) : Type 0 where
+pub record Shows (w : Home) (m : Method) (t : ℕ) (keeps : Keeps) (p : PeerEnd) : Type 0 where
   pub store : w.place zero ≡ entry m keeps.contexts
   pub place : w.place (suc t) ≡ place_of p
 
 -- the context that a peer would put is of its method
-abbrev pub IsOfMethod : Peer → Type 0
+abbrev pub IsOfMethod : PeerEnd → Type 0
 IsOfMethod p = (c : Context) → place_of p ≡ Some c → method_of c.master ≡ p.options.method
 
 -- a new context comes of the SQN that the USIM accepted
@@ -62,7 +62,7 @@ moved_by None w = w
 moved_by (Some move) w = moved move w
 
 -- a turn makes at most one move
-pub record MovesOnce (t : ℕ) (w : Home) (p new : Peer) (notes : Notes) (keeps kept : Keeps) : Type 0 where
+pub record MovesOnce (t : ℕ) (w : Home) (p new : PeerEnd) (notes : Notes) (keeps kept : Keeps) : Type 0 where
   pub move : Option Move
   pub own : IsMoveOf t (entry p.options.method keeps.contexts) notes move
   pub counted : (counter : ℕ) → notes.counter ≡ Some (counts.Taken counter) → move ≡ Some (Accept counter)
@@ -71,19 +71,19 @@ pub record MovesOnce (t : ℕ) (w : Home) (p new : Peer) (notes : Notes) (keeps 
 
 abbrev pub EachTurnMovesOnce : Type 0
 EachTurnMovesOnce =
-    (key : List ℕ) (s : Subscription) (keeps : Keeps) (p : Peer) (seen : Seen) (n : Option UsimNote) (inner : Decrypted) (t : ℕ) (w : Home)
+    (key : List ℕ) (s : Subscription) (keeps : Keeps) (p : PeerEnd) (seen : Seen) (n : Option UsimNote) (inner : Decrypted) (t : ℕ) (w : Home)
     → IsOfMethod p → Shows w p.options.method t keeps p
     → MovesOnce t w p (peer_step key s keeps p seen n inner).0 (peer_step key s keeps p seen n inner).1.notes keeps (kept_after key s keeps p seen n inner)
 
 -- no turn would put a context of another method
 abbrev pub EachTurnIsOfMethod : Type 0
 EachTurnIsOfMethod =
-    (key : List ℕ) (s : Subscription) (keeps : Keeps) (p : Peer) (seen : Seen) (n : Option UsimNote) (inner : Decrypted)
+    (key : List ℕ) (s : Subscription) (keeps : Keeps) (p : PeerEnd) (seen : Seen) (n : Option UsimNote) (inner : Decrypted)
     → IsOfMethod p → IsOfMethod (peer_step key s keeps p seen n inner).0
 
 -- each turn leaves the device's context of the other method as it was
 abbrev pub EachTurnLeavesTheOther : Type 0
 EachTurnLeavesTheOther =
-    (key : List ℕ) (s : Subscription) (keeps : Keeps) (p : Peer) (seen : Seen) (n : Option UsimNote) (inner : Decrypted) (m : Method)
+    (key : List ℕ) (s : Subscription) (keeps : Keeps) (p : PeerEnd) (seen : Seen) (n : Option UsimNote) (inner : Decrypted) (m : Method)
     → IsOfMethod p → m ≢ p.options.method
     → entry m (kept_after key s keeps p seen n inner).contexts ≡ entry m keeps.contexts

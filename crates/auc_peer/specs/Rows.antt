@@ -19,7 +19,7 @@ use Rattle.auc_request.specs.Request.{rand_of, autn_of, bids, first_code, first_
 use Rattle.auc_peer.specs.Told.{Told}
 use Rattle.auc_peer.specs.declared.peer.Challenge.{Challenge}
 use Rattle.auc_peer.specs.declared.peer.Last.{Last}
-use Rattle.auc_peer.specs.declared.peer.Peer.{Peer}
+use Rattle.auc_peer.specs.Peer.{PeerEnd}
 use Rattle.auc_peer.specs.declared.peer.PeerState.{PeerState}
 use Rattle.auc_peer.specs.declared.peer.PeerState.TheVariants as state
 use Rattle.auc_peer.specs.declared.rows.Row.{Row}
@@ -163,5 +163,5 @@ abbrev pub row_in : Told → PeerState → Option Last → Seen → Row
 row_in o state.Ended last seen = row.Ignore reason.Closed
 row_in o s last seen = row_headed o s last seen (head_at seen.bytes)
 
-abbrev pub peer_row : Peer → Seen → Row
+abbrev pub peer_row : PeerEnd → Seen → Row
 peer_row peer seen = row_in peer.options peer.state peer.last seen

@@ -4,7 +4,7 @@ use Rattle.auc_edge.specs.Identity.{Identity}
 use Rattle.auc_hmac.specs.declared.method.Method.{Method}
 use Rattle.auc_ident.specs.Permanent.{permanent_text}
 use Rattle.auc_milenage.specs.declared.secret.Secret.{Secret}
-use Rattle.auc_peer.specs.declared.device.Device.{Device}
+use Rattle.auc_peer.specs.Device.{DeviceState}
 
 -- the IMSI, the realm, and the secret of the USIM
 pub record Subscription : Type 0 where
@@ -12,7 +12,7 @@ pub record Subscription : Type 0 where
   pub realm : List ℕ
   pub secret : Secret
 
-abbrev pub subscription_of : Device → Subscription
+abbrev pub subscription_of : DeviceState → Subscription
 subscription_of device = record { imsi = device.imsi; realm = device.realm; secret = device.usim.secret }
 
 -- a username, followed by `@` and the realm if there is one (RFC 4187 §4.1.1.5)

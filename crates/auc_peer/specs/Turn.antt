@@ -7,6 +7,7 @@ use Rattle.auc_packet.specs.Received.{Seen, IsReceived, is_sealed}
 use Rattle.auc_packet.specs.declared.subtype.Subtype.TheVariants as subtype
 use Rattle.auc_peer.specs.Asking.{answer_noted}
 use Rattle.auc_peer.specs.Attributes.{attrs_in, checkcode, differs}
+use Rattle.auc_peer.specs.Peer.{PeerEnd, answer_or_none}
 use Rattle.auc_peer.specs.Rows.{peer_row}
 use Rattle.auc_peer.specs.Subscription.{Subscription}
 use Rattle.auc_request.specs.Request.{Gives}
@@ -14,7 +15,7 @@ use Rattle.auc_peer.specs.Table.{context_of, keys_at, kept_by, own_code, peer_st
 use Rattle.auc_peer.specs.declared.decrypted.Decrypted.{Decrypted}
 use Rattle.auc_peer.specs.declared.decrypted.Decrypted.TheVariants as decrypted
 use Rattle.auc_peer.specs.declared.peer.Challenge.{Challenge}
-use Rattle.auc_peer.specs.declared.peer.Peer.{Peer}
+use Rattle.auc_peer.specs.declared.peer.Last.{Last}
 use Rattle.auc_peer.specs.declared.rows.Row.{Row}
 use Rattle.auc_peer.specs.declared.rows.Row.TheVariants as row
 use Rattle.auc_peer.specs.declared.why.PeerWhy.{PeerWhy}
@@ -27,6 +28,8 @@ use Rattle.auc_usim.specs.Usim.{IsAnswer, past_after_answer}
 use Rattle.auc_usim.specs.declared.answer.Answer.{Answer}
 use Rattle.auc_usim.specs.declared.answer.Answer.TheVariants as answer
 use Rattle.auc_vector.specs.declared.notes.UsimNote.{UsimNote}
+use Rattle.auc_vector.specs.declared.turn.Step.{Step}
+use Rattle.auc_vector.specs.declared.turn.Step.TheVariants as step
 use Rattle.auc_vector.specs.declared.turn.Turn.{Turn}
 
 -- ---- the USIM
@@ -58,22 +61,22 @@ pub record Decryption : Type 0 where
   pub list : List Attr
 
 -- the decryption of a Challenge that the USIM accepted, with a right AT_MAC and AT_CHECKCODE
-abbrev pub decryption_under : Peer → Seen → KeySet → Option Decryption
+abbrev pub decryption_under : PeerEnd → Seen → KeySet → Option Decryption
 decryption_under p seen keys =
     if not (is_sealed p.options.method keys.k_aut [] seen) then None
     else if differs (own_code p) (checkcode seen) then None
     else Some (record { k_encr = keys.k_encr; list = attrs_in seen.reading })
 
-abbrev pub decryption_by : Peer → Seen → Challenge → Answer → Option Decryption
+abbrev pub decryption_by : PeerEnd → Seen → Challenge → Answer → Option Decryption
 decryption_by p seen c (answer.Accepted res ck ik ak amf sqn) = decryption_under p seen (keys_at p seen c ik ck)
 decryption_by p seen c other = None
 
-abbrev pub decryption_noted : Subscription → Peer → Seen → Option Challenge → Option UsimNote → Option Decryption
+abbrev pub decryption_noted : Subscription → PeerEnd → Seen → Option Challenge → Option UsimNote → Option Decryption
 decryption_noted s p seen (Some c) (Some n) = decryption_by p seen c (answer_noted s.secret c n)
 decryption_noted s p seen c n = None
 
 -- the decryption of a Reauthentication that has what it must have, with a right AT_MAC and AT_CHECKCODE
-abbrev pub decryption_resumed : Peer → Seen → Option Context → Option Decryption
+abbrev pub decryption_resumed : PeerEnd → Seen → Option Context → Option Decryption
 decryption_resumed p seen None = None
 decryption_resumed p seen (Some c) =
     if is_missing subtype.Reauthentication true (attrs_in seen.reading) then None
@@ -82,7 +85,7 @@ decryption_resumed p seen (Some c) =
     else Some (record { k_encr = c.k_encr; list = attrs_in seen.reading })
 
 -- the decryption that a row makes
-abbrev pub decryption_made : Subscription → Keeps → Peer → Seen → Row → Option UsimNote → Option Decryption
+abbrev pub decryption_made : Subscription → Keeps → PeerEnd → Seen → Row → Option UsimNote → Option Decryption
 decryption_made s keeps p seen (row.Challenged c) n = decryption_noted s p seen (Some c) n
 decryption_made s keeps p seen row.Reauthentication n = decryption_resumed p seen (context_of keeps p)
 decryption_made s keeps p seen other n = None
@@ -93,15 +96,23 @@ Decrypts None inner = Unit {0}
 Decrypts (Some d) inner = IsInner d.k_encr d.list inner
 
 -- what was decrypted: the peer keeps it
-abbrev pub inner_of : Peer → Decrypted
+abbrev pub inner_of : PeerEnd → Decrypted
 inner_of new = new.inner
+
+-- ---- what is sent
+
+-- what a step sends is the answer that the peer keeps; a session ends without a message
+abbrev pub SendsLast : Option Last → Step PeerWhy → Type 0
+SendsLast last (step.Sent bytes) = bytes ≡ answer_or_none last
+SendsLast last (step.Ended end bytes) = bytes ≡ []
+SendsLast last (step.Ignored cause) = Unit {0}
 
 -- ---- the turn
 
 -- under a key of the random bytes, bytes were received as something; if the USIM remembers some past, the turn is the
 -- table's; the USIM was asked what the row says, and answered as the note tells; what the row decrypted was as the new peer
--- tells; and the device keeps what the row says
-pub record Steps (key : List ℕ) (s : Subscription) (keeps : Keeps) (old : Peer) (bytes : List ℕ) (before : ArrayValue) (new : Peer) (turn : Turn PeerWhy) (kept : Keeps) (after : ArrayValue) : Type 0 where
+-- tells; what is sent is the last answer of the new peer; and the device keeps what the row says
+pub record Steps (key : List ℕ) (s : Subscription) (keeps : Keeps) (old : PeerEnd) (bytes : List ℕ) (before : ArrayValue) (new : PeerEnd) (turn : Turn PeerWhy) (kept : Keeps) (after : ArrayValue) : Type 0 where
   pub seen : Seen
   pub received : IsReceived seen
   pub of : seen.bytes ≡ bytes
@@ -109,4 +120,5 @@ pub record Steps (key : List ℕ) (s : Subscription) (keeps : Keeps) (old : Peer
   pub usim : Asked s (asked (peer_row old seen)) turn.notes.usim before after
   pub decrypts : (past : Past) → Remembers before past
       → Decrypts (decryption_made s keeps old seen (peer_row old seen) turn.notes.usim) (inner_of new)
+  pub sent : SendsLast new.last turn.step
   pub stored : kept ≡ kept_by (peer_row old seen) old turn.notes.counter keeps

@@ -2,25 +2,24 @@
 
 ghost use Rattle.std.specs.Prelude.{◌≡◌, ◌≤◌, [], false, true, length, IfOk, OnErr, Some};
 ghost use Rattle.auc_packet.specs.Received.{IsReceived, seen_of};
-ghost use Rattle.auc_packet.specs.Spelling.{packet_text};
-ghost use Rattle.auc_seal.specs.Checkcode.{value_bytes};
+ghost use Rattle.auc_seal.specs.Checkcode.{IsHash, value_bytes};
 ghost use Rattle.auc_seal.specs.Encrypted.{ciphertext_of};
 ghost use Rattle.auc_sqn.specs.Past.{Past, Remembers};
 ghost use Rattle.auc_peer.specs.Asking.{note_of as note_by};
 ghost use Rattle.auc_peer.specs.Attributes.{attrs_in, checkcode, id_of, is_there};
-ghost use Rattle.auc_peer.specs.Messages.{response_bytes, sync_failure};
+ghost use Rattle.auc_peer.specs.InnerRooms.{HasRoom};
+ghost use Rattle.auc_peer.specs.Messages.{response_bytes};
 ghost use Rattle.auc_peer.specs.Subscription.{subscription_of};
 ghost use Rattle.auc_peer.specs.Table.{accepted, answered, by_answer, challenged, context_from, keys_for, network_in, opened, origin_of, own_code, text_or_none, with_next};
 ghost use Rattle.auc_vector.specs.Keys.{ck_by, ik_by, master_of as master_by_method};
-ghost use Rattle.auc_peer.specs.Turn.{Asked, Decrypts, IsInner, decryption_by, decryption_noted, decryption_under, inner_of};
+ghost use Rattle.auc_peer.specs.Turn.{Asked, Decrypts, IsInner, SendsLast, decryption_by, decryption_noted, decryption_under, inner_of};
 
-use crate::asking::ask;
 use crate::decrypted::Decrypted;
 use crate::device::Device;
-use crate::messages::{challenge_response, sync_failure, value};
+use crate::messages::{OwnCode, Plain, challenge_response, value};
 use crate::next::NextContext;
-use crate::peer::{Challenge, Peer, PeerState};
-use crate::reading::{ciphertext_in, differs, has_checkcode, id_of, inner_in, network_in};
+use crate::peer::{Challenge, Peer, PeerState, Source};
+use crate::reading::{ciphertext_in, differs, has_checkcode, inner_in, network_in};
 use crate::rooms::{ChallengeRooms, Parts, Reply, Sent, give_back};
 use crate::turns::noted;
 use crate::why::PeerWhy;
@@ -33,16 +32,6 @@ use auc_seal::CheckValue;
 use auc_usim::Answer;
 use auc_vector::{Turn, UsimNote, keys_by, keys_of, master_of};
 use std::alloc::Global;
-
-/// The identity that was sent last, or the empty text.
-pub(crate) fn text_of(identity: &Option<Octets>) -> &[u8]
-    ensures { result.now ≡ text_or_none identity.now }
-{
-    match identity {
-        None => &[],
-        Some(text) => text.as_slice(),
-    }
-}
 
 /// An SQN as a number.
 fn origin_of(sqn: [u8; 6]) -> u64
@@ -80,35 +69,24 @@ struct Granted {
 }
 
 impl Peer {
-    /// The keys of a received challenge, under the identity that was sent last or the empty text.
-    fn keys_at(&self, network: &[u8], challenge: Challenge, ik: [u8; 16], ck: [u8; 16]) -> KeySet
+    /// The keys of a received challenge and its master key, under the identity that was sent last or the empty text.
+    fn keys_at(
+        &self,
+        network: &[u8],
+        challenge: Challenge,
+        ik: [u8; 16],
+        ck: [u8; 16],
+    ) -> (KeySet, Master)
         requires { length network.now ≤ 65535 }
-        ensures { result ≡ keys_for self.now.options.method network.now challenge (text_or_none self.now.identity) ik ck }
-    {
-        let method = self.options.method;
-        let (ck, ik) = keys_by(method, network, challenge.autn, ck, ik);
-        keys_of(method, text_of(&self.identity), ik, ck)
-    }
-
-    /// The master key of a received challenge.
-    fn master_at(&self, network: &[u8], challenge: Challenge, ik: [u8; 16], ck: [u8; 16]) -> Master
-        requires { length network.now ≤ 65535 }
-        ensures { result ≡ master_by_method self.now.options.method (text_or_none self.now.identity)
+        ensures keys { result.0 ≡ keys_for self.now.options.method network.now challenge (text_or_none self.now.identity) ik ck }
+        ensures master { result.1 ≡ master_by_method self.now.options.method (text_or_none self.now.identity)
             (ik_by self.now.options.method network.now challenge.autn ck ik)
             (ck_by self.now.options.method network.now challenge.autn ck ik) }
     {
         let method = self.options.method;
         let (ck, ik) = keys_by(method, network, challenge.autn, ck, ik);
-        master_of(method, text_of(&self.identity), ik, ck)
-    }
-
-    /// A copy of the network's name in a received Challenge.
-    fn network_copy(&self, alloc: Global, received: &Received) -> Result<Octets, NoMemory>
-        requires { IsReceived (seen_of received.now) }
-        ensures name { IfOk result (λ copy. copy ≡ network_in self.now (seen_of received.now)) }
-        ensures size { IfOk result (λ copy. length copy ≤ 1016) }
-    {
-        Octets::copied_from(alloc, network_in(self.options.method, received))
+        let keys = keys_of(method, self.identity(), ik, ck);
+        (keys, master_of(method, self.identity(), ik, ck))
     }
 
     /// Hands a Challenge to the USIM, and does what its answer says. If memory runs out, peer and device stay as they were.
@@ -129,6 +107,7 @@ impl Peer {
         ensures decrypts { IfOk result (λ turn. (past : Past) → Remembers device.old.usim.array past
             → Decrypts (decryption_noted (subscription_of device.old) self.old (seen_of received.now) (Some challenge)
             turn.notes.usim) (inner_of self.new)) }
+        ensures sent { IfOk result (λ turn. SendsLast self.new.last turn.step) }
         ensures store { device.new.store ≡ device.old.store }
         ensures subscription { subscription_of device.new ≡ subscription_of device.old }
         ensures bits { device.new.usim.array.bits ≡ device.old.usim.array.bits }
@@ -136,11 +115,11 @@ impl Peer {
         ensures peer { OnErr result (self.new ≡ self.old) }
         ensures device { OnErr result (device.new ≡ device.old) }
     {
-        let network = self.network_copy(alloc, received)?;
+        let network = Octets::copied_from(alloc, network_in(self.method(), received))?;
         let inner = Room::new(alloc, ciphertext_in(&received.reading))?;
         let rooms = ChallengeRooms::new(alloc, received)?;
         let parts = Parts { network, inner };
-        let answer = ask(&mut device.usim, challenge);
+        let answer = device.ask(challenge);
         Ok(self.on_answer(received, parts, challenge, answer, rooms))
     }
 
@@ -156,7 +135,7 @@ impl Peer {
         requires is { IsReceived (seen_of received.now) }
         requires request { rooms ≡ (seen_of received.now).bytes }
         requires network { parts.network ≡ network_in self.old (seen_of received.now) }
-        requires name { length parts.network ≤ 65535 }
+        requires name { length parts.network ≤ 1016 }
         requires empty { parts.inner.written ≡ [] }
         requires room { length (ciphertext_of (attrs_in received.now.reading)) ≤ parts.inner.left }
 
@@ -173,7 +152,10 @@ impl Peer {
             }
             Answer::SyncFailure { auts, sqn } => {
                 give_back(parts);
-                self.on_sync_failure(received, auts, sqn, rooms.into_reply())
+                let message = Plain::SyncFailure(auts);
+                let sent = rooms.into_reply().plain(self.heading(received), message);
+                let notes = noted(Some(UsimNote::Sync(sqn)));
+                self.answer(received, PeerState::Waiting, sent, notes, false)
             }
             Answer::Accepted {
                 res,
@@ -182,8 +164,7 @@ impl Peer {
                 sqn,
                 ..
             } => {
-                let keys = self.keys_at(parts.network.as_slice(), challenge, ik, ck);
-                let master = self.master_at(parts.network.as_slice(), challenge, ik, ck);
+                let (keys, master) = self.keys_at(parts.network.as_slice(), challenge, ik, ck);
                 let granted = Granted {
                     res,
                     sqn,
@@ -193,34 +174,6 @@ impl Peer {
                 self.on_accepted(received, parts, challenge, granted, rooms)
             }
         }
-    }
-
-    /// Answers a Challenge whose SQN the USIM refused (RFC 4187 §6.3.1 and §9.6).
-    fn on_sync_failure(
-        &mut self,
-        received: &Received,
-        auts: [u8; 14],
-        sqn: [u8; 6],
-        reply: Reply,
-    ) -> Turn<PeerWhy>
-        requires { reply ≡ (seen_of received.now).bytes }
-        ensures { (self.new, result) ≡ answered self.old (seen_of received.now) PeerState.Waiting
-            (packet_text (sync_failure self.old.options.method (id_of (seen_of received.now)) auts)) (Some (UsimNote.Sync sqn)) false }
-    {
-        let Reply {
-            request,
-            places,
-            bytes,
-            kept,
-        } = reply;
-        let bytes = sync_failure(self.options.method, id_of(received), auts, places, bytes);
-        let sent = Sent {
-            request,
-            bytes,
-            kept,
-        };
-        let notes = noted(Some(UsimNote::Sync(sqn)));
-        self.answer(received, PeerState::Waiting, sent, notes, false)
     }
 
     /// Takes a Challenge that the USIM accepted. AT_MAC is tested first, before RES is sent.
@@ -235,6 +188,7 @@ impl Peer {
         requires is { IsReceived (seen_of received.now) }
         requires request { rooms ≡ (seen_of received.now).bytes }
         requires network { parts.network ≡ network_in self.old (seen_of received.now) }
+        requires name { length parts.network ≤ 1016 }
         requires empty { parts.inner.written ≡ [] }
         requires room { length (ciphertext_of (attrs_in received.now.reading)) ≤ parts.inner.left }
 
@@ -245,17 +199,23 @@ impl Peer {
     {
         let Parts { network, inner } = parts;
         let note = Some(UsimNote::Accepted(granted.sqn));
-        if !is_sealed(received, self.options.method, &granted.keys.k_aut, &[]) {
+        if !is_sealed(received, self.method(), &granted.keys.k_aut, &[]) {
             return self.client(received, PeerWhy::WrongMac, note, false, rooms.into_reply());
         }
-        self.accepted = Some(challenge);
-        self.network = network;
-        self.resumed = None;
+        self.accept(challenge, network);
         if differs(self.own_code().as_slice(), &received.reading) {
             let why = PeerWhy::WrongCheckcode;
             return self.client(received, why, note, true, rooms.into_reply());
         }
         self.opened(received, inner, granted, rooms)
+    }
+
+    /// Takes a challenge of a network, whose AT_MAC is right, as the one from which keys are derived.
+    fn accept(&mut self, challenge: Challenge, network: Octets)
+        requires { length network ≤ 1016 }
+        ensures { self.new ≡ record self.old { source = Source.Challenge challenge network } }
+    {
+        self.source = Source::Challenge(challenge, network);
     }
 
     /// Takes a Challenge whose AT_MAC and AT_CHECKCODE are right.
@@ -318,26 +278,16 @@ impl Peer {
             bytes,
             kept,
         } = reply;
-        let has = has_checkcode(&received.reading);
-        let res = value(&granted.res, res);
-        let own = value(self.own_code().as_slice(), code);
         let Granted {
+            res: given,
             sqn,
             keys,
             master,
-            ..
         } = granted;
-        let method = self.options.method;
-        let bytes = challenge_response(
-            method,
-            id_of(received),
-            &keys.k_aut,
-            res,
-            has,
-            own,
-            places,
-            bytes,
-        );
+        let heading = self.heading(received);
+        let res = value(&given, res);
+        let own = self.own_checkcode(received, code);
+        let bytes = challenge_response(heading, &keys.k_aut, res, own, places, bytes);
         self.next = context_from(keys, master, sqn, identity);
         let sent = Sent {
             request,
@@ -353,5 +303,18 @@ impl Peer {
         ensures { value_bytes result ≡ own_code self.now }
     {
         self.packets.value(self.options.method)
+    }
+
+    /// AT_CHECKCODE of the answer to a request.
+    pub(crate) fn own_checkcode(&self, received: &Received, room: Room) -> OwnCode
+        requires { HasRoom room 32 }
+        ensures has { result.has ≡ is_there (checkcode (seen_of received.now)) }
+        ensures value { result.value ≡ own_code self.now }
+        ensures size { IsHash result.value }
+    {
+        OwnCode {
+            has: has_checkcode(&received.reading),
+            value: value(self.own_code().as_slice(), room),
+        }
     }
 }

@@ -1,7 +1,10 @@
 //! The device of a subscriber.
 
 ghost use Rattle.std.specs.Prelude.{◌≡◌, ◌≤◌, length, IfOk};
-ghost use Rattle.auc_reauth.specs.Device.{is_open, with_context};
+ghost use Rattle.auc_reauth.specs.Device.{is_open};
+ghost use Rattle.auc_sqn.specs.Past.{Past, Remembers};
+ghost use Rattle.auc_usim.specs.Usim.{IsAnswer, past_after_answer};
+ghost use Rattle.auc_peer.specs.Asking.{answer_noted, note_of};
 ghost use Rattle.auc_reauth.specs.Store.{entry, method_of};
 ghost use Rattle.auc_peer.specs.Identities.{adopted, asked_text, first_text, full_text, held_text, renamed, under, with_next_context, with_next_pseudonym};
 ghost use Rattle.auc_peer.specs.Subscription.{identity_text, subscription_of, with_realm};
@@ -10,15 +13,17 @@ ghost use Rattle.auc_peer.specs.Table.{counted_by};
 use crate::identity::FirstIdentity;
 use crate::next::NextContext;
 use crate::options::PeerOptions;
+use crate::peer::Challenge;
 use auc_edge::{Imsi, NoMemory, Octets};
 use auc_hmac::{Master, Method};
 use auc_ident::{Name, permanent};
 use auc_reauth::{Context, DeviceStore};
 use auc_request::IdentityRequest;
-use auc_usim::Usim;
+use auc_usim::{Answer, Usim};
 use std::alloc::Global;
+use std::marker::Model;
 
-/// A subscriber's device.
+/// A subscriber's device. Contracts see its `DeviceState`.
 #[derive(Drop)]
 pub struct Device {
     /// The IMSI of the subscription.
@@ -31,28 +36,24 @@ pub struct Device {
     pub realm: Octets,
 }
 
-impl Device {
-    /// An equal device, in memory of its own.
-    pub fn copy(&self) -> Result<Device, NoMemory>
-        ensures { IfOk result (λ copy. copy ≡ self.now) }
-    {
-        let mut room = self.realm.room(self.realm.len())?;
-        room.put(self.realm.as_slice());
-        Ok(Device {
-            imsi: self.imsi,
-            usim: self.usim,
-            store: self.store,
-            realm: room.into_octets(),
-        })
-    }
+impl Model for Device {
+    ghost use Rattle.std.specs.Prelude.{◌≤◌, length};
+    ghost use Rattle.auc_peer.specs.Device.{DeviceState};
 
+    ghost Value = { DeviceState };
+
+    ghost view = { λ d. record { imsi = d.imsi; usim = d.usim; store = d.store; realm = d.realm } };
+
+    ghost invariant = { λ d. length d.realm ≤ 255 };
+}
+
+impl Device {
     /// The identity that answers the Identity request of EAP, by what a peer was told.
     pub(crate) fn first_identity(
         &self,
         alloc: Global,
         options: &PeerOptions,
     ) -> Result<Octets, NoMemory>
-        requires { length self.now.realm ≤ 255 }
         ensures text { IfOk result (λ text. text
             ≡ first_text options.now.method (subscription_of self.now) self.now.store options.now.first) }
         ensures size { IfOk result (λ text. length text ≤ 511) }
@@ -71,7 +72,6 @@ impl Device {
         method: Method,
         asked: IdentityRequest,
     ) -> Result<Octets, NoMemory>
-        requires { length self.now.realm ≤ 255 }
         ensures text { IfOk result (λ text. text ≡ asked_text method (subscription_of self.now) self.now.store asked) }
         ensures size { IfOk result (λ text. length text ≤ 511) }
     {
@@ -85,7 +85,6 @@ impl Device {
     /// The identity that the device holds of a method: that of its context if it has one, else the one for a full
     /// authentication.
     fn held(&self, alloc: Global, method: Method) -> Result<Octets, NoMemory>
-        requires { length self.now.realm ≤ 255 }
         ensures text { IfOk result (λ text. text ≡ held_text method (subscription_of self.now) self.now.store) }
         ensures size { IfOk result (λ text. length text ≤ 511) }
     {
@@ -97,7 +96,6 @@ impl Device {
 
     /// The identity for a full authentication of a method: the pseudonym if the device has one, else the permanent identity.
     fn full(&self, alloc: Global, method: Method) -> Result<Octets, NoMemory>
-        requires { length self.now.realm ≤ 255 }
         ensures text { IfOk result (λ text. text ≡ full_text method (subscription_of self.now) self.now.store) }
         ensures size { IfOk result (λ text. length text ≤ 511) }
     {
@@ -109,7 +107,6 @@ impl Device {
 
     /// The permanent identity of a method (RFC 4187 §4.1.1.6, RFC 9048 §5.1).
     fn identity(&self, alloc: Global, method: Method) -> Result<Octets, NoMemory>
-        requires { length self.now.realm ≤ 255 }
         ensures text { IfOk result (λ text. text ≡ identity_text method (subscription_of self.now)) }
         ensures size { IfOk result (λ text. length text ≤ 511) }
     {
@@ -118,8 +115,7 @@ impl Device {
 
     /// A username, followed by `@` and the realm if there is one.
     fn with_realm(&self, alloc: Global, name: &[u8]) -> Result<Octets, NoMemory>
-        requires realm { length self.now.realm ≤ 255 }
-        requires name { length name.now ≤ 255 }
+        requires { length name.now ≤ 255 }
         ensures text { IfOk result (λ text. text ≡ with_realm name.now self.now.realm) }
         ensures size { IfOk result (λ text. length text ≤ 511) }
     {
@@ -129,6 +125,23 @@ impl Device {
             text.append(self.realm.as_slice())?;
         }
         Ok(text)
+    }
+
+    /// Hands the USIM a challenge (TS 33.102 §6.3.3). The note of its answer tells the whole answer.
+    pub fn ask(&mut self, challenge: Challenge) -> Answer
+        ensures noted { (past : Past) → Remembers self.old.usim.array past
+            → result ≡ answer_noted self.old.usim.secret challenge (note_of result) }
+        ensures answer { (past : Past) → Remembers self.old.usim.array past
+            → IsAnswer self.old.usim.secret self.old.usim.array.bits self.old.usim.array.age past
+            challenge.rand challenge.autn result }
+        ensures past { (past : Past) → Remembers self.old.usim.array past
+            → Remembers self.new.usim.array (past_after_answer self.old.usim.array.bits past result) }
+        ensures store { self.new.store ≡ self.old.store }
+        ensures subscription { subscription_of self.new ≡ subscription_of self.old }
+        ensures bits { self.new.usim.array.bits ≡ self.old.usim.array.bits }
+        ensures age { self.new.usim.array.age ≡ self.old.usim.array.age }
+    {
+        self.usim.challenge(challenge.rand, challenge.autn)
     }
 
     /// Adopts what a session of a method gave.

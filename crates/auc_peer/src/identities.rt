@@ -12,7 +12,7 @@ ghost use Rattle.auc_peer.specs.Table.{identified};
 use crate::device::Device;
 use crate::messages::identified;
 use crate::peer::{Peer, PeerState};
-use crate::reading::{id_of, packet_in};
+use crate::reading::packet_in;
 use crate::rooms::Sent;
 use crate::turns::noted;
 use crate::why::PeerWhy;
@@ -31,8 +31,6 @@ impl Peer {
         received: &Received,
         asked: IdentityRequest,
     ) -> Result<Turn<PeerWhy>, NoMemory>
-        requires { length device.now.realm ≤ 255 }
-
         ensures step { IfOk result (λ turn. (self.new, turn) ≡ identified self.old (seen_of received.now)
             (asked_text self.old.options.method (subscription_of device.now) device.now.store asked)) }
         ensures kept { OnErr result (self.new ≡ self.old) }
@@ -53,9 +51,10 @@ impl Peer {
         received: &Received,
         asked: IdentityRequest,
     ) -> Result<IdentityAnswer, NoMemory>
-        requires { length device.now.realm ≤ 255 }
         ensures text { IfOk result (λ said. said.text
             ≡ asked_text self.now.options.method (subscription_of device.now) device.now.store asked) }
+        ensures short { IfOk result (λ said. length said.text ≤ 511) }
+        ensures size { IfOk result (λ said. length said.bytes ≤ 526) }
         ensures bytes { IfOk result (λ said. said.bytes
             ≡ packet_text (identity_message self.now.options.method (id_of (seen_of received.now)) said.text)) }
     {
@@ -64,7 +63,7 @@ impl Peer {
         let sent = Octets::copied_from(alloc, text.as_slice())?;
         let places = Places::new(alloc, 2)?;
         let room = Room::new(alloc, 15 + text.len())?;
-        let bytes = identified(method, id_of(received), sent, places, room);
+        let bytes = identified(self.heading(received), sent, places, room);
         Ok(IdentityAnswer { text, bytes })
     }
 }

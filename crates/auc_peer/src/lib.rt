@@ -4,13 +4,12 @@
 //! A [`Peer`] takes the packets that it receives by [`Peer::on_bytes`], at the [`Device`] of its subscriber, and gives
 //! up by [`Peer::give_up`]. Each call answers what the peer sent, or why it ended or ignored the packet.
 //!
-//! Contracts see a `Peer` and a `Device` by their fields. `specs/Rows` says which row of the table of states a packet
+//! Contracts see a `Peer` as a `PeerEnd` and a `Device` as a `DeviceState` (`specs/Peer`, `specs/Device`). `specs/Rows` says which row of the table of states a packet
 //! falls into, in the order of the tests, and `specs/Table` what each row does; `docs/sessions.md` draws the machine.
 //! `on_bytes` takes all memory that it needs before it changes anything, so a call that finds none leaves peer and
 //! device as they were. Nothing waits.
 #![tactic(auto)]
 
-mod asking;
 mod challenge;
 mod decrypted;
 mod device;
@@ -40,6 +39,6 @@ pub use law::{
 };
 pub use next::NextContext;
 pub use options::PeerOptions;
-pub use peer::{Challenge, Last, Peer, PeerState};
+pub use peer::{Challenge, Last, Peer, PeerState, Source};
 pub use rows::Row;
 pub use why::PeerWhy;

@@ -8,14 +8,15 @@ ghost use Rattle.auc_packet.specs.Sealed.{sealed};
 ghost use Rattle.auc_packet.specs.Spelling.{packet_text, MayBeWritten};
 ghost use Rattle.auc_seal.specs.Checkcode.{IsHash};
 ghost use Rattle.auc_seal.specs.Encrypted.{MayBeEncrypted, encrypted};
-ghost use Rattle.auc_peer.specs.InnerRooms.{HasPlaces, HasThreePlaces, IsOneBlock, IsShort, IsShortDraft};
-ghost use Rattle.auc_peer.specs.Messages.{client_error, counter_attrs, draft_of, identified, identity_response, notified, own_kdf, reauth_bytes, reauth_draft, reject, response, response_bytes, sync_failure};
+ghost use Rattle.auc_peer.specs.InnerRooms.{HasPlaces, IsOneBlock, IsShort, IsShortDraft, plain};
+ghost use Rattle.auc_peer.specs.Messages.{counter_attrs, draft_of, identified, identity_response, own_kdf, reauth_bytes, reauth_draft, response, response_bytes, sync_failure};
 
+use crate::rooms::CounterRooms;
 use auc_attr::{Attr, AttrList};
 use auc_edge::{Octets, Places, Room};
 use auc_hmac::Method;
 use auc_packet::{Draft, Packet, Subtype, put_packet, put_sealed};
-use auc_seal::{EncryptionRoom, encrypted_attributes_may_be_written, put_encrypted};
+use auc_seal::{encrypted_attributes_may_be_written, put_encrypted};
 
 /// The bytes of a packet.
 fn put(packet: &Packet, room: Room) -> Octets
@@ -29,18 +30,45 @@ fn put(packet: &Packet, room: Room) -> Octets
     room.into_octets()
 }
 
+/// The method and the Identifier of an answer.
+#[derive(Clone, Copy)]
+pub(crate) struct Heading {
+    pub(crate) method: Method,
+    pub(crate) id: u8,
+}
+
+/// A message without AT_MAC.
+#[derive(Clone, Copy)]
+pub(crate) enum Plain {
+    /// Client-Error with code 0, "unable to process packet" (RFC 4187 §9.9 and §10.20).
+    ClientError,
+    /// Authentication-Reject (RFC 4187 §9.5).
+    Reject,
+    /// The Notification response (RFC 4187 §9.11).
+    Notified,
+    /// Synchronization-Failure with this AT_AUTS (RFC 4187 §9.6).
+    SyncFailure([u8; 14]),
+}
+
+/// AT_CHECKCODE of an answer: whether the request had it, and the peer's own value (RFC 4187 §10.13).
+#[derive(Drop)]
+pub(crate) struct OwnCode {
+    pub(crate) has: bool,
+    pub(crate) value: Octets,
+}
+
 /// A response with these attributes.
-fn response(method: Method, id: u8, subtype: Subtype, attrs: AttrList, room: Room) -> Octets
-    requires short { IsShort (response method id subtype attrs) }
+fn response(heading: Heading, subtype: Subtype, attrs: AttrList, room: Room) -> Octets
+    requires short { IsShort (response heading.method heading.id subtype attrs) }
     requires empty { room.written ≡ [] }
     requires left { 76 ≤ room.left }
-    ensures bytes { result ≡ packet_text (response method id subtype attrs) }
+    ensures bytes { result ≡ packet_text (response heading.method heading.id subtype attrs) }
     ensures size { length result ≤ 76 }
 {
     let packet = Packet::Aka {
         request: false,
-        id,
-        method,
+        id: heading.id,
+        method: heading.method,
         subtype,
         attrs,
     };
@@ -84,64 +112,22 @@ pub(crate) fn identity_response(id: u8, text: Octets, room: Room) -> Octets
 
 /// The AKA-Identity response (RFC 4187 §9.2).
 #[tactic(auto, using(crate::proofs::MessageLemmas::identified_may, crate::proofs::MessageLemmas::identified_size))]
-pub(crate) fn identified(
-    method: Method,
-    id: u8,
-    text: Octets,
-    places: Places<Attr>,
-    room: Room,
-) -> Octets
+pub(crate) fn identified(heading: Heading, text: Octets, places: Places<Attr>, room: Room) -> Octets
     requires short { length text ≤ 511 }
     requires places { HasPlaces places }
     requires empty { room.written ≡ [] }
     requires left { 15 + length text ≤ room.left }
-    ensures bytes { result ≡ packet_text (identified method id text) }
+    ensures bytes { result ≡ packet_text (identified heading.method heading.id text) }
     ensures size { length result ≤ 15 + length text }
 {
     let packet = Packet::Aka {
         request: false,
-        id,
-        method,
+        id: heading.id,
+        method: heading.method,
         subtype: Subtype::Identity,
         attrs: one(Attr::Identity(text), places),
     };
     put(&packet, room)
-}
-
-/// Client-Error with code 0, "unable to process packet" (RFC 4187 §9.9 and §10.20).
-pub(crate) fn client_error(method: Method, id: u8, places: Places<Attr>, room: Room) -> Octets
-    requires places { HasPlaces places }
-    requires empty { room.written ≡ [] }
-    requires left { 76 ≤ room.left }
-    ensures bytes { result ≡ packet_text (client_error method id) }
-    ensures size { length result ≤ 76 }
-{
-    let attrs = one(Attr::ClientErrorCode(0), places);
-    response(method, id, Subtype::ClientError, attrs, room)
-}
-
-/// Authentication-Reject (RFC 4187 §9.5).
-pub(crate) fn reject(method: Method, id: u8, places: Places<Attr>, room: Room) -> Octets
-    requires places { HasPlaces places }
-    requires empty { room.written ≡ [] }
-    requires left { 76 ≤ room.left }
-    ensures bytes { result ≡ packet_text (reject method id) }
-    ensures size { length result ≤ 76 }
-{
-    let attrs = none(places);
-    response(method, id, Subtype::AuthenticationReject, attrs, room)
-}
-
-/// The Notification response (RFC 4187 §9.11).
-pub(crate) fn notified(method: Method, id: u8, places: Places<Attr>, room: Room) -> Octets
-    requires places { HasPlaces places }
-    requires empty { room.written ≡ [] }
-    requires left { 76 ≤ room.left }
-    ensures bytes { result ≡ packet_text (notified method id) }
-    ensures size { length result ≤ 76 }
-{
-    let attrs = none(places);
-    response(method, id, Subtype::Notification, attrs, room)
 }
 
 /// AT_AUTS, and of EAP-AKA' the key derivation function of the Challenge (RFC 9048 §3.2).
@@ -158,64 +144,87 @@ fn sync_attrs(method: Method, auts: [u8; 14], places: Places<Attr>) -> AttrList
 }
 
 /// Synchronization-Failure (RFC 4187 §9.6).
-pub(crate) fn sync_failure(
-    method: Method,
-    id: u8,
-    auts: [u8; 14],
+fn sync_failure(heading: Heading, auts: [u8; 14], places: Places<Attr>, room: Room) -> Octets
+    requires places { HasPlaces places }
+    requires empty { room.written ≡ [] }
+    requires left { 76 ≤ room.left }
+    ensures bytes { result ≡ packet_text (sync_failure heading.method heading.id auts) }
+    ensures size { length result ≤ 76 }
+{
+    let attrs = sync_attrs(heading.method, auts, places);
+    response(heading, Subtype::SynchronizationFailure, attrs, room)
+}
+
+/// The bytes of a message without AT_MAC.
+pub(crate) fn plain_bytes(
+    heading: Heading,
+    message: Plain,
     places: Places<Attr>,
     room: Room,
 ) -> Octets
     requires places { HasPlaces places }
     requires empty { room.written ≡ [] }
     requires left { 76 ≤ room.left }
-    ensures bytes { result ≡ packet_text (sync_failure method id auts) }
+    ensures bytes { result ≡ packet_text (plain heading.method heading.id message) }
     ensures size { length result ≤ 76 }
 {
-    let attrs = sync_attrs(method, auts, places);
-    response(method, id, Subtype::SynchronizationFailure, attrs, room)
+    match message {
+        Plain::ClientError => {
+            let attrs = one(Attr::ClientErrorCode(0), places);
+            response(heading, Subtype::ClientError, attrs, room)
+        }
+        Plain::Reject => {
+            let attrs = none(places);
+            response(heading, Subtype::AuthenticationReject, attrs, room)
+        }
+        Plain::Notified => {
+            let attrs = none(places);
+            response(heading, Subtype::Notification, attrs, room)
+        }
+        Plain::SyncFailure(auts) => sync_failure(heading, auts, places, room),
+    }
 }
 
 /// The Challenge response (RFC 4187 §9.4): AT_RES, AT_CHECKCODE if the request had it, and AT_MAC.
 #[tactic(auto, unfolding(crate::specs::Messages::response_bytes))]
 pub(crate) fn challenge_response(
-    method: Method,
-    id: u8,
+    heading: Heading,
     k_aut: &[u8; 32],
     res: Octets,
-    has: bool,
-    own: Octets,
+    own: OwnCode,
     places: Places<Attr>,
     room: Room,
 ) -> Octets
     requires res { length res ≡ 8 }
-    requires own { IsHash own }
+    requires own { IsHash own.value }
     requires places { HasPlaces places }
     requires empty { room.written ≡ [] }
     requires left { 76 ≤ room.left }
-    ensures bytes { result ≡ response_bytes method id k_aut.now res has own }
+    ensures bytes { result ≡ response_bytes heading.method heading.id k_aut.now res own.has own.value }
     ensures size { length result ≤ 76 }
 {
+    let OwnCode { has, value } = own;
     let mut places = places;
     places.put(Attr::Res(res));
     if has {
-        places.put(Attr::Checkcode(own));
-        return sealed_response(method, id, k_aut, AttrList::from_places(places), room);
+        places.put(Attr::Checkcode(value));
+        return sealed_response(heading, k_aut, AttrList::from_places(places), room);
     }
-    sealed_response(method, id, k_aut, AttrList::from_places(places), room)
+    sealed_response(heading, k_aut, AttrList::from_places(places), room)
 }
 
 /// A Challenge response with these attributes and AT_MAC.
-fn sealed_response(method: Method, id: u8, k_aut: &[u8; 32], attrs: AttrList, room: Room) -> Octets
-    requires short { IsShortDraft (draft_of method id attrs) }
+fn sealed_response(heading: Heading, k_aut: &[u8; 32], attrs: AttrList, room: Room) -> Octets
+    requires short { IsShortDraft (draft_of heading.method heading.id attrs) }
     requires empty { room.written ≡ [] }
     requires left { 76 ≤ room.left }
-    ensures bytes { result ≡ sealed k_aut.now [] (draft_of method id attrs) }
+    ensures bytes { result ≡ sealed k_aut.now [] (draft_of heading.method heading.id attrs) }
     ensures size { length result ≤ 76 }
 {
     let draft = Draft {
-        method,
+        method: heading.method,
         request: false,
-        id,
+        id: heading.id,
         subtype: Subtype::Challenge,
         attrs,
     };
@@ -259,27 +268,27 @@ fn counter_is_one_block(k_encr: [u8; 16], iv: [u8; 16], counter: u16, small: boo
     encrypted_attributes_may_be_written();
 }
 
-/// A counter in a Reauthentication response, and how it is encrypted.
+/// A counter in a Reauthentication response, how it is encrypted, and what AT_MAC is under.
 #[derive(Clone, Copy)]
 pub(crate) struct Hidden {
     pub(crate) k_encr: [u8; 16],
+    pub(crate) k_aut: [u8; 32],
     pub(crate) iv: [u8; 16],
+    pub(crate) nonce: [u8; 16],
     pub(crate) counter: u16,
     pub(crate) small: bool,
 }
 
 /// AT_IV and AT_ENCR_DATA with the counter (RFC 4187 §10.12).
-fn put_counter(
-    hidden: Hidden,
-    counter: Places<Attr>,
-    encryption: EncryptionRoom,
-    places: Places<Attr>,
-) -> Places<Attr>
-    requires places { HasThreePlaces places }
-    requires counter { HasPlaces counter }
+fn put_counter(hidden: Hidden, rooms: CounterRooms) -> Places<Attr>
     ensures written { result.written ≡ encrypted hidden.k_encr hidden.iv (counter_attrs hidden.counter hidden.small) }
     ensures left { 1 ≤ result.left }
 {
+    let CounterRooms {
+        places,
+        counter,
+        encryption,
+    } = rooms;
     let list = counter_attrs(hidden.counter, hidden.small, counter);
     counter_may(hidden.counter, hidden.small, &list);
     let mut places = places;
@@ -288,28 +297,18 @@ fn put_counter(
 }
 
 /// A Reauthentication response, but for its AT_MAC.
-fn reauth_draft(
-    method: Method,
-    id: u8,
-    hidden: Hidden,
-    has: bool,
-    own: Octets,
-    places: Places<Attr>,
-    counter: Places<Attr>,
-    encryption: EncryptionRoom,
-) -> Draft
-    requires places { HasThreePlaces places }
-    requires counter { HasPlaces counter }
-    ensures { result ≡ reauth_draft method id hidden.k_encr hidden.iv hidden.counter hidden.small has own }
+fn reauth_draft(heading: Heading, hidden: Hidden, own: OwnCode, rooms: CounterRooms) -> Draft
+    ensures { result ≡ reauth_draft heading.method heading.id hidden.k_encr hidden.iv hidden.counter hidden.small own.has own.value }
 {
-    let mut places = put_counter(hidden, counter, encryption, places);
+    let OwnCode { has, value } = own;
+    let mut places = put_counter(hidden, rooms);
     if has {
-        places.put(Attr::Checkcode(own));
+        places.put(Attr::Checkcode(value));
     }
     Draft {
-        method,
+        method: heading.method,
         request: false,
-        id,
+        id: heading.id,
         subtype: Subtype::Reauthentication,
         attrs: AttrList::from_places(places),
     }
@@ -319,30 +318,24 @@ fn reauth_draft(
 /// and AT_MAC, which authenticates NONCE_S besides.
 #[tactic(auto, unfolding(crate::specs::Messages::reauth_bytes))]
 pub(crate) fn reauth_response(
-    method: Method,
-    id: u8,
+    heading: Heading,
     hidden: Hidden,
-    k_aut: &[u8; 32],
-    nonce: &[u8; 16],
-    has: bool,
-    own: Octets,
-    places: Places<Attr>,
-    counter: Places<Attr>,
-    encryption: EncryptionRoom,
+    own: OwnCode,
+    rooms: CounterRooms,
     room: Room,
 ) -> Octets
-    requires own { IsHash own }
-    requires places { HasThreePlaces places }
-    requires counter { HasPlaces counter }
+    requires own { IsHash own.value }
     requires empty { room.written ≡ [] }
     requires left { 104 ≤ room.left }
-    ensures bytes { result ≡ reauth_bytes method id hidden.k_encr k_aut.now hidden.iv nonce.now hidden.counter hidden.small has own }
+    ensures bytes { result ≡ reauth_bytes heading.method heading.id hidden.k_encr hidden.k_aut hidden.iv hidden.nonce hidden.counter
+        hidden.small own.has own.value }
     ensures size { length result ≤ 104 }
 {
     counter_is_one_block(hidden.k_encr, hidden.iv, hidden.counter, hidden.small);
-    let draft = reauth_draft(method, id, hidden, has, own, places, counter, encryption);
+    let Hidden { k_aut, nonce, .. } = hidden;
+    let draft = reauth_draft(heading, hidden, own, rooms);
     let mut room = room;
-    put_sealed(&draft, k_aut, nonce, &mut room);
+    put_sealed(&draft, &k_aut, &nonce, &mut room);
     room.into_octets()
 }
 

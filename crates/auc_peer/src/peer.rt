@@ -1,6 +1,8 @@
 //! The peer of a session.
 
 ghost use Rattle.std.specs.Prelude.{◌≡◌, ◌≤◌, length, IfOk, OnErr};
+ghost use Rattle.auc_request.specs.Request.{text_or_none};
+ghost use Rattle.auc_peer.specs.Peer.{answer_or_none, network_named};
 ghost use Rattle.auc_peer.specs.Subscription.{subscription_of};
 ghost use Rattle.auc_peer.specs.Table.{gave_up, new_peer};
 ghost use Rattle.auc_peer.specs.Turn.{Steps};
@@ -11,13 +13,14 @@ use crate::next::NextContext;
 use crate::options::PeerOptions;
 use crate::why::PeerWhy;
 use auc_edge::{NoMemory, Octets};
-use auc_hmac::KeySet;
+use auc_hmac::{KeySet, Method};
 use auc_packet::receive;
 use auc_random::Rands;
 use auc_reauth::Context;
 use auc_seal::IdentityPackets;
 use auc_vector::{Outcome, Reason, Step, Turn};
 use std::alloc::Global;
+use std::marker::Model;
 
 /// What an AKA-Challenge hands the USIM (RFC 4187 §9.3).
 #[derive(Clone, Copy)]
@@ -26,6 +29,18 @@ pub struct Challenge {
     pub rand: [u8; 16],
     /// AUTN.
     pub autn: [u8; 16],
+}
+
+/// What a peer's keys are made from, beside the identity that it sent last (RFC 4187 §7): what the last request with a right
+/// AT_MAC gave.
+#[derive(Drop)]
+pub enum Source {
+    /// No request had a right AT_MAC yet.
+    Nothing,
+    /// A challenge that the USIM accepted, and the network's name in it (RFC 9048 §3.1), which is empty for EAP-AKA.
+    Challenge(Challenge, Octets),
+    /// The context of a fast re-authentication, as it was then.
+    Context(Context),
 }
 
 /// Where a peer stands in its session.
@@ -52,33 +67,36 @@ pub struct Last {
     pub answer: Octets,
 }
 
-/// The peer of a session.
+/// The peer of a session. Contracts see its `PeerEnd`.
 #[derive(Drop)]
 pub struct Peer {
-    /// What it was told before its session.
-    pub options: PeerOptions,
-    /// Where it stands.
-    pub state: PeerState,
-    /// The request that it answered last, or `None` if it has answered none.
-    pub last: Option<Last>,
-    /// The identity that it sent last, from which keys are derived (RFC 4187 §7), or `None` if it has sent none.
-    pub identity: Option<Octets>,
-    /// The last challenge that the USIM accepted and whose AT_MAC was right.
-    pub accepted: Option<Challenge>,
-    /// The network's name in that challenge (RFC 9048 §3.1); empty for EAP-AKA, and if there is no such challenge.
-    pub network: Octets,
-    /// The AKA-Identity packets that it received and sent, of which AT_CHECKCODE is the hash (RFC 4187 §10.13).
-    pub packets: IdentityPackets,
-    /// What it decrypted last, from a request with a right AT_MAC. The device adopts its pseudonym when the session ends in
-    /// Success.
-    pub inner: Decrypted,
-    /// The context under which AT_MAC of a Reauthentication was right, as it was then, if that was after the last challenge
-    /// that was accepted.
-    pub resumed: Option<Context>,
+    pub(crate) options: PeerOptions,
+    pub(crate) state: PeerState,
+    /// The request that was answered last.
+    pub(crate) last: Option<Last>,
+    /// The identity that was sent last.
+    pub(crate) identity: Option<Octets>,
+    /// What its keys are made from.
+    pub(crate) source: Source,
+    /// The AKA-Identity packets that were received and sent.
+    pub(crate) packets: IdentityPackets,
+    /// What was decrypted last. The device adopts its pseudonym when the session ends in Success.
+    pub(crate) inner: Decrypted,
     /// What becomes of the device's context when the session ends in Success.
-    pub next: NextContext,
+    pub(crate) next: NextContext,
     /// The index of the next initialisation vector: the odd ones are the peer's.
-    pub next_iv: u32,
+    pub(crate) next_iv: u32,
+}
+
+impl Model for Peer {
+    ghost use Rattle.auc_peer.specs.InnerPeer.{IsBrief};
+    ghost use Rattle.auc_peer.specs.Peer.{PeerEnd};
+
+    ghost Value = { PeerEnd };
+
+    ghost view = { λ p. record { options = p.options; state = p.state; last = p.last; identity = p.identity; source = p.source; packets = p.packets; inner = p.inner; next = p.next; next_iv = p.next_iv } };
+
+    ghost invariant = { λ p. IsBrief p.last p.identity p.source };
 }
 
 impl Peer {
@@ -91,11 +109,9 @@ impl Peer {
             state: PeerState::Waiting,
             last: None,
             identity: None,
-            accepted: None,
-            network: Octets::new(alloc),
+            source: Source::Nothing,
             packets: IdentityPackets::new(alloc),
             inner: Decrypted::Unreadable,
-            resumed: None,
             next: NextContext::Same,
             next_iv: 1,
         }
@@ -111,8 +127,6 @@ impl Peer {
         device: &mut Device,
         bytes: &[u8],
     ) -> Result<Turn<PeerWhy>, NoMemory>
-        requires { length device.old.realm ≤ 255 }
-
         ensures step { IfOk result (λ turn. Steps rands.now (subscription_of device.old) device.old.store self.old bytes.now
             device.old.usim.array self.new turn device.new.store device.new.usim.array) }
         ensures subscription { subscription_of device.new ≡ subscription_of device.old }
@@ -124,6 +138,43 @@ impl Peer {
         let received = receive(alloc, bytes)?;
         let row = self.row(&received);
         self.on_row(alloc, rands, device, &received, row)
+    }
+
+    /// The method.
+    pub fn method(&self) -> Method
+        ensures { result ≡ self.now.options.method }
+    {
+        self.options.method
+    }
+
+    /// The identity that it sent last, or the empty text. It has at most 511 bytes.
+    pub fn identity(&self) -> &[u8]
+        ensures text { result.now ≡ text_or_none self.now.identity }
+        ensures size { length result.now ≤ 511 }
+    {
+        match &self.identity {
+            Some(text) => text.as_slice(),
+            None => &[],
+        }
+    }
+
+    /// What its keys are made from. A network's name has at most 1016 bytes.
+    pub fn source(&self) -> &Source
+        ensures source { result.now ≡ self.now.source }
+        ensures size { length (network_named result.now) ≤ 1016 }
+    {
+        &self.source
+    }
+
+    /// The answer that it sent last, or no bytes. It has at most 526.
+    pub fn last_answer(&self) -> &[u8]
+        ensures bytes { result.now ≡ answer_or_none self.now.last }
+        ensures size { length result.now ≤ 526 }
+    {
+        match &self.last {
+            Some(last) => last.answer.as_slice(),
+            None => &[],
+        }
     }
 
     /// Ends the session in failure, unless it has ended. It sends nothing.

@@ -9,15 +9,12 @@ ghost use Rattle.auc_peer.specs.Subscription.{subscription_of};
 ghost use Rattle.auc_peer.specs.Table.{by_counter, client, context_named, context_of, counter_noted, counted_up, counter_bytes, disclosed, iv_after, reauthenticated, resumes, small, taken};
 ghost use Rattle.auc_peer.specs.Turn.{Decrypts, decryption_resumed};
 
-use crate::challenge::text_of;
 use crate::decrypted::Decrypted;
 use crate::device::Device;
-use crate::messages::{Hidden, reauth_response, value};
+use crate::messages::{Hidden, reauth_response};
 use crate::next::NextContext;
-use crate::peer::{Peer, PeerState};
-use crate::reading::{
-    ciphertext_in, differs, has_checkcode, id_of, inner_in, lacks_reauthentication,
-};
+use crate::peer::{Peer, PeerState, Source};
+use crate::reading::{ciphertext_in, differs, inner_in, lacks_reauthentication};
 use crate::rooms::{ReauthRooms, Reply, Sent};
 use crate::why::PeerWhy;
 use auc_edge::{NoMemory, Octets, Room};
@@ -104,7 +101,12 @@ impl Peer {
         };
         let inner = Room::new(alloc, ciphertext_in(&received.reading))?;
         let rooms = ReauthRooms::new(alloc, received)?;
-        Ok(self.resume(rands, device, received, context, inner, rooms))
+        let attempt = Attempt {
+            context,
+            inner,
+            rooms,
+        };
+        Ok(self.resume(rands, device, received, attempt))
     }
 
     /// Looks for what a Reauthentication must have, and tests AT_MAC.
@@ -113,29 +115,32 @@ impl Peer {
         rands: &Rands,
         device: &mut Device,
         received: &Received,
-        context: Context,
-        inner: Room,
-        rooms: ReauthRooms,
+        attempt: Attempt,
     ) -> Turn<PeerWhy>
         requires is { IsReceived (seen_of received.now) }
-        requires request { rooms ≡ (seen_of received.now).bytes }
-        requires empty { inner.written ≡ [] }
-        requires room { length (ciphertext_of (attrs_in received.now.reading)) ≤ inner.left }
+        requires request { attempt.rooms ≡ (seen_of received.now).bytes }
+        requires empty { attempt.inner.written ≡ [] }
+        requires room { length (ciphertext_of (attrs_in received.now.reading)) ≤ attempt.inner.left }
 
         ensures step { (self.new, result)
-            ≡ resumes rands.now device.old.store self.old (seen_of received.now) context self.new.inner }
-        ensures decrypts { Decrypts (decryption_resumed self.old (seen_of received.now) (Some context)) self.new.inner }
+            ≡ resumes rands.now device.old.store self.old (seen_of received.now) attempt.context self.new.inner }
+        ensures decrypts { Decrypts (decryption_resumed self.old (seen_of received.now) (Some attempt.context)) self.new.inner }
         ensures stored { device.new.store ≡ counted_up self.old.options.method result.notes.counter device.old.store }
         ensures subscription { subscription_of device.new ≡ subscription_of device.old }
         ensures usim { device.new.usim ≡ device.old.usim }
     {
+        let Attempt {
+            context,
+            inner,
+            rooms,
+        } = attempt;
         if lacks_reauthentication(&received.reading) {
             return self.refuse(received, inner, PeerWhy::Missing, false, rooms);
         }
         if !is_sealed(received, self.options.method, &context.k_aut, &[]) {
             return self.refuse(received, inner, PeerWhy::WrongMac, false, rooms);
         }
-        self.resumed = Some(context);
+        self.source = Source::Context(context);
         if differs(self.own_code().as_slice(), &received.reading) {
             return self.refuse(received, inner, PeerWhy::WrongCheckcode, true, rooms);
         }
@@ -258,7 +263,7 @@ impl Peer {
             context.k_encr,
             context.k_aut,
             context.master,
-            text_of(&self.identity),
+            self.identity(),
             counter,
             nonce,
         );
@@ -301,13 +306,9 @@ impl Peer {
         ensures request { result.request ≡ (seen_of received.now).bytes }
         ensures bytes { result.bytes ≡ counter_bytes rands.now self.now (seen_of received.now) offer.now.context
             offer.now.nonce offer.now.counter too_small }
-        ensures empty { result.kept.written ≡ [] }
-        ensures left { length result.bytes ≤ result.kept.left }
     {
         let ReauthRooms {
-            places,
             counter,
-            encryption,
             code,
             reply,
             ..
@@ -320,32 +321,28 @@ impl Peer {
         } = reply;
         let hidden = Hidden {
             k_encr: offer.context.k_encr,
+            k_aut: offer.context.k_aut,
             iv: rands.nonce_of(self.options.session, self.next_iv),
+            nonce: offer.nonce,
             counter: offer.counter,
             small: too_small,
         };
-        let has = has_checkcode(&received.reading);
-        let own = value(self.own_code().as_slice(), code);
-        let method = self.options.method;
-        let bytes = reauth_response(
-            method,
-            id_of(received),
-            hidden,
-            &offer.context.k_aut,
-            &offer.nonce,
-            has,
-            own,
-            places,
-            counter,
-            encryption,
-            bytes,
-        );
+        let own = self.own_checkcode(received, code);
+        let bytes = reauth_response(self.heading(received), hidden, own, counter, bytes);
         Sent {
             request,
             bytes,
             kept,
         }
     }
+}
+
+/// What a Reauthentication is tried with: the device's context, and the memory.
+#[derive(Drop)]
+struct Attempt {
+    context: Context,
+    inner: Room,
+    rooms: ReauthRooms,
 }
 
 /// The counter and NONCE_S of a Reauthentication under a context, and the next identity if it gives one.

@@ -1,8 +1,11 @@
 //! Memory for a turn, which is taken before anything changes.
 
-ghost use Rattle.std.specs.Prelude.{◌≡◌, ◌≤◌, [], length, IfOk};
+ghost use Rattle.std.specs.Prelude.{◌≡◌, ◌≤◌, length, IfOk};
 ghost use Rattle.auc_packet.specs.Received.{seen_of};
+ghost use Rattle.auc_packet.specs.Spelling.{packet_text};
+ghost use Rattle.auc_peer.specs.InnerRooms.{plain};
 
+use crate::messages::{Heading, Plain, plain_bytes};
 use auc_attr::{Attr, AttrList};
 use auc_edge::{NoMemory, Octets, Places, Room};
 use auc_packet::Received;
@@ -22,13 +25,22 @@ pub(crate) struct Sent {
     pub(crate) kept: Room,
 }
 
+impl Model for Sent {
+    ghost use Rattle.auc_peer.specs.InnerRooms.{Answer, IsKeepable};
+
+    ghost Value = { Answer };
+
+    ghost view = { λ s. record { request = s.request; bytes = s.bytes } };
+
+    ghost invariant = { λ s. IsKeepable s.bytes s.kept };
+}
+
 impl Sent {
     /// An answer to a request.
     pub(crate) fn new(alloc: Global, received: &Received, bytes: Octets) -> Result<Sent, NoMemory>
+        requires { length bytes ≤ 526 }
         ensures request { IfOk result (λ sent. sent.request ≡ (seen_of received.now).bytes) }
         ensures bytes { IfOk result (λ sent. sent.bytes ≡ bytes) }
-        ensures empty { IfOk result (λ sent. sent.kept.written ≡ []) }
-        ensures left { IfOk result (λ sent. length sent.bytes ≤ sent.kept.left) }
     {
         let request = Octets::copied_from(alloc, received.bytes)?;
         let kept = Room::new(alloc, bytes.len())?;
@@ -72,6 +84,25 @@ impl Reply {
             bytes: Room::new(alloc, MOST)?,
             kept: Room::new(alloc, MOST)?,
         })
+    }
+
+    /// The request, answered by a message without AT_MAC.
+    pub(crate) fn plain(self, heading: Heading, message: Plain) -> Sent
+        ensures request { result.request ≡ self }
+        ensures bytes { result.bytes ≡ packet_text (plain heading.method heading.id message) }
+    {
+        let Reply {
+            request,
+            places,
+            bytes,
+            kept,
+        } = self;
+        let bytes = plain_bytes(heading, message, places, bytes);
+        Sent {
+            request,
+            bytes,
+            kept,
+        }
     }
 }
 
@@ -117,12 +148,40 @@ impl ChallengeRooms {
     }
 }
 
-/// Memory for the answer to a Reauthentication. Contracts see the copy of the request.
+/// Memory for the attributes of a Reauthentication response: places for them, places for the counter that is encrypted, and
+/// memory to encrypt it.
 #[derive(Drop)]
-pub(crate) struct ReauthRooms {
+pub(crate) struct CounterRooms {
     pub(crate) places: Places<Attr>,
     pub(crate) counter: Places<Attr>,
     pub(crate) encryption: EncryptionRoom,
+}
+
+impl Model for CounterRooms {
+    ghost use Rattle.auc_peer.specs.InnerRooms.{HasPlaces, HasThreePlaces};
+
+    ghost Value = { Unit {0} };
+
+    ghost view = { λ r. tt };
+
+    ghost invariant = { λ r. HasThreePlaces r.places × HasPlaces r.counter };
+}
+
+impl CounterRooms {
+    /// Memory for the attributes of a Reauthentication response.
+    fn new(alloc: Global) -> Result<CounterRooms, NoMemory> {
+        Ok(CounterRooms {
+            places: Places::new(alloc, 3)?,
+            counter: Places::new(alloc, 2)?,
+            encryption: EncryptionRoom::new(alloc)?,
+        })
+    }
+}
+
+/// Memory for the answer to a Reauthentication. Contracts see the copy of the request.
+#[derive(Drop)]
+pub(crate) struct ReauthRooms {
+    pub(crate) counter: CounterRooms,
     pub(crate) code: Room,
     pub(crate) no_attrs: AttrList,
     pub(crate) reply: Reply,
@@ -130,13 +189,13 @@ pub(crate) struct ReauthRooms {
 
 impl Model for ReauthRooms {
     ghost use Rattle.std.specs.Prelude.{◌≡◌, ℕ, List, []};
-    ghost use Rattle.auc_peer.specs.InnerRooms.{HasPlaces, HasRoom, HasThreePlaces};
+    ghost use Rattle.auc_peer.specs.InnerRooms.{HasRoom};
 
     ghost Value = { List ℕ };
 
     ghost view = { λ r. r.reply };
 
-    ghost invariant = { λ r. HasThreePlaces r.places × HasPlaces r.counter × HasRoom r.code 32 × (r.no_attrs ≡ []) };
+    ghost invariant = { λ r. HasRoom r.code 32 × (r.no_attrs ≡ []) };
 }
 
 impl ReauthRooms {
@@ -145,10 +204,8 @@ impl ReauthRooms {
         ensures { IfOk result (λ rooms. rooms ≡ (seen_of received.now).bytes) }
     {
         Ok(ReauthRooms {
-            places: Places::new(alloc, 3)?,
-            counter: Places::new(alloc, 2)?,
             code: Room::new(alloc, 32)?,
-            encryption: EncryptionRoom::new(alloc)?,
+            counter: CounterRooms::new(alloc)?,
             reply: Reply::new(alloc, received)?,
             no_attrs: AttrList::new(alloc),
         })

@@ -1,9 +1,10 @@
 //! The rows of the table: which one a packet falls into.
 
 ghost use Rattle.std.specs.Prelude.{◌≡◌, ◌==◌, ◌||◌};
+ghost use Rattle.auc_packet.specs.Head.{head_at};
 ghost use Rattle.auc_packet.specs.Packet.{method_type};
 ghost use Rattle.auc_packet.specs.Received.{seen_of};
-ghost use Rattle.auc_peer.specs.Rows.{peer_row, of_kind, requested, ended_by, on_success, on_failure, waiting, late, on_message, on_sound, on_notification, late_notification, notified_row, on_challenge, on_identity, repeats, is_last, is_response, method_row, aka_row, prime_row};
+ghost use Rattle.auc_peer.specs.Rows.{peer_row, row_headed, of_kind, requested, ended_by, on_success, on_failure, waiting, late, on_message, on_sound, on_notification, late_notification, notified_row, on_challenge, on_identity, repeats, is_last, is_response, method_row, aka_row, prime_row};
 
 use crate::options::PeerOptions;
 use crate::peer::{Challenge, Last, Peer, PeerState};
@@ -50,9 +51,17 @@ impl Peer {
     pub(crate) fn row(&self, received: &Received) -> Row
         ensures { result ≡ peer_row self.now (seen_of received.now) }
     {
-        if let PeerState::Ended = self.state {
-            return Row::Ignore(Reason::Closed);
+        match self.state {
+            PeerState::Ended => Row::Ignore(Reason::Closed),
+            _ => self.headed(received),
         }
+    }
+
+    /// The row of a peer whose session hasn't ended, by the packet's head and the request that was answered last.
+    fn headed(&self, received: &Received) -> Row
+        ensures { result ≡ row_headed self.now.options self.now.state self.now.last (seen_of received.now)
+            (head_at (seen_of received.now).bytes) }
+    {
         let Some(head) = head(received.bytes) else {
             return Row::Ignore(Reason::NotForMe);
         };

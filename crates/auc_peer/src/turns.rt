@@ -1,7 +1,8 @@
 //! What each row of the table does. Challenges, identities and fast re-authentications have files of their own.
 
-ghost use Rattle.std.specs.Prelude.{◌≡◌, ◌≤◌, ◌+◌, [], length, None, IfOk, OnErr};
+ghost use Rattle.std.specs.Prelude.{◌≡◌, [], None, IfOk, OnErr};
 ghost use Rattle.auc_packet.specs.Received.{IsReceived, seen_of};
+ghost use Rattle.auc_peer.specs.Attributes.{id_of};
 ghost use Rattle.auc_peer.specs.Rows.{peer_row};
 ghost use Rattle.auc_peer.specs.Identities.{first_text};
 ghost use Rattle.auc_peer.specs.Subscription.{subscription_of};
@@ -10,7 +11,7 @@ ghost use Rattle.auc_peer.specs.Turn.{Steps};
 
 use crate::decrypted::Decrypted;
 use crate::device::Device;
-use crate::messages::{client_error, identity_response, notified, reject};
+use crate::messages::{Heading, Plain, identity_response};
 use crate::peer::{Last, Peer, PeerState};
 use crate::reading::id_of;
 use crate::rooms::{Reply, Sent};
@@ -58,7 +59,6 @@ impl Peer {
     ) -> Result<Turn<PeerWhy>, NoMemory>
         requires is { IsReceived (seen_of received.now) }
         requires row { row ≡ peer_row self.old (seen_of received.now) }
-        requires realm { length device.old.realm ≤ 255 }
 
         ensures step { IfOk result (λ turn. Steps rands.now (subscription_of device.old) device.old.store self.old
             (seen_of received.now).bytes device.old.usim.array self.new turn device.new.store device.new.usim.array) }
@@ -143,9 +143,7 @@ impl Peer {
         notes: Notes,
         checked: bool,
     ) -> Turn<PeerWhy>
-        requires request { sent.request ≡ (seen_of received.now).bytes }
-        requires empty { sent.kept.written ≡ [] }
-        requires left { length sent.bytes ≤ sent.kept.left }
+        requires { sent.request ≡ (seen_of received.now).bytes }
         ensures { (self.new, result) ≡ answered_noting self.old (seen_of received.now) state sent.bytes notes checked }
     {
         let Sent {
@@ -167,6 +165,16 @@ impl Peer {
         }
     }
 
+    /// The method and the Identifier of an answer to a request.
+    pub(crate) fn heading(&self, received: &Received) -> Heading
+        ensures { result ≡ record { method = self.now.options.method; id = id_of (seen_of received.now) } }
+    {
+        Heading {
+            method: self.options.method,
+            id: id_of(received),
+        }
+    }
+
     /// Refuses by Client-Error.
     pub(crate) fn client(
         &mut self,
@@ -179,25 +187,9 @@ impl Peer {
         requires { reply ≡ (seen_of received.now).bytes }
         ensures { (self.new, result) ≡ client self.old (seen_of received.now) why usim checked }
     {
-        let Reply {
-            request,
-            places,
-            bytes,
-            kept,
-        } = reply;
-        let bytes = client_error(self.options.method, id_of(received), places, bytes);
-        let sent = Sent {
-            request,
-            bytes,
-            kept,
-        };
-        self.answer(
-            received,
-            PeerState::Refusing(why),
-            sent,
-            noted(usim),
-            checked,
-        )
+        let sent = reply.plain(self.heading(received), Plain::ClientError);
+        let state = PeerState::Refusing(why);
+        self.answer(received, state, sent, noted(usim), checked)
     }
 
     /// Refuses by Authentication-Reject.
@@ -211,18 +203,7 @@ impl Peer {
         requires { reply ≡ (seen_of received.now).bytes }
         ensures { (self.new, result) ≡ rejected self.old (seen_of received.now) why usim }
     {
-        let Reply {
-            request,
-            places,
-            bytes,
-            kept,
-        } = reply;
-        let bytes = reject(self.options.method, id_of(received), places, bytes);
-        let sent = Sent {
-            request,
-            bytes,
-            kept,
-        };
+        let sent = reply.plain(self.heading(received), Plain::Reject);
         self.answer(received, PeerState::Refusing(why), sent, noted(usim), false)
     }
 
@@ -231,30 +212,16 @@ impl Peer {
         requires { reply ≡ (seen_of received.now).bytes }
         ensures { (self.new, result) ≡ notify self.old (seen_of received.now) code }
     {
-        let Reply {
-            request,
-            places,
-            bytes,
-            kept,
-        } = reply;
-        let bytes = notified(self.options.method, id_of(received), places, bytes);
-        let sent = Sent {
-            request,
-            bytes,
-            kept,
-        };
+        let sent = reply.plain(self.heading(received), Plain::Notified);
         let state = PeerState::Refusing(PeerWhy::Notified(code));
         self.answer(received, state, sent, noted(None), false)
     }
 
     /// Sends the last answer again.
     fn again(&self, alloc: Global) -> Result<Turn<PeerWhy>, NoMemory>
-        ensures { IfOk result (λ turn. (self.now, turn) ≡ again self.now self.now.last) }
+        ensures { IfOk result (λ turn. (self.now, turn) ≡ again self.now) }
     {
-        let Some(last) = &self.last else {
-            return Ok(self.ignore(Reason::Unexpected));
-        };
-        let bytes = Octets::copied_from(alloc, last.answer.as_slice())?;
+        let bytes = Octets::copied_from(alloc, self.last_answer())?;
         Ok(Turn {
             notes: noted(None),
             step: Step::Sent(bytes),
@@ -269,8 +236,6 @@ impl Peer {
         device: &Device,
         received: &Received,
     ) -> Result<Turn<PeerWhy>, NoMemory>
-        requires { length device.now.realm ≤ 255 }
-
         ensures step { IfOk result (λ turn. (self.new, turn) ≡ first self.old (seen_of received.now)
             (first_text self.old.options.method (subscription_of device.now) device.now.store self.old.options.first)) }
         ensures kept { OnErr result (self.new ≡ self.old) }

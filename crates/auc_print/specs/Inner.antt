@@ -1,6 +1,7 @@
 -- Inner facts: what only private contracts of this crate cite.
-use Rattle.std.specs.Prelude.{ℕ, ◌≡◌, Bool, true, false, List, [], ◌∷◌, ◌++◌, map, take, drop, flat_map, Option, Some, None, codes}
+use Rattle.std.specs.Prelude.{ℕ, ◌≡◌, Bool, true, false, List, [], ◌∷◌, ◌++◌, map, take, drop, flat_map, Option, Some, None, Result, OnOk, codes}
 use Rattle.hex.specs.Hex.{encode_lower}
+use Rattle.auc_edge.specs.declared.no_memory.NoMemory.{NoMemory}
 use Rattle.auc_vector.specs.declared.turn.Outcome.TheVariants as outcome
 use Rattle.auc_vector.specs.declared.turn.Step.{Step}
 use Rattle.auc_vector.specs.declared.turn.Step.TheVariants as step
@@ -24,6 +25,11 @@ use Rattle.auc_print.specs.Text.{broken_words, bytes_words, identities_of, recor
 pub record IsFrontOf (front text : List ℕ) : Type 0 where
   pub rest : List ℕ
   pub is : text ≡ front ++ rest
+
+-- what an append did: the text was appended, or if memory ran out, maybe a part of it; what stood there before stays in front
+pub record Prints (result : Result (Unit {0}) NoMemory) (old new text : List ℕ) : Type 0 where
+  pub printed : OnOk result (new ≡ old ++ text)
+  pub grows : IsFrontOf old new
 
 -- words, each after a space
 abbrev pub after_spaces : List (List ℕ) → List ℕ

@@ -2,11 +2,11 @@
 
 ghost use Rattle.std.specs.Prelude.{◌≡◌, ◌++◌, OnOk};
 ghost use Rattle.auc_print.specs.EventText.{came_lines, keys_words, packet_lines, step_lines, step_sent, what_lines, what_sent};
-ghost use Rattle.auc_print.specs.Inner.{IsFrontOf, lines_text};
+ghost use Rattle.auc_print.specs.Inner.{Prints, lines_text};
 ghost use Rattle.auc_print.specs.Text.{shown_lines, spaced};
 
 use crate::further::print_further_lines;
-use crate::word::Word;
+use crate::word::{Word, decimal};
 use crate::writer::print_line;
 use auc_edge::{NoMemory, Octets};
 use auc_hmac::KeySet;
@@ -16,8 +16,7 @@ use auc_world::{LineRecord, Note, NoteStep, WorldRefusal};
 /// Appends the lines that a full print adds after a record's, besides the bytes of a vector and an AUTS: K_SEAF of a confirmed
 /// 5G authentication, or the packet that was sent or made in an event or a session of EAP-SIM, and the keys of its Success.
 pub fn print_added(answer: &LineRecord, out: &mut Octets) -> Result<(), NoMemory>
-    ensures printed { OnOk result (out.new ≡ out.old ++ lines_text (shown_lines answer.now)) }
-    ensures grows { IsFrontOf out.old out.new }
+    ensures { Prints result out.old out.new (lines_text (shown_lines answer.now)) }
 {
     match answer {
         LineRecord::Further(further) => print_further_lines(further.said(), out),
@@ -32,8 +31,7 @@ pub fn print_added(answer: &LineRecord, out: &mut Octets) -> Result<(), NoMemory
 
 /// Appends the lines of what came of an event.
 fn print_came_lines(came: &Result<Note, WorldRefusal>, out: &mut Octets) -> Result<(), NoMemory>
-    ensures printed { OnOk result (out.new ≡ out.old ++ lines_text (came_lines came.now)) }
-    ensures grows { IsFrontOf out.old out.new }
+    ensures { Prints result out.old out.new (lines_text (came_lines came.now)) }
 {
     match came {
         Ok(note) => {
@@ -46,16 +44,11 @@ fn print_came_lines(came: &Result<Note, WorldRefusal>, out: &mut Octets) -> Resu
 
 /// Appends the line of a packet, if there is one.
 pub fn print_packet(packet: Option<u32>, bytes: &[u8], out: &mut Octets) -> Result<(), NoMemory>
-    ensures printed { OnOk result
-        (out.new ≡ out.old ++ lines_text (packet_lines packet bytes.now)) }
-    ensures grows { IsFrontOf out.old out.new }
+    ensures { Prints result out.old out.new (lines_text (packet_lines packet bytes.now)) }
 {
     match packet {
         None => Ok(()),
-        Some(packet) => {
-            let packet = Word::Number(u64::from(packet));
-            print_line(b"packet", &[packet, Word::Hex(bytes)], out)
-        }
+        Some(packet) => print_line(b"packet", &[decimal(packet), Word::Hex(bytes)], out),
     }
 }
 
@@ -84,8 +77,7 @@ pub fn bytes_of<W: Drop>(what: &Step<W>) -> &[u8]
 
 /// Appends the line of the keys of Success, if a step ended so.
 fn print_step_lines(step: &NoteStep, out: &mut Octets) -> Result<(), NoMemory>
-    ensures printed { OnOk result (out.new ≡ out.old ++ lines_text (step_lines step.now)) }
-    ensures grows { IsFrontOf out.old out.new }
+    ensures { Prints result out.old out.new (lines_text (step_lines step.now)) }
 {
     match step {
         NoteStep::Opened | NoteStep::Made(_) => Ok(()),
@@ -96,8 +88,7 @@ fn print_step_lines(step: &NoteStep, out: &mut Octets) -> Result<(), NoMemory>
 
 /// Appends the line of the keys of Success, if an end ended so.
 pub fn print_what_lines<W: Drop>(what: &Step<W>, out: &mut Octets) -> Result<(), NoMemory>
-    ensures printed { OnOk result (out.new ≡ out.old ++ lines_text (what_lines what.now)) }
-    ensures grows { IsFrontOf out.old out.new }
+    ensures { Prints result out.old out.new (lines_text (what_lines what.now)) }
 {
     match what {
         Step::Ended(Outcome::Success(keys), _) => print_keys(keys, out),
@@ -107,8 +98,7 @@ pub fn print_what_lines<W: Drop>(what: &Step<W>, out: &mut Octets) -> Result<(),
 
 /// Appends the line of the keys of Success.
 fn print_keys(keys: &KeySet, out: &mut Octets) -> Result<(), NoMemory>
-    ensures printed { OnOk result (out.new ≡ out.old ++ spaced (keys_words keys.now)) }
-    ensures grows { IsFrontOf out.old out.new }
+    ensures { Prints result out.old out.new (spaced (keys_words keys.now)) }
 {
     let words = [
         Word::Hex(&keys.k_encr),

@@ -2,7 +2,7 @@
 
 ghost use Rattle.std.specs.Prelude.{◌≡◌, ◌++◌, OnOk, Some, drop, length, slice_get};
 ghost use Rattle.auc_print.specs.AutsText.{auts_after, auts_lines, event_auts, packet_among, rand_among, rand_delivered, rand_in};
-ghost use Rattle.auc_print.specs.Inner.{IsFrontOf, lines_text};
+ghost use Rattle.auc_print.specs.Inner.{Prints, lines_text};
 
 use crate::added::bytes_of_step;
 use crate::word::Word;
@@ -19,9 +19,7 @@ pub fn print_auts(
     set: &Setting,
     out: &mut Octets,
 ) -> Result<(), NoMemory>
-    ensures printed { OnOk result
-        (out.new ≡ out.old ++ lines_text (auts_after set.now job.now answer.now)) }
-    ensures grows { IsFrontOf out.old out.new }
+    ensures { Prints result out.old out.new (lines_text (auts_after set.now job.now answer.now)) }
 {
     match answer {
         LineRecord::Give {
@@ -49,9 +47,7 @@ fn print_of_event(
     set: &Setting,
     out: &mut Octets,
 ) -> Result<(), NoMemory>
-    ensures printed { OnOk result
-        (out.new ≡ out.old ++ lines_text (event_auts set.now job.now event.now)) }
-    ensures grows { IsFrontOf out.old out.new }
+    ensures { Prints result out.old out.new (lines_text (event_auts set.now job.now event.now)) }
 {
     let Ok(note) = &event.result else {
         return Ok(());
@@ -72,9 +68,8 @@ fn print_failure(
     set: &Setting,
     out: &mut Octets,
 ) -> Result<(), NoMemory>
-    ensures printed { OnOk result
-        (out.new ≡ out.old ++ lines_text (auts_lines (slice_get set.now.rows sub) rand sqn_ms)) }
-    ensures grows { IsFrontOf out.old out.new }
+    ensures { Prints result out.old out.new
+        (lines_text (auts_lines (slice_get set.now.rows sub) rand sqn_ms)) }
 {
     let Some(rand) = rand else {
         return Ok(());

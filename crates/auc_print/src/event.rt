@@ -2,13 +2,13 @@
 
 ghost use Rattle.std.specs.Prelude.{◌≡◌, ◌++◌, ◌∷◌, [], OnOk};
 ghost use Rattle.auc_print.specs.EventText.{came_words, end_word, event_words, peer_words, reason_word, refusal_words, sent_word, sent_words, server_words};
-ghost use Rattle.auc_print.specs.Inner.{IsFrontOf, after_spaces, did_words, ended_words, group_texts, why_words};
+ghost use Rattle.auc_print.specs.Inner.{Prints, after_spaces, did_words, ended_words, group_texts, why_words};
 ghost use Rattle.auc_print.specs.Numeral.{numeral};
 ghost use Rattle.auc_print.specs.OneText.{CameFits, EventFits};
 ghost use Rattle.auc_print.specs.Text.{spaced};
 
 use crate::notes::{print_notes, stopped};
-use crate::word::{Group, Word, byte_word, none, one, pair, two, value};
+use crate::word::{Group, Word, byte_word, decimal, none, one, pair, two, value};
 use crate::writer::print_group;
 use auc_edge::{NoMemory, Octets};
 use auc_peer::PeerWhy;
@@ -18,9 +18,8 @@ use auc_world::{End, Event, EventRecord, Note, NoteStep, WorldRefusal};
 
 /// Appends the line of an event and of what came of it.
 pub fn print_event(event: &EventRecord, out: &mut Octets) -> Result<(), NoMemory>
-    ensures printed { OnOk result (out.new ≡ out.old
-        ++ spaced (event_words event.now.event ++ came_words event.now.result)) }
-    ensures grows { IsFrontOf out.old out.new }
+    ensures text { Prints result out.old out.new
+        (spaced (event_words event.now.event ++ came_words event.now.result)) }
     ensures deed { OnOk result (EventFits event.now.event) }
     ensures fits { OnOk result (CameFits event.now.result) }
 {
@@ -33,8 +32,7 @@ pub fn print_event(event: &EventRecord, out: &mut Octets) -> Result<(), NoMemory
 
 /// Appends what came of an event.
 fn print_came(came: &Result<Note, WorldRefusal>, out: &mut Octets) -> Result<(), NoMemory>
-    ensures printed { OnOk result (out.new ≡ out.old ++ after_spaces (came_words came.now)) }
-    ensures grows { IsFrontOf out.old out.new }
+    ensures text { Prints result out.old out.new (after_spaces (came_words came.now)) }
     ensures fits { OnOk result (CameFits came.now) }
 {
     match came {
@@ -54,61 +52,36 @@ fn words_of_deed(event: &Event) -> (&'static [u8], Group<'static>)
     ensures fits { EventFits event.now }
 {
     match *event {
-        Event::Open(ref opening) => (b"session", alone(opening.session)),
-        Event::Start(session) => (b"start", alone(session)),
+        Event::Open(ref opening) => (
+            b"session",
+            [decimal(opening.session), Word::Nothing, Word::Nothing],
+        ),
+        Event::Start(session) => (b"start", [decimal(session), Word::Nothing, Word::Nothing]),
         Event::Deliver {
             session,
             end,
             packet,
-        } => (
-            b"deliver",
-            [
-                Word::Number(u64::from(session)),
-                Word::Text(word_of_end(end)),
-                Word::Number(u64::from(packet)),
-            ],
-        ),
-        Event::Repeat(session) => (b"repeat", alone(session)),
-        Event::GiveUp { session, end } => (
-            b"giveup",
-            [
-                Word::Number(u64::from(session)),
-                Word::Text(word_of_end(end)),
-                Word::Nothing,
-            ],
-        ),
+        } => {
+            let end = Word::Text(word_of_end(end));
+            (b"deliver", [decimal(session), end, decimal(packet)])
+        }
+        Event::Repeat(session) => (b"repeat", [decimal(session), Word::Nothing, Word::Nothing]),
+        Event::GiveUp { session, end } => {
+            let end = Word::Text(word_of_end(end));
+            (b"giveup", [decimal(session), end, Word::Nothing])
+        }
         Event::Tamper {
             packet,
             place,
             byte,
         } => (
             b"tamper",
-            [
-                Word::Number(u64::from(packet)),
-                Word::Number(u64::from(place)),
-                byte_word(byte),
-            ],
+            [decimal(packet), decimal(place), byte_word(byte)],
         ),
-        Event::Cut { packet, length } => (
-            b"cut",
-            [
-                Word::Number(u64::from(packet)),
-                Word::Number(u64::from(length)),
-                Word::Nothing,
-            ],
-        ),
+        Event::Cut { packet, length } => {
+            (b"cut", [decimal(packet), decimal(length), Word::Nothing])
+        }
     }
-}
-
-/// A session alone.
-fn alone(session: u32) -> Group<'static>
-    ensures { group_texts result ≡ numeral session ∷ [] }
-{
-    [
-        Word::Number(u64::from(session)),
-        Word::Nothing,
-        Word::Nothing,
-    ]
 }
 
 /// The word of an end.

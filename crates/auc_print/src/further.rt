@@ -3,7 +3,7 @@
 
 ghost use Rattle.std.specs.Prelude.{◌≡◌, ◌++◌, length, OnOk};
 ghost use Rattle.auc_world.specs.Record.{IsBelow, further_subscriber};
-ghost use Rattle.auc_print.specs.Inner.{IsFrontOf, lines_text};
+ghost use Rattle.auc_print.specs.Inner.{Prints, lines_text};
 ghost use Rattle.auc_print.specs.OneText.{FurtherFits};
 ghost use Rattle.auc_print.specs.Text.{fiveg_word, further_lines, further_words, identities_of, seaf_words, spaced};
 
@@ -19,9 +19,8 @@ use auc_world::{FivegOutcome, Further};
 pub fn print_further(said: &Further, subs: &Subscribers, out: &mut Octets) -> Result<(), NoMemory>
     requires { IsBelow (length subs.now) (further_subscriber said.now) }
 
-    ensures printed { OnOk result
-        (out.new ≡ out.old ++ spaced (further_words (identities_of subs.now) said.now)) }
-    ensures grows { IsFrontOf out.old out.new }
+    ensures text { Prints result out.old out.new
+        (spaced (further_words (identities_of subs.now) said.now)) }
     ensures fits { OnOk result (FurtherFits said.now) }
 {
     match said {
@@ -53,8 +52,7 @@ fn word_of_fiveg(outcome: &FivegOutcome) -> &'static [u8]
 /// Appends the lines that a full print adds after it: K_SEAF of the home network and of the device, if a 5G authentication is
 /// confirmed; or the packet that was sent in a session of EAP-SIM, and the keys of Success.
 pub fn print_further_lines(said: &Further, out: &mut Octets) -> Result<(), NoMemory>
-    ensures printed { OnOk result (out.new ≡ out.old ++ lines_text (further_lines said.now)) }
-    ensures grows { IsFrontOf out.old out.new }
+    ensures { Prints result out.old out.new (lines_text (further_lines said.now)) }
 {
     match said {
         Further::Fiveg {
@@ -69,8 +67,7 @@ pub fn print_further_lines(said: &Further, out: &mut Octets) -> Result<(), NoMem
 
 /// Appends the line of K_SEAF of both ends.
 fn print_both(home: &[u8; 32], device: &[u8; 32], out: &mut Octets) -> Result<(), NoMemory>
-    ensures printed { OnOk result (out.new ≡ out.old ++ spaced (seaf_words home.now device.now)) }
-    ensures grows { IsFrontOf out.old out.new }
+    ensures { Prints result out.old out.new (spaced (seaf_words home.now device.now)) }
 {
     print_line(b"seaf", &[Word::Hex(home), Word::Hex(device)], out)
 }

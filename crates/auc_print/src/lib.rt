@@ -9,7 +9,7 @@
 //! which [`append_hex_digits`] writes. A text tells its transcript ([`each_text_has_one_transcript`]).
 //!
 //! Contracts see a round as its record and the text as a list of bytes. Printing takes memory for the
-//! text alone. If memory runs out, the text stays as it was. The tests stand in `auc_text_tests`.
+//! text alone. If memory runs out, the text stays as it was. The tests stand in `auc_round_tests`.
 #![tactic(auto)]
 
 mod added;

@@ -3,7 +3,7 @@
 ghost use Rattle.std.specs.Prelude.{◌≡◌, ◌++◌, ◌∷◌, [], ◌<◌, codes, flat_map, length, take, All, OnOk};
 ghost use Rattle.auc_world.specs.Record.{IsBelow, subscriber_of};
 ghost use Rattle.auc_print.specs.EventText.{agree_word};
-ghost use Rattle.auc_print.specs.Inner.{IsFrontOf, bytes_text, group_texts, premise_text};
+ghost use Rattle.auc_print.specs.Inner.{Prints, bytes_text, group_texts, premise_text};
 ghost use Rattle.auc_print.specs.Numeral.{numeral};
 ghost use Rattle.auc_print.specs.OneText.{AnswerFits, GiveFits};
 ghost use Rattle.auc_print.specs.Text.{broken_words, closing_words, give_words, identities_of, record_words, session_words, spaced, sync_words};
@@ -11,7 +11,7 @@ ghost use Rattle.auc_print.specs.Text.{broken_words, closing_words, give_words, 
 use crate::event::{print_event, word_of_end};
 use crate::further::print_further;
 use crate::notes::word_of;
-use crate::word::{Group, Word, one, pair};
+use crate::word::{Group, Word, decimal, one, pair};
 use crate::writer::{print_line, print_named};
 use auc_edge::{NoMemory, Octets};
 use auc_subs::Subscribers;
@@ -26,9 +26,8 @@ pub fn print_record(
 ) -> Result<(), NoMemory>
     requires { IsBelow (length subs.now) (subscriber_of answer.now) }
 
-    ensures printed { OnOk result
-        (out.new ≡ out.old ++ spaced (record_words (identities_of subs.now) answer.now)) }
-    ensures grows { IsFrontOf out.old out.new }
+    ensures text { Prints result out.old out.new
+        (spaced (record_words (identities_of subs.now) answer.now)) }
     ensures fits { OnOk result (AnswerFits answer.now) }
 {
     match answer {
@@ -85,10 +84,8 @@ pub fn print_closings(
 ) -> Result<(), NoMemory>
     requires { All (λ closing. closing.sub < length subs.now) closings.now }
 
-    ensures printed { OnOk result (out.new ≡ out.old
-        ++ flat_map (λ closing. spaced (closing_words (identities_of subs.now) closing))
-        closings.now) }
-    ensures grows { IsFrontOf out.old out.new }
+    ensures { Prints result out.old out.new
+        (flat_map (λ closing. spaced (closing_words (identities_of subs.now) closing)) closings.now) }
 {
     for closing in closings {
         let words = [
@@ -106,14 +103,12 @@ pub fn print_closings(
 
 /// Appends the lines of the verdicts on a round's sessions.
 pub fn print_sessions(sessions: &[SessionVerdict], out: &mut Octets) -> Result<(), NoMemory>
-    ensures printed { OnOk result (out.new ≡ out.old
-        ++ flat_map (λ verdict. spaced (session_words verdict)) sessions.now) }
-    ensures grows { IsFrontOf out.old out.new }
+    ensures { Prints result out.old out.new
+        (flat_map (λ verdict. spaced (session_words verdict)) sessions.now) }
 {
     for verdict in sessions {
-        let session = Word::Number(u64::from(verdict.session));
         let agree = Word::Text(word_of_verdict(verdict.agree));
-        print_line(b"session", &[session, agree], out)?;
+        print_line(b"session", &[decimal(verdict.session), agree], out)?;
     }
     Ok(())
 }
@@ -127,8 +122,7 @@ pub fn word_of_verdict(agree: bool) -> &'static [u8]
 
 /// Appends the line of a round's premise, if the round has sessions.
 pub fn print_premise(premise: Premise, out: &mut Octets) -> Result<(), NoMemory>
-    ensures printed { OnOk result (out.new ≡ out.old ++ premise_text premise) }
-    ensures grows { IsFrontOf out.old out.new }
+    ensures { Prints result out.old out.new (premise_text premise) }
 {
     match premise {
         Premise::NoSession => Ok(()),
@@ -139,23 +133,21 @@ pub fn print_premise(premise: Premise, out: &mut Octets) -> Result<(), NoMemory>
 
 /// Appends the line of the delivery that breaks the premise.
 fn print_broken(job: u32, breach: Breach, out: &mut Octets) -> Result<(), NoMemory>
-    ensures printed { OnOk result (out.new ≡ out.old ++ spaced (broken_words job breach)) }
-    ensures grows { IsFrontOf out.old out.new }
+    ensures { Prints result out.old out.new (spaced (broken_words job breach)) }
 {
     let words = [
         Word::Text(b"broken"),
-        Word::Number(u64::from(job)),
-        Word::Number(u64::from(breach.session)),
+        decimal(job),
+        decimal(breach.session),
         Word::Text(word_of_end(breach.end)),
-        Word::Number(u64::from(breach.packet)),
+        decimal(breach.packet),
     ];
     print_line(b"premise", &words, out)
 }
 
 /// Appends the line of the first vector's bytes, if there is one.
 pub fn print_first(vectors: &[Vector], out: &mut Octets) -> Result<(), NoMemory>
-    ensures printed { OnOk result (out.new ≡ out.old ++ bytes_text (take 1 vectors.now)) }
-    ensures grows { IsFrontOf out.old out.new }
+    ensures { Prints result out.old out.new (bytes_text (take 1 vectors.now)) }
 {
     let [vector, ..] = vectors else {
         return Ok(());

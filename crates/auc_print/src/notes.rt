@@ -2,7 +2,7 @@
 
 ghost use Rattle.std.specs.Prelude.{◌≡◌, ◌++◌, ◌∷◌, [], OnOk};
 ghost use Rattle.auc_print.specs.EventText.{counter_words, notes_words, number_words, resumed_words, resync_words, stop_word, usim_words};
-ghost use Rattle.auc_print.specs.Inner.{IsFrontOf, after_spaces, group_texts};
+ghost use Rattle.auc_print.specs.Inner.{Prints, after_spaces, group_texts};
 ghost use Rattle.auc_print.specs.Numeral.{numeral};
 ghost use Rattle.auc_print.specs.OneText.{UsimFits};
 
@@ -13,8 +13,7 @@ use auc_vector::{CounterNote, Notes, NumberNote, ResyncNote, UsimNote};
 
 /// Appends the words of the notes, each after a space.
 pub fn print_notes(notes: &Notes, out: &mut Octets) -> Result<(), NoMemory>
-    ensures printed { OnOk result (out.new ≡ out.old ++ after_spaces (notes_words notes.now)) }
-    ensures grows { IsFrontOf out.old out.new }
+    ensures text { Prints result out.old out.new (after_spaces (notes_words notes.now)) }
     ensures fits { OnOk result (UsimFits notes.now.usim) }
 {
     print_group(&words_of_resync(notes.resync), out)?;

@@ -3,7 +3,7 @@
 ghost use Rattle.std.specs.Prelude.{◌≡◌, ◌++◌, ◌<◌, [], drop, length, map, All, IsTrue, OnOk, OnErr, flat_map, if◌then◌else◌, slice_index_or};
 ghost use Rattle.auc_world.specs.Record.{IsBelow, NamesBelow, subscriber_of};
 ghost use Rattle.auc_world.specs.Vectors.{vectors_in};
-ghost use Rattle.auc_print.specs.Inner.{IsFrontOf, answer_text, answers_text, bytes_text, left_after, shown_after};
+ghost use Rattle.auc_print.specs.Inner.{Prints, answer_text, answers_text, bytes_text, left_after, shown_after};
 ghost use Rattle.auc_print.specs.OneText.{AnswerFits, RoundFits};
 ghost use Rattle.auc_print.specs.Text.{identities_of, jobs_lines, line_text, restart_text, round_text};
 
@@ -66,8 +66,7 @@ fn print_lines(
     requires vectors { vectors.now
         ≡ (if full then map (vectors_in set.now) round.now.jobs else []) }
 
-    ensures printed { OnOk result (out.new ≡ out.old ++ round_text set.now full round.now) }
-    ensures grows { IsFrontOf out.old out.new }
+    ensures text { Prints result out.old out.new (round_text set.now full round.now) }
     ensures fits { OnOk result (RoundFits round.now) }
 {
     print_line(b"round", &[Word::Number(round.number)], out)?;
@@ -88,9 +87,8 @@ fn print_jobs(
     requires named { All (All (λ answer. IsBelow (length set.now.rows) (subscriber_of answer))) jobs.now }
     requires vectors { vectors.now ≡ (if full then map (vectors_in set.now) jobs.now else []) }
 
-    ensures printed { OnOk result (out.new ≡ out.old
-        ++ flat_map (line_text set.now full) (jobs_lines 1 jobs.now)) }
-    ensures grows { IsFrontOf out.old out.new }
+    ensures text { Prints result out.old out.new
+        (flat_map (line_text set.now full) (jobs_lines 1 jobs.now)) }
     ensures fits { OnOk result (All (All AnswerFits) jobs.now) }
 {
     for (place, job) in jobs.iter().enumerate() {
@@ -120,9 +118,8 @@ fn print_answers(
 ) -> Result<(), NoMemory>
     requires { All (λ answer. IsBelow (length set.now.rows) (subscriber_of answer)) job.now }
 
-    ensures printed { OnOk result (out.new ≡ out.old
-        ++ answers_text set.now full job.now job.now vectors.now) }
-    ensures grows { IsFrontOf out.old out.new }
+    ensures text { Prints result out.old out.new
+        (answers_text set.now full job.now job.now vectors.now) }
     ensures fits { OnOk result (All AnswerFits job.now) }
 {
     let mut left = vectors;
@@ -145,9 +142,8 @@ fn print_answer(
 ) -> Result<(), NoMemory>
     requires { IsBelow (length set.now.rows) (subscriber_of answer.now) }
 
-    ensures printed { OnOk result
-        (out.new ≡ out.old ++ answer_text set.now full job.now answer.now vectors.now) }
-    ensures grows { IsFrontOf out.old out.new }
+    ensures text { Prints result out.old out.new
+        (answer_text set.now full job.now answer.now vectors.now) }
     ensures fits { OnOk result (AnswerFits answer.now) }
 {
     print_record(answer, set.subs, out)?;
@@ -162,9 +158,7 @@ fn print_answer(
 
 /// Appends the line of the first vector's bytes, if the record releases a vector and there is one.
 fn print_shown(answer: &LineRecord, vectors: &[Vector], out: &mut Octets) -> Result<(), NoMemory>
-    ensures printed { OnOk result
-        (out.new ≡ out.old ++ bytes_text (shown_after answer.now vectors.now)) }
-    ensures grows { IsFrontOf out.old out.new }
+    ensures { Prints result out.old out.new (bytes_text (shown_after answer.now vectors.now)) }
 {
     match answer {
         LineRecord::Vector { .. } => print_first(vectors, out),

@@ -2,14 +2,15 @@
 
 ghost use Rattle.std.specs.Prelude.{◌≡◌, ◌++◌, ◌∷◌, OnOk};
 ghost use Rattle.auc_print.specs.EventText.{end_word, what_words};
-ghost use Rattle.auc_print.specs.Inner.{IsFrontOf, group_texts, lines_text, word_texts};
+ghost use Rattle.auc_print.specs.Inner.{Prints, group_texts, lines_text, word_texts};
 ghost use Rattle.auc_print.specs.Numeral.{numeral};
 ghost use Rattle.auc_print.specs.SimText.{became_lines, became_words, sim_lines, sim_why_words, sim_words};
 
 use crate::added::{bytes_of, print_packet, print_what_lines};
 use crate::event::{word_of_end, word_of_reason};
 use crate::line::word_of_verdict;
-use crate::word::{Group, Word, one};
+use crate::word::Word::{Nothing, Number, Text};
+use crate::word::{Group, Word, decimal, one};
 use auc_edge::{NoMemory, Octets};
 use auc_sim::{SimBecame, SimNote, SimWhy};
 use auc_vector::{Outcome, Step};
@@ -20,7 +21,7 @@ pub fn words_of_sim(note: &SimNote) -> [Word<'static>; 8]
     ensures { group_texts result ≡ sim_words note.now }
 {
     match note {
-        SimNote::Started(_) => eight([Word::Text(b"start"), Word::Text(b"sent"), Word::Number(1)]),
+        SimNote::Started(_) => eight([Text(b"start"), Text(b"sent"), Number(1)]),
         SimNote::Delivered {
             end,
             packet,
@@ -35,8 +36,8 @@ fn words_of_delivery(end: End, packet: u32, became: &SimBecame) -> [Word<'static
     ensures { group_texts result ≡ end_word end ∷ numeral packet ∷ became_words became.now }
 {
     let [first, second, third, fourth, fifth, sixth] = words_of_became(became);
-    let end = Word::Text(word_of_end(end));
-    let packet = Word::Number(u64::from(packet));
+    let end = Text(word_of_end(end));
+    let packet = decimal(packet);
     [end, packet, first, second, third, fourth, fifth, sixth]
 }
 
@@ -45,17 +46,10 @@ fn words_of_became(became: &SimBecame) -> [Word<'static>; 6]
     ensures { group_texts result ≡ became_words became.now }
 {
     match became {
-        SimBecame::NoSuchPacket => six(
-            Word::Text(b"nosuchpacket"),
-            Word::Nothing,
-            [Word::Nothing; 4],
-        ),
+        SimBecame::NoSuchPacket => six(Text(b"nosuchpacket"), Nothing, [Nothing; 4]),
         SimBecame::Did { step, sent } => match *sent {
-            None => six(Word::Nothing, Word::Nothing, words_of_did(step)),
-            Some(packet) => {
-                let packet = Word::Number(u64::from(packet));
-                six(Word::Text(b"sent"), packet, words_of_did(step))
-            }
+            None => six(Nothing, Nothing, words_of_did(step)),
+            Some(packet) => six(Text(b"sent"), decimal(packet), words_of_did(step)),
         },
     }
 }
@@ -65,10 +59,10 @@ fn words_of_did(step: &Step<SimWhy>) -> [Word<'static>; 4]
     ensures { group_texts result ≡ what_words sim_why_words step.now }
 {
     match step {
-        Step::Sent(_) => [Word::Nothing; 4],
-        Step::Ended(Outcome::Success(_), _) => four(b"ended", b"success", [Word::Nothing; 2]),
+        Step::Sent(_) => [Nothing; 4],
+        Step::Ended(Outcome::Success(_), _) => four(b"ended", b"success", [Nothing; 2]),
         Step::Ended(Outcome::Failure(why), _) => four(b"ended", b"failure", words_of_why(*why)),
-        Step::Ignored(reason) => four(b"ignored", word_of_reason(*reason), [Word::Nothing; 2]),
+        Step::Ignored(reason) => four(b"ignored", word_of_reason(*reason), [Nothing; 2]),
     }
 }
 
@@ -77,14 +71,11 @@ fn words_of_why(why: SimWhy) -> [Word<'static>; 2]
     ensures { group_texts result ≡ sim_why_words why }
 {
     match why {
-        SimWhy::WrongMac => [Word::Text(b"wrongmac"), Word::Nothing],
-        SimWhy::ClientError(code) => {
-            let code = Word::Number(u64::from(code));
-            [Word::Text(b"clienterror"), code]
-        }
-        SimWhy::Version => [Word::Text(b"version"), Word::Nothing],
-        SimWhy::NotFresh => [Word::Text(b"notfresh"), Word::Nothing],
-        SimWhy::FailureReceived => [Word::Text(b"failurereceived"), Word::Nothing],
+        SimWhy::WrongMac => [Text(b"wrongmac"), Nothing],
+        SimWhy::ClientError(code) => [Text(b"clienterror"), Number(u64::from(code))],
+        SimWhy::Version => [Text(b"version"), Nothing],
+        SimWhy::NotFresh => [Text(b"notfresh"), Nothing],
+        SimWhy::FailureReceived => [Text(b"failurereceived"), Nothing],
     }
 }
 
@@ -97,7 +88,7 @@ fn four(
     ensures { group_texts result ≡ first.now ∷ second.now ∷ group_texts others.entry }
 {
     let [third, fourth] = others;
-    [Word::Text(first), Word::Text(second), third, fourth]
+    [Text(first), Text(second), third, fourth]
 }
 
 /// The first two words before the others.
@@ -117,14 +108,13 @@ fn eight(words: Group<'static>) -> [Word<'static>; 8]
     ensures { group_texts result ≡ group_texts words.entry }
 {
     let [first, second, third] = words;
-    let none = Word::Nothing;
+    let none = Nothing;
     [first, second, third, none, none, none, none, none]
 }
 
 /// Appends the lines that a full print adds after the line: the packet that was sent, and the keys of Success.
 pub fn print_sim_lines(note: &SimNote, out: &mut Octets) -> Result<(), NoMemory>
-    ensures printed { OnOk result (out.new ≡ out.old ++ lines_text (sim_lines note.now)) }
-    ensures grows { IsFrontOf out.old out.new }
+    ensures { Prints result out.old out.new (lines_text (sim_lines note.now)) }
 {
     match note {
         SimNote::Started(bytes) => print_packet(Some(1), bytes.as_slice(), out),
@@ -135,8 +125,7 @@ pub fn print_sim_lines(note: &SimNote, out: &mut Octets) -> Result<(), NoMemory>
 
 /// Appends the lines of what became of a packet.
 fn print_became_lines(became: &SimBecame, out: &mut Octets) -> Result<(), NoMemory>
-    ensures printed { OnOk result (out.new ≡ out.old ++ lines_text (became_lines became.now)) }
-    ensures grows { IsFrontOf out.old out.new }
+    ensures { Prints result out.old out.new (lines_text (became_lines became.now)) }
 {
     match became {
         SimBecame::NoSuchPacket => Ok(()),

@@ -5,7 +5,8 @@ ghost use Rattle.auc_print.specs.Inner.{group_texts};
 ghost use Rattle.auc_print.specs.Numeral.{numeral};
 ghost use Rattle.auc_print.specs.SitesText.{delivery_words, sites_words};
 
-use crate::word::Word;
+use crate::word::Word::{Nothing, Number, Text};
+use crate::word::{Word, decimal};
 use auc_world::{SitesNote, SitesOutcome};
 
 /// What happened in an event.
@@ -27,8 +28,8 @@ fn words_of_delivery(packet: u32, outcome: SitesOutcome) -> [Word<'static>; 6]
     ensures { group_texts result ≡ codes "deliver" ∷ numeral packet ∷ delivery_words outcome }
 {
     let [first, second, third, fourth] = words_of_outcome(outcome);
-    let packet = Word::Number(u64::from(packet));
-    [Word::Text(b"deliver"), packet, first, second, third, fourth]
+    let packet = decimal(packet);
+    [Text(b"deliver"), packet, first, second, third, fourth]
 }
 
 /// What became of a packet that was delivered.
@@ -50,28 +51,21 @@ fn words_of_outcome(outcome: SitesOutcome) -> [Word<'static>; 4]
 fn alone(text: &'static [u8]) -> [Word<'static>; 4]
     ensures { group_texts result ≡ text.now ∷ [] }
 {
-    [
-        Word::Text(text),
-        Word::Nothing,
-        Word::Nothing,
-        Word::Nothing,
-    ]
+    [Text(text), Nothing, Nothing, Nothing]
 }
 
 /// A word and a number.
 fn valued(text: &'static [u8], count: u32) -> [Word<'static>; 4]
     ensures { group_texts result ≡ text.now ∷ numeral count ∷ [] }
 {
-    let count = Word::Number(u64::from(count));
-    [Word::Text(text), count, Word::Nothing, Word::Nothing]
+    [Text(text), decimal(count), Nothing, Nothing]
 }
 
 /// A word, a number and another word.
 fn worded(first: &'static [u8], count: u32, second: &'static [u8]) -> [Word<'static>; 4]
     ensures { group_texts result ≡ first.now ∷ numeral count ∷ second.now ∷ [] }
 {
-    let count = Word::Number(u64::from(count));
-    [Word::Text(first), count, Word::Text(second), Word::Nothing]
+    [Text(first), decimal(count), Text(second), Nothing]
 }
 
 /// Two words, each with a number.
@@ -79,17 +73,11 @@ fn counted(
     first: &'static [u8],
     count: u32,
     second: &'static [u8],
-    number: u64,
+    other: u64,
 ) -> [Word<'static>; 4]
-    ensures { group_texts result ≡ first.now ∷ numeral count ∷ second.now ∷ numeral number ∷ [] }
+    ensures { group_texts result ≡ first.now ∷ numeral count ∷ second.now ∷ numeral other ∷ [] }
 {
-    let count = Word::Number(u64::from(count));
-    [
-        Word::Text(first),
-        count,
-        Word::Text(second),
-        Word::Number(number),
-    ]
+    [Text(first), decimal(count), Text(second), Number(other)]
 }
 
 /// A word, a number and the packet that is sent.
@@ -104,5 +92,5 @@ fn filled(words: [Word<'static>; 4]) -> [Word<'static>; 6]
     ensures { group_texts result ≡ group_texts words.entry }
 {
     let [first, second, third, fourth] = words;
-    [first, second, third, fourth, Word::Nothing, Word::Nothing]
+    [first, second, third, fourth, Nothing, Nothing]
 }

@@ -60,7 +60,7 @@ pub fn pair(text: &[u8], first: u64, second: u64) -> Group<'_>
     [Word::Text(text), Word::Number(first), Word::Number(second)]
 }
 
-/// A word and an SQN.
+/// A word and an SQN. It brings into the proof that the SQN has bytes.
 pub fn sqn_after(text: &[u8], sqn: [u8; 6]) -> Group<'_>
     ensures words { group_texts result ≡ text.now ∷ encode_lower sqn ∷ [] }
     ensures fits { IsBytes sqn }
@@ -68,7 +68,14 @@ pub fn sqn_after(text: &[u8], sqn: [u8; 6]) -> Group<'_>
     [Word::Text(text), Word::Sqn(sqn), Word::Nothing]
 }
 
-/// Bytes in lower-case hexadecimal digits.
+/// A number of 32 bits in decimal digits.
+pub fn decimal(number: u32) -> Word<'static>
+    ensures { word_texts result ≡ numeral number ∷ [] }
+{
+    Word::Number(u64::from(number))
+}
+
+/// Bytes in lower-case hexadecimal digits. It brings into the proof that they are bytes.
 pub fn hex_word(bytes: &[u8]) -> Word<'_>
     ensures word { word_texts result ≡ encode_lower bytes.now ∷ [] }
     ensures fits { IsBytes bytes.now }
@@ -76,7 +83,7 @@ pub fn hex_word(bytes: &[u8]) -> Word<'_>
     Word::Hex(bytes)
 }
 
-/// A byte in two lower-case hexadecimal digits.
+/// A byte in two lower-case hexadecimal digits. It brings into the proof that it is a byte.
 pub fn byte_word(byte: u8) -> Word<'static>
     ensures word { word_texts result ≡ encode_lower (byte ∷ []) ∷ [] }
     ensures fits { IsBytes (byte ∷ []) }

@@ -2,7 +2,7 @@
 
 ghost use Rattle.std.specs.Prelude.{◌≡◌, ◌++◌, ◌∷◌, ◌<◌, ◌≤◌, length, drop, OnOk, OnErr};
 ghost use Rattle.hex.specs.Hex.{encode_lower};
-ghost use Rattle.auc_print.specs.Inner.{IsFrontOf, after_spaces, group_texts, word_texts};
+ghost use Rattle.auc_print.specs.Inner.{Prints, after_spaces, group_texts, word_texts};
 ghost use Rattle.auc_print.specs.Numeral.{numeral};
 ghost use Rattle.auc_print.specs.Text.{identities_of, imsi_of, spaced};
 
@@ -12,8 +12,7 @@ use auc_subs::Subscribers;
 
 /// Appends a line: its first word and the others.
 pub fn print_line(first: &[u8], more: &[Word<'_>], out: &mut Octets) -> Result<(), NoMemory>
-    ensures printed { OnOk result (out.new ≡ out.old ++ spaced (first.now ∷ group_texts more.now)) }
-    ensures grows { IsFrontOf out.old out.new }
+    ensures { Prints result out.old out.new (spaced (first.now ∷ group_texts more.now)) }
 {
     out.append(first)?;
     print_group(more, out)?;
@@ -30,9 +29,8 @@ pub fn print_named(
 ) -> Result<(), NoMemory>
     requires { sub < length subs.now }
 
-    ensures printed { OnOk result (out.new ≡ out.old
-        ++ spaced (first.now ∷ imsi_of (identities_of subs.now) sub ∷ group_texts more.now)) }
-    ensures grows { IsFrontOf out.old out.new }
+    ensures { Prints result out.old out.new
+        (spaced (first.now ∷ imsi_of (identities_of subs.now) sub ∷ group_texts more.now)) }
 {
     print_subject(first, sub, subs, out)?;
     print_group(more, out)?;
@@ -48,9 +46,8 @@ fn print_subject(
 ) -> Result<(), NoMemory>
     requires { sub < length subs.now }
 
-    ensures printed { OnOk result
-        (out.new ≡ out.old ++ (first.now ++ 32 ∷ imsi_of (identities_of subs.now) sub)) }
-    ensures grows { IsFrontOf out.old out.new }
+    ensures { Prints result out.old out.new
+        (first.now ++ 32 ∷ imsi_of (identities_of subs.now) sub) }
 {
     out.append(first)?;
     out.append(b" ")?;
@@ -59,8 +56,7 @@ fn print_subject(
 
 /// Appends words, each after a space.
 pub fn print_group(group: &[Word<'_>], out: &mut Octets) -> Result<(), NoMemory>
-    ensures printed { OnOk result (out.new ≡ out.old ++ after_spaces (group_texts group.now)) }
-    ensures grows { IsFrontOf out.old out.new }
+    ensures { Prints result out.old out.new (after_spaces (group_texts group.now)) }
 {
     for word in group {
         print_word(*word, out)?;
@@ -70,8 +66,7 @@ pub fn print_group(group: &[Word<'_>], out: &mut Octets) -> Result<(), NoMemory>
 
 /// Appends a word after a space, if it is one.
 fn print_word(word: Word<'_>, out: &mut Octets) -> Result<(), NoMemory>
-    ensures printed { OnOk result (out.new ≡ out.old ++ after_spaces (word_texts word.entry)) }
-    ensures grows { IsFrontOf out.old out.new }
+    ensures { Prints result out.old out.new (after_spaces (word_texts word.entry)) }
 {
     match word {
         Word::Nothing => Ok(()),
@@ -88,8 +83,7 @@ fn print_word(word: Word<'_>, out: &mut Octets) -> Result<(), NoMemory>
 
 /// Appends a space and a number.
 fn print_number(number: u64, out: &mut Octets) -> Result<(), NoMemory>
-    ensures printed { OnOk result (out.new ≡ out.old ++ 32 ∷ numeral number) }
-    ensures grows { IsFrontOf out.old out.new }
+    ensures { Prints result out.old out.new (32 ∷ numeral number) }
 {
     let mut room = [0; 21];
     let start = write_number(number, &mut room);
@@ -115,8 +109,7 @@ fn write_number(number: u64, room: &mut [u8; 21]) -> usize
 
 /// Appends a space and bytes in lower-case hexadecimal digits.
 fn print_hex(bytes: &[u8], out: &mut Octets) -> Result<(), NoMemory>
-    ensures printed { OnOk result (out.new ≡ out.old ++ 32 ∷ encode_lower bytes.now) }
-    ensures grows { IsFrontOf out.old out.new }
+    ensures { Prints result out.old out.new (32 ∷ encode_lower bytes.now) }
 {
     out.append(b" ")?;
     let mut rest = bytes;

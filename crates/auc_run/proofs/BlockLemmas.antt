@@ -1,30 +1,30 @@
 -- For a service: each line of a block that is right may stand in one.
-use Rattle.std.proofs.Common.{◌≡◌, ℕ, ◌+◌, ◌==◌, ◌||◌, ◌++◌, not, Bool, true, false, if◌then◌else◌, List, [], ◌∷◌, length, All, Option, Some, None, is_some, Result, Ok, Err, IfOk, ok_or, option_map, option_to_list, refl, subst}
+use Rattle.std.proofs.Common.{◌≡◌, ℕ, ◌+◌, ◌||◌, ◌++◌, not, Bool, true, false, if◌then◌else◌, List, [], ◌∷◌, length, All, Option, Some, None, is_some, Result, Ok, Err, IfOk, ok_or, option_map, option_to_list, refl, subst}
 use Rattle.std.specs.Prelude.{nat_lt}
-use Rattle.std.specs.List.{join_with_byte, list_any}
 use Rattle.std.proofs.lemmas.List.Elements.{All-nil, All-pop, All-push}
 use Rattle.auc_lines.specs.Part.{held_by, jobs_of}
 use Rattle.auc_lines.specs.declared.part.Line.{Line}
 use Rattle.auc_lines.specs.declared.part.Part.TheVariants.{Restart}
-use Rattle.auc_script.specs.Field.{no_field, require}
+use Rattle.auc_reading.specs.Field.{no_field, require}
 use Rattle.auc_script.specs.Numbers.{most_jobs, most_rounds}
 use Rattle.auc_script.specs.Reading.{after, beginning_of, block_of, read_lines, round_in}
-use Rattle.auc_script.specs.Scenario.{Scenario, after_line, by_subs, has_room, header_line, header_with, in_block, in_header, in_order, is_block, is_busy, is_header, job_line, jobs_in, line_of, line_of_words, may_stand_in_block, no_jobs, of_job_line, parts_of, restart_line, round_line, rounds_of, subscriber_line, word_line}
+use Rattle.auc_script.specs.Scenario.{Scenario, after_line, by_subs, has_room, header_line, header_with, in_block, in_header, in_order, is_block, is_busy, is_header, job_line, jobs_in, line_of_words, may_stand_in_block, no_jobs, of_job_line, parts_of, restart_line, round_line, rounds_of, subscriber_line, word_line}
+use Rattle.auc_reading.specs.JobLine.{line_of}
 use Rattle.auc_script.specs.Session.{opened, sessions_of, started}
-use Rattle.auc_script.specs.Word.{is_comment, word_of}
+use Rattle.auc_reading.specs.Word.{is_comment, word_of}
 use Rattle.auc_script.specs.declared.form.Form.{Form}
 use Rattle.auc_script.specs.declared.form.Form.TheVariants as forms
 use Rattle.auc_script.specs.declared.refusal.ScriptRefusal.{ScriptRefusal}
 use Rattle.auc_script.specs.declared.refusal.ScriptRefusal.TheVariants as wrong
-use Rattle.auc_script.specs.declared.refusal.ScriptWhy.{ScriptWhy}
-use Rattle.auc_script.specs.declared.refusal.ScriptWhy.TheVariants as why
+use Rattle.auc_reading.specs.declared.refusal.ScriptWhy.{ScriptWhy}
+use Rattle.auc_reading.specs.declared.refusal.ScriptWhy.TheVariants as why
 use Rattle.auc_script.specs.declared.round_so_far.RoundSoFar.{RoundSoFar}
-use Rattle.auc_script.specs.declared.word.HeaderWord.{HeaderWord}
-use Rattle.auc_script.specs.declared.word.JobWord.{JobWord}
-use Rattle.auc_script.specs.declared.word.Word.{Word}
-use Rattle.auc_script.specs.declared.word.Word.TheVariants as word
+use Rattle.auc_reading.specs.declared.word.HeaderWord.{HeaderWord}
+use Rattle.auc_reading.specs.declared.word.JobWord.{JobWord}
+use Rattle.auc_reading.specs.declared.word.Word.{Word}
+use Rattle.auc_reading.specs.declared.word.Word.TheVariants as word
 use Rattle.auc_subs.specs.Steps.{◌>>=◌}
-use Rattle.auc_subs.specs.Subscriber.{line_counts, rows_after}
+use Rattle.auc_subs.specs.Subscriber.{line_counts, rows_with_fields}
 use Rattle.auc_subs.specs.declared.row.Row.{Row}
 use Rattle.auc_text.specs.Text.{lines_of, words_of}
 use Rattle.auc_run.specs.Inner.{AreQuiet}
@@ -66,11 +66,9 @@ header_quiet s which fields quiet =
 
 subscriber_quiet : (s : Scenario) (fields : List (List ℕ)) → IsQuietSoFar s → IfOk (subscriber_line s fields) IsQuietSoFar
 subscriber_quiet s fields quiet =
-    let counted = require (list_any (λ count. length fields == count) line_counts) why.Fields in
-    let rows = by_subs (rows_after s.rows (join_with_byte 32 fields)) in
-    follows (in_header s) (λ place. counted >>= λ done. rows >>= λ rows. Ok (record s { rows = rows })) (λ place first.
-    follows counted (λ done. rows >>= λ rows. Ok (record s { rows = rows })) (λ done second.
-    follows rows (λ rows. Ok (record s { rows = rows })) (λ rows third. record { form = quiet.form; round = quiet.round })))
+    let rows = by_subs (rows_with_fields line_counts s.rows fields) in
+    follows (in_header s) (λ place. rows >>= λ rows. Ok (record s { rows = rows })) (λ place first.
+    follows rows (λ rows. Ok (record s { rows = rows })) (λ rows second. record { form = quiet.form; round = quiet.round }))
 
 -- a round begins without jobs, and a restart ends it
 round_quiet : (s : Scenario) (fields : List (List ℕ)) → IsQuietSoFar s → IfOk (round_line s fields) IsQuietSoFar

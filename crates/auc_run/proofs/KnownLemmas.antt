@@ -3,7 +3,8 @@ use Rattle.std.proofs.Common.{◌≤◌, List, [], ◌∷◌, length, All, arith
 use Rattle.std.proofs.lemmas.List.{length-append}
 use Rattle.std.proofs.lemmas.List.Elements.{All-nil, All-cons, All-head, All-tail, All-weaker}
 use Rattle.auc_jobs.specs.Serving.{IsKnownLine, AreKnown}
-use Rattle.auc_script.specs.Limits.{AreJobs, IsBlock, IsLine, IsPart, IsWithin}
+use Rattle.auc_script.specs.Limits.{AreJobs, IsBlock, IsPart, IsWithin}
+use Rattle.auc_reading.specs.Ranges.{IsLine}
 use Rattle.auc_script.specs.Numbers.{most_jobs}
 use Rattle.auc_lines.specs.Part.{jobs_of}
 use Rattle.auc_lines.specs.declared.part.Line.{Line}

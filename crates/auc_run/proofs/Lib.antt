@@ -13,6 +13,7 @@ mod StepLemmas
 mod OutputLemmas
 mod KnownLemmas
 mod HeldLemmas
+mod FaultLemmas
 mod OutcomeLemmas
 mod RefusalLemmas
 mod TopLemmas

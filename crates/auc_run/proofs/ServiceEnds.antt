@@ -24,8 +24,8 @@ use Rattle.auc_print.specs.OneText.{PartFits}
 use Rattle.auc_print.specs.Text.{round_text}
 use Rattle.auc_script.specs.Reading.{block_of}
 use Rattle.auc_script.specs.declared.refusal.ScriptRefusal.TheVariants as wrong
-use Rattle.auc_script.specs.declared.refusal.ScriptWhy.{ScriptWhy}
-use Rattle.auc_script.specs.declared.refusal.ScriptWhy.TheVariants as why
+use Rattle.auc_reading.specs.declared.refusal.ScriptWhy.{ScriptWhy}
+use Rattle.auc_reading.specs.declared.refusal.ScriptWhy.TheVariants as why
 use Rattle.auc_script.specs.declared.script.Script.{Script}
 use Rattle.auc_subs.specs.declared.row.Row.{Row}
 use Rattle.auc_transcript.proofs.Facts.{leads_more}
@@ -34,8 +34,9 @@ use Rattle.auc_world.specs.Transcript.{Course, Leads, beginning}
 use Rattle.auc_world.specs.declared.record.PartRecord.{PartRecord}
 use Rattle.auc_world.specs.declared.record.PartRecord.TheVariants as record_of
 use Rattle.auc_run.specs.Crash.{IsFull, IsKept, MayLeave}
-use Rattle.auc_run.specs.Inner.{Covers, IsKnownPart, IsLeftInRun, MakesRound, Reserves, RoundsStop, StandsAfter}
+use Rattle.auc_run.specs.Inner.{Covers, IsKnownPart, IsLeftInRun, MakesRound, Reserves, RoundsStop, StandsAfter, status_in}
 use Rattle.auc_run.specs.InnerService.{AreTaken, EndsServing, GoesOnServing, IsSaidUpTo, IsServing, IsServingAny, IsTurned, RunsBlocks, round_answer, trouble_refusal, turned_by}
+use Rattle.auc_run.specs.Outcome.{IsQuiet}
 use Rattle.auc_run.specs.Output.{setting_of}
 use Rattle.auc_run.specs.Refusal.{status_of}
 use Rattle.auc_run.specs.Service.{Answer, IsAnswer, IsLastReply, IsLate, IsSaid, IsServiceStop, LeavesNone, asked_of, blocks_of, end_line, most_block, most_blocks, parts_in, records_in, refusal_reply, replies_in, reply_to_rest}
@@ -429,20 +430,20 @@ round_fault (Err refused.TooLong) stop text old new upto is = absurd upto
 
 -- if it ends otherwise, no call of the disk failed
 pub round_quiet : (said : Result (Unit {0}) Refusal) (stop : Option Stop) (text : List ℕ) (old new : Option (List Turn)) → IfErr said (IsSaidUpTo text old new)
-    → turned_by (round_answer said stop) true ≢ Err refused.StoreFault → turned_by (round_answer said stop) true ≢ Err refused.WriteFault → turned_by (round_answer said stop) true ≢ Err refused.NoMemory → stop ≢ Some Fault
-round_quiet (Ok done) None text old new upto fault write memory is = cc is
-round_quiet (Ok done) (Some Fault) text old new upto fault write memory is = fault refl
-round_quiet (Ok done) (Some Full) text old new upto fault write memory is = cc is
-round_quiet (Err refused.WriteFault) stop text old new upto fault write memory is = write refl
-round_quiet (Err refused.NoMemory) stop text old new upto fault write memory is = memory refl
-round_quiet (Err refused.StoreFault) stop text old new upto fault write memory is = fault refl
-round_quiet (Err refused.Usage) stop text old new upto fault write memory is = absurd upto
-round_quiet (Err (refused.Subscribers row why)) stop text old new upto fault write memory is = absurd upto
-round_quiet (Err (refused.Scenario line why)) stop text old new upto fault write memory is = absurd upto
-round_quiet (Err refused.ReadFault) stop text old new upto fault write memory is = absurd upto
-round_quiet (Err (refused.NotJournal place)) stop text old new upto fault write memory is = absurd upto
-round_quiet (Err refused.StoreFull) stop text old new upto fault write memory is = absurd upto
-round_quiet (Err refused.TooLong) stop text old new upto fault write memory is = absurd upto
+    → IsQuiet (status_in (turned_by (round_answer said stop) true)) → stop ≢ Some Fault
+round_quiet (Ok done) None text old new upto quiet is = cc is
+round_quiet (Ok done) (Some Fault) text old new upto quiet is = quiet
+round_quiet (Ok done) (Some Full) text old new upto quiet is = cc is
+round_quiet (Err refused.WriteFault) stop text old new upto quiet is = quiet
+round_quiet (Err refused.NoMemory) stop text old new upto quiet is = quiet
+round_quiet (Err refused.StoreFault) stop text old new upto quiet is = quiet
+round_quiet (Err refused.Usage) stop text old new upto quiet is = absurd upto
+round_quiet (Err (refused.Subscribers row why)) stop text old new upto quiet is = absurd upto
+round_quiet (Err (refused.Scenario line why)) stop text old new upto quiet is = absurd upto
+round_quiet (Err refused.ReadFault) stop text old new upto quiet is = absurd upto
+round_quiet (Err (refused.NotJournal place)) stop text old new upto quiet is = absurd upto
+round_quiet (Err refused.StoreFull) stop text old new upto quiet is = absurd upto
+round_quiet (Err refused.TooLong) stop text old new upto quiet is = absurd upto
 
 -- ---- the input ends, or a block isn't heard
 

@@ -1,6 +1,6 @@
 -- For the top call of a service: its header, what it served, and how its refusal was told.
 use Rattle.std.proofs.Common.{◌≡◌, ◌⊎◌, ℕ, ◌<◌, ◌≤◌, ◌-◌, ◌^◌, nat_lt, true, false, List, [], ◌∷◌, ◌++◌, length, map, take, Option, Some, None, Result, Ok, Err, inl, inr, refl, sym, ◌∙◌, ap, subst, arith, append-nil}
-use Rattle.std.specs.Prelude.{Bool}
+use Rattle.std.specs.Prelude.{Bool, slice_index}
 use Rattle.std.specs.List.{concat}
 use Rattle.std.proofs.lemmas.Bool.Decides.{nat_tests}
 use Rattle.std.proofs.lemmas.List.Elements.{All-nil}
@@ -20,15 +20,14 @@ use Rattle.auc_print.specs.OneText.{PartFits}
 use Rattle.auc_script.specs.Reading.{header_of}
 use Rattle.auc_script.specs.declared.refusal.ScriptRefusal.{ScriptRefusal}
 use Rattle.auc_script.specs.declared.refusal.ScriptRefusal.TheVariants as wrong
-use Rattle.auc_script.specs.declared.refusal.ScriptWhy.{ScriptWhy}
-use Rattle.auc_script.specs.declared.refusal.ScriptWhy.TheVariants as why
+use Rattle.auc_reading.specs.declared.refusal.ScriptWhy.{ScriptWhy}
+use Rattle.auc_reading.specs.declared.refusal.ScriptWhy.TheVariants as why
 use Rattle.auc_script.specs.declared.script.Script.{Script}
 use Rattle.auc_sqn.specs.Number.{max_seq}
 use Rattle.auc_subs.specs.declared.row.Row.{Row}
 use Rattle.auc_world.specs.Limits.{opened}
 use Rattle.auc_world.specs.Start.{fresh_kept}
 use Rattle.auc_world.specs.Transcript.{beginning}
-use Rattle.std.specs.Prelude.{slice_index}
 use Rattle.auc_run.specs.Crash.{MayHaveLeft, MayLeave, Remembers, limits_in}
 use Rattle.auc_run.specs.Inner.{Begins, IsKnownPart, JournalStops, Laws, SubscribersStop, Tells, script_refusal, status_in}
 use Rattle.auc_run.specs.InnerService.{EndsReady, EndsServing, HearsHeader, IsEarly, IsHeaderStop, IsServing, RunsBlocks, SaysTold, ServesOr, TookHeader, trouble_refusal}

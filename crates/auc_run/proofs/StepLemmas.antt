@@ -22,7 +22,8 @@ use Rattle.auc_world.specs.declared.record.LineRecord.{LineRecord}
 use Rattle.auc_world.specs.declared.record.PartRecord.TheVariants as record_of
 use Rattle.auc_world.specs.declared.record.RoundRecord.{RoundRecord}
 use Rattle.auc_run.specs.Crash.{IsFull}
-use Rattle.auc_run.specs.Inner.{AreEnough, AreQuiet, Covers, EachLeads, EndsIn, GoesOn, MakesRound, Reserves, RoundLeads, ServesLast, StandsAfter, StandsOn, status_in}
+use Rattle.auc_run.specs.Inner.{AreEnough, AreQuiet, Covers, EachLeads, EndsIn, GoesOn, MakesRound, Reserves, RoundLeads, ServesLast, StandsAfter, StandsOn, WritesRound, status_in}
+use Rattle.auc_run.specs.InnerFaults.{RoseInRound, RoseOnDisk}
 use Rattle.auc_run.specs.Outcome.{EndsFull, IsQuiet, IsStopOf, IsWritten}
 use Rattle.auc_run.specs.Refusal.{status_of}
 use Rattle.auc_run.specs.declared.refusal.Refusal.{Refusal}
@@ -236,6 +237,48 @@ fault_round stop (Err (refused.Scenario line fault)) stopped is = cc
 fault_round stop (Err refused.ReadFault) stopped is = cc
 fault_round stop (Err (refused.NotJournal place)) stopped is = cc
 fault_round stop (Err refused.TooLong) stopped is = cc
+
+-- ---- a round was made, and its text was written or not
+
+-- the next part goes on
+pub part_goes : {D : Type 0} (seen : D → Option (List ℕ)) (may_leave : D → List ℕ → Type 0) (moment : D → ℕ) (left_since : D → ℕ → List ℕ → Type 0) (set : Setting) (full : Bool) (number : ℕ) (state next : Standing) (journal after : JournalState D)
+    (jobs : List (List Line)) (made : Result (Option Stop) NoMemory) (result : Result (Unit {0}) Refusal) (waits text left : List ℕ) (old new : Option (List ℕ))
+    → IfOk made (λ stop. MakesRound seen may_leave moment left_since set full number state journal jobs stop next after waits text) → WritesRound made text result left old new
+    → OnOk result ((from : D) (reserved : List ℕ) (at : Course) → StandsOn seen may_leave moment left_since set from reserved at number state journal
+    → GoesOn seen may_leave moment left_since set full from reserved at (Round jobs) (number + 1) next after waits left old new)
+part_goes seen may_leave moment left_since set full number state next journal after jobs (Ok stop) result waits text left old new makes wrote =
+    round_goes seen may_leave moment left_since set full number state next journal after jobs stop result waits text left old new makes wrote.stopped wrote.written wrote.done
+part_goes seen may_leave moment left_since set full number state next journal after jobs (Err none) result waits text left old new makes (is, same) = rw is tt
+
+-- a run ends in it
+pub part_ends : {D : Type 0} (seen : D → Option (List ℕ)) (may_leave : D → List ℕ → Type 0) (moment : D → ℕ) (left_since : D → ℕ → List ℕ → Type 0) (set : Setting) (full : Bool) (number : ℕ) (state next : Standing) (journal after : JournalState D)
+    (jobs : List (List Line)) (made : Result (Option Stop) NoMemory) (result : Result (Unit {0}) Refusal) (waits text left : List ℕ) (old new : Option (List ℕ))
+    → IfOk made (λ stop. MakesRound seen may_leave moment left_since set full number state journal jobs stop next after waits text)
+    → OnErr made ((from : D) (reserved : List ℕ) (at : Course) (known : List LineRecord) → StandsAfter seen may_leave moment left_since set from reserved at known number state journal → AreEnough jobs at.early known
+    → Covers seen may_leave moment left_since set.rows from reserved at.early after)
+    → WritesRound made text result left old new
+    → IfErr result (λ refusal. (from : D) (reserved : List ℕ) (at : Course) → StandsOn seen may_leave moment left_since set from reserved at number state journal
+    → EndsIn seen may_leave moment left_since set full from reserved at (Round jobs) (status_of refusal) after waits old new)
+part_ends seen may_leave moment left_since set full number state next journal after jobs (Ok stop) result waits text left old new makes covers wrote =
+    round_ends seen may_leave moment left_since set full number state next journal after jobs stop result waits text old new makes wrote.stopped wrote.written wrote.spared
+part_ends seen may_leave moment left_since set full number state next journal after jobs (Err none) result waits text left old new makes covers (is, same) =
+    rw is (λ from reserved at on. (covers from reserved at at.early on (inl refl), same))
+
+-- want of memory is no fault of the disk
+not_store : (result : Result (Unit {0}) Refusal) → result ≡ Err refused.NoMemory → result ≡ Err refused.StoreFault → ⊥
+not_store result is other = cc
+
+-- the count of the disk rose exactly if a fault ended reservations
+pub part_store : (made : Result (Option Stop) NoMemory) (result : Result (Unit {0}) Refusal) (text left : List ℕ) (old new : Option (List ℕ)) (before now : ℕ)
+    → IfOk made (λ stop. RoseInRound stop before now) → WritesRound made text result left old new → RoseOnDisk result before now
+part_store (Ok stop) result text left old new before now rose wrote = record {
+  rose = λ is. rose.rose (fault_round stop result wrote.stopped is);
+  same = λ quiet. rose.same (quiet_round stop result wrote.stopped quiet);
+}
+part_store (Err none) result text left old new before now rose (is, same) = record {
+  rose = λ fault. absurd (not_store result is fault);
+  same = λ quiet. absurd (rw is at quiet);
+}
 
 -- ---- a restart
 

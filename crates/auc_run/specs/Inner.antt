@@ -1,5 +1,5 @@
 -- Inner facts: what only private contracts of this crate cite.
-use Rattle.std.specs.Prelude.{◌≡◌, ℕ, ◌+◌, ◌*◌, ◌<◌, ◌≤◌, ◌^◌, ◌↔◌, ◌⊎◌, ◌∷◌, ◌++◌, max, true, false, AllPairs, All, Bool, List, [], length, map, slice_index, Option, Some, None, Result, Ok, Err}
+use Rattle.std.specs.Prelude.{◌≡◌, ◌≢◌, ℕ, ◌+◌, ◌*◌, ◌<◌, ◌≤◌, ◌^◌, ◌↔◌, ◌⊎◌, ◌∷◌, ◌++◌, max, true, false, AllPairs, All, Bool, List, [], length, map, slice_index, Option, Some, None, Result, Ok, Err, OnOk}
 use Rattle.std.specs.Option.{option_copied}
 use Rattle.auc_compact.specs.Compact.{IsAnew, compact_image}
 use Rattle.auc_compact.specs.declared.refusal.CompactRefusal.{CompactRefusal}
@@ -7,6 +7,7 @@ use Rattle.auc_compact.specs.declared.refusal.CompactRefusal.TheVariants as unma
 use Rattle.auc_edge.specs.Identity.{Identity}
 use Rattle.auc_edge.specs.Shelf.{File, IsLongerFile}
 use Rattle.auc_edge.specs.Sink.{Appends, AppendsFront}
+use Rattle.auc_edge.specs.declared.no_memory.NoMemory.{NoMemory as NoMemoryError}
 use Rattle.auc_edge.specs.declared.stop.Stop.{Stop}
 use Rattle.auc_edge.specs.declared.stop.Stop.TheVariants.{Fault, Full}
 use Rattle.auc_edge.specs.declared.read_refusal.ReadRefusal.{ReadRefusal}
@@ -258,7 +259,7 @@ abbrev pub Tells : Refusal → Status → Option (List ℕ) → Option (List ℕ
 Tells refusal status old new = ((status ≡ status_of refusal) × Appends old new (line_of refusal)) ⊎ IsUntold refusal status
 
 -- the status of a run that ended so
-abbrev pub status_in : Result (Unit {0}) Refusal → Status
+abbrev pub status_in : {A : Type 0} → Result A Refusal → Status
 status_in (Ok done) = Done
 status_in (Err refusal) = status_of refusal
 
@@ -423,6 +424,18 @@ abbrev pub stopped_by : Option Stop → Result (Unit {0}) Refusal
 stopped_by None = Ok tt
 stopped_by (Some Fault) = Err refused.StoreFault
 stopped_by (Some Full) = Err refused.StoreFull
+
+-- the text of a round was written, or some first bytes of it if the output failed; then the run ends as its reservations did
+pub record WritesMade (stop : Option Stop) (text : List ℕ) (result : Result (Unit {0}) Refusal) (left : List ℕ) (old new : Option (List ℕ)) : Type 0 where
+  pub stopped : IsStopOf (status_in result) stop
+  pub written : IsWritten (status_in result) old new text
+  pub spared : result ≢ Err refused.NoMemory
+  pub done : OnOk result (left ≡ [])
+
+-- so it was if the round was made; if memory ran out before, nothing was written
+abbrev pub WritesRound : Result (Option Stop) NoMemoryError → List ℕ → Result (Unit {0}) Refusal → List ℕ → Option (List ℕ) → Option (List ℕ) → Type 0
+WritesRound (Ok stop) text result left old new = WritesMade stop text result left old new
+WritesRound (Err none) text result left old new = (result ≡ Err refused.NoMemory) × (new ≡ old)
 
 -- the first of some parts were served and written, all of them if the run is done, and the disk is left so
 pub record RunsParts {D : Type 0} (seen : D → Option (List ℕ)) (may_leave : D → List ℕ → Type 0) (moment : D → ℕ) (left_since : D → ℕ → List ℕ → Type 0) (set : Setting) (full : Bool) (from : D) (reserved : List ℕ) (at : Course) (parts : List Part)

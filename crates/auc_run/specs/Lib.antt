@@ -10,3 +10,4 @@ pub mod Service
 pub mod InnerService
 pub mod InnerNamed
 pub mod Inner
+pub mod InnerFaults

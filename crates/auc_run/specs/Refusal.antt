@@ -1,7 +1,7 @@
 -- Why a run is refused: the status with which it then ends, and the line that is written.
 use Rattle.std.specs.Prelude.{◌≡◌, ℕ, ◌⊎◌, ◌++◌, List, [], codes, decimal}
-use Rattle.auc_script.specs.declared.refusal.ScriptWhy.{ScriptWhy}
-use Rattle.auc_script.specs.declared.refusal.ScriptWhy.TheVariants as why
+use Rattle.auc_reading.specs.declared.refusal.ScriptWhy.{ScriptWhy}
+use Rattle.auc_reading.specs.declared.refusal.ScriptWhy.TheVariants as why
 use Rattle.auc_subs.specs.declared.refusal.SubsWhy.{SubsWhy}
 use Rattle.auc_subs.specs.declared.refusal.SubsWhy.TheVariants as subs_why
 use Rattle.auc_run.specs.declared.refusal.Refusal.{Refusal}

@@ -16,8 +16,8 @@ use Rattle.auc_print.specs.Text.{round_text}
 use Rattle.auc_script.specs.Reading.{block_of, header_of}
 use Rattle.auc_script.specs.declared.refusal.ScriptRefusal.{ScriptRefusal}
 use Rattle.auc_script.specs.declared.refusal.ScriptRefusal.TheVariants as wrong
-use Rattle.auc_script.specs.declared.refusal.ScriptWhy.{ScriptWhy}
-use Rattle.auc_script.specs.declared.refusal.ScriptWhy.TheVariants as why
+use Rattle.auc_reading.specs.declared.refusal.ScriptWhy.{ScriptWhy}
+use Rattle.auc_reading.specs.declared.refusal.ScriptWhy.TheVariants as why
 use Rattle.auc_script.specs.declared.script.Script.{Script}
 use Rattle.auc_subs.specs.File.{subscribers_in}
 use Rattle.auc_subs.specs.declared.refusal.SubsRefusal.TheVariants.{Row as wrong_row}

@@ -1,19 +1,19 @@
 //! The blocks of a service, one after the other.
 
-ghost use Rattle.std.specs.Prelude.{◌≡◌, ◌≢◌, ◌≤◌, ◌<◌, ◌+◌, ◌^◌, ◌++◌, ◌∷◌, ℕ, List, [], false, length, Some, Ok, Err, OnOk, OnErr, IfOk, IfErr, IsOk, IsErrOf, IsTrue, true};
+ghost use Rattle.std.specs.Prelude.{◌≡◌, ◌≤◌, ◌<◌, ◌+◌, ◌^◌, ◌++◌, ◌∷◌, ℕ, List, [], false, length, Some, Ok, Err, OnOk, OnErr, IfOk, IfErr, IsOk, IsTrue, true};
 ghost use Rattle.auc_block.specs.Turns.{Says};
-ghost use Rattle.auc_edge.specs.Faults.{Rose};
-ghost use Rattle.auc_edge.specs.declared.stop.Stop.TheVariants as stops;
 ghost use Rattle.auc_script.specs.Limits.{IsBlock, IsWithin};
 ghost use Rattle.auc_world.specs.Transcript.{Course};
 ghost use Rattle.auc_world.specs.declared.record.LineRecord.{LineRecord};
 ghost use Rattle.auc_run.specs.Inner.{AreEnough, Covers, MakesRound, RoundsStop, StandsAfter, status_in};
+ghost use Rattle.auc_run.specs.InnerFaults.{RoseAt, RoseInRound, RoseOnDisk, RoseOnWire};
 ghost use Rattle.auc_run.specs.InnerService.{EndsServing, IsSaidUpTo, IsServingAny, IsTurned, ServiceStops, round_answer, trouble_refusal, turned_by};
 ghost use Rattle.auc_run.specs.Output.{setting_of};
 ghost use Rattle.auc_run.specs.Service.{asked_of, end_line, most_block, reply_to_rest};
 
 use crate::refusal::{Performed, Refusal};
 use crate::replies::{END, last_line, reply_refusal, say_end};
+use crate::resources::Resources;
 use crate::rounds::{Made, Settings, Stand, make_round, stopped};
 use crate::top_call::Input;
 use auc_block::{
@@ -54,13 +54,11 @@ pub(crate) fn serve_blocks<
     D: Disk + Drop + Send,
     G: Gate + Sync,
 >(
-    rt: &R,
-    alloc: Global,
+    resources: &Resources<R, G>,
     input: &mut Input,
     mut stand: Stand<D>,
     wire: &mut W,
     ear: &mut Ear,
-    gate: &G,
 ) -> Performed<D>
     requires within { IsWithin input.old.subs input.old.script }
     requires number { stand.number ≤ 1 }
@@ -76,20 +74,14 @@ pub(crate) fn serve_blocks<
     ensures refused { IfErr result.result ServiceStops }
 
     // A fault comes only with a risen count.
-    ensures read_fault { IsErrOf result.result Refusal.ReadFault → Rose (W.faults wire.old) (W.faults wire.new) }
-    ensures write_fault { IsErrOf result.result Refusal.WriteFault → Rose (W.faults wire.old) (W.faults wire.new) }
-    ensures quiet { result.result ≢ Err Refusal.ReadFault → result.result ≢ Err Refusal.WriteFault
-        → W.faults wire.new ≡ W.faults wire.old }
-    ensures store_fault { IsErrOf result.result Refusal.StoreFault
-        → Rose (D.faults stand.journal.disk) (D.faults result.disk) }
-    ensures quiet_store { result.result ≢ Err Refusal.StoreFault → result.result ≢ Err Refusal.WriteFault
-        → result.result ≢ Err Refusal.NoMemory → D.faults result.disk ≡ D.faults stand.journal.disk }
+    ensures wire { RoseOnWire result.result (W.faults wire.old) (W.faults wire.new) }
+    ensures store { RoseOnDisk result.result (D.faults stand.journal.disk) (D.faults result.disk) }
 {
     for _ in 0..MOST_BLOCKS {
         let BlockStep {
             stand: next,
             result,
-        } = serve_next(rt, alloc, input, stand, wire, ear, gate);
+        } = serve_next(resources, input, stand, wire, ear);
         match result {
             Ok(true) => stand = next,
             Ok(false) => {
@@ -114,13 +106,11 @@ pub(crate) fn serve_blocks<
 
 /// Hears the next block, and replies to it.
 fn serve_next<R: Threads + Wait + Sync, W: Wire, D: Disk + Drop + Send, G: Gate + Sync>(
-    rt: &R,
-    alloc: Global,
+    resources: &Resources<R, G>,
     input: &mut Input,
     stand: Stand<D>,
     wire: &mut W,
     ear: &mut Ear,
-    gate: &G,
 ) -> BlockStep<D>
     requires within { IsWithin input.old.subs input.old.script }
     requires number { stand.number + 1 < 2 ^ 64 }
@@ -141,29 +131,28 @@ fn serve_next<R: Threads + Wait + Sync, W: Wire, D: Disk + Drop + Send, G: Gate 
     ensures done { IfOk result.result (λ more. more ≡ false → IsTrue (W.ended wire.new)) }
 
     // A fault comes only with a risen count.
-    ensures read_fault { IsErrOf result.result Refusal.ReadFault → Rose (W.faults wire.old) (W.faults wire.new) }
-    ensures write_fault { IsErrOf result.result Refusal.WriteFault → Rose (W.faults wire.old) (W.faults wire.new) }
-    ensures quiet { result.result ≢ Err Refusal.ReadFault → result.result ≢ Err Refusal.WriteFault
-        → W.faults wire.new ≡ W.faults wire.old }
-    ensures store_fault { IsErrOf result.result Refusal.StoreFault
-        → Rose (D.faults stand.journal.disk) (D.faults result.stand.journal.disk) }
-    ensures quiet_store { result.result ≢ Err Refusal.StoreFault → result.result ≢ Err Refusal.WriteFault
-        → result.result ≢ Err Refusal.NoMemory → D.faults result.stand.journal.disk ≡ D.faults stand.journal.disk }
+    ensures wire { RoseOnWire result.result (W.faults wire.old) (W.faults wire.new) }
+    ensures store { RoseOnDisk result.result (D.faults stand.journal.disk) (D.faults result.stand.journal.disk) }
 {
     each_block_is_split_off();
     earlier_blocks_stand();
-    match hear_block(alloc, wire, &mut ear.waiting, ear.room.as_mut_slice()) {
-        Ok(NextBlock::Whole(block)) => serve_block(rt, alloc, input, block, stand, wire, gate),
+    match hear_block(
+        resources.alloc,
+        wire,
+        &mut ear.waiting,
+        ear.room.as_mut_slice(),
+    ) {
+        Ok(NextBlock::Whole(block)) => serve_block(resources, input, block, stand, wire),
         Ok(NextBlock::TooLong) => {
-            let result = reply_refusal(alloc, 0, ScriptWhy::Limit, wire);
+            let result = reply_refusal(resources.alloc, 0, ScriptWhy::Limit, wire);
             turned(stand, result, true)
         }
         Ok(NextBlock::Ended) => {
-            let result = reply_to_rest(alloc, ear.waiting.as_slice(), wire);
+            let result = reply_to_rest(resources.alloc, ear.waiting.as_slice(), wire);
             turned(stand, result, false)
         }
         Ok(NextBlock::EndedTooLong) => {
-            let result = reply_refusal(alloc, 0, ScriptWhy::Limit, wire);
+            let result = reply_refusal(resources.alloc, 0, ScriptWhy::Limit, wire);
             turned(stand, result, false)
         }
         Err(trouble) => turned(stand, Err(Refusal::from(trouble)), false),
@@ -188,8 +177,7 @@ fn reply_to_rest<W: Wire>(alloc: Global, rest: &[u8], wire: &mut W) -> Result<()
     ensures said { OnOk result (Says (W.turns wire.old) (W.turns wire.new) (reply_to_rest rest.now)) }
     ensures stopped { IfErr result (IsSaidUpTo (reply_to_rest rest.now) (W.turns wire.old) (W.turns wire.new)) }
     ensures same { W.ended wire.new ≡ W.ended wire.old }
-    ensures fault { IsErrOf result Refusal.WriteFault → Rose (W.faults wire.old) (W.faults wire.new) }
-    ensures quiet { result ≢ Err Refusal.WriteFault → W.faults wire.new ≡ W.faults wire.old }
+    ensures wire { RoseAt Refusal.WriteFault result (W.faults wire.old) (W.faults wire.new) }
 {
     if rest.is_empty() {
         return Ok(());
@@ -199,13 +187,11 @@ fn reply_to_rest<W: Wire>(alloc: Global, rest: &[u8], wire: &mut W) -> Result<()
 
 /// Serves a block if it is right, and replies to it.
 fn serve_block<R: Threads + Wait + Sync, W: Wire, D: Disk + Drop + Send, G: Gate + Sync>(
-    rt: &R,
-    alloc: Global,
+    resources: &Resources<R, G>,
     input: &mut Input,
     block: Octets,
     stand: Stand<D>,
     wire: &mut W,
-    gate: &G,
 ) -> BlockStep<D>
     requires within { IsWithin input.old.subs input.old.script }
     requires number { stand.number + 1 < 2 ^ 64 }
@@ -226,21 +212,17 @@ fn serve_block<R: Threads + Wait + Sync, W: Wire, D: Disk + Drop + Send, G: Gate
     ensures input { input.new ≡ input.old }
 
     // A fault comes only with a risen count.
-    ensures write_fault { IsErrOf result.result Refusal.WriteFault → Rose (W.faults wire.old) (W.faults wire.new) }
-    ensures quiet { result.result ≢ Err Refusal.WriteFault → W.faults wire.new ≡ W.faults wire.old }
-    ensures store_fault { IsErrOf result.result Refusal.StoreFault
-        → Rose (D.faults stand.journal.disk) (D.faults result.stand.journal.disk) }
-    ensures quiet_store { result.result ≢ Err Refusal.StoreFault → result.result ≢ Err Refusal.WriteFault
-        → result.result ≢ Err Refusal.NoMemory → D.faults result.stand.journal.disk ≡ D.faults stand.journal.disk }
+    ensures wire { RoseAt Refusal.WriteFault result.result (W.faults wire.old) (W.faults wire.new) }
+    ensures store { RoseOnDisk result.result (D.faults stand.journal.disk) (D.faults result.stand.journal.disk) }
 {
-    match read_block(alloc, block.as_slice(), &mut input.subs) {
-        Ok(Some(jobs)) => serve_jobs(rt, alloc, input, jobs, stand, wire, gate),
+    match read_block(resources.alloc, block.as_slice(), &mut input.subs) {
+        Ok(Some(jobs)) => serve_jobs(resources, input, jobs, stand, wire),
         Ok(None) => {
             let result = say_end(wire);
             turned(stand, result, true)
         }
         Err(ScriptRefusal::Line(line, why)) => {
-            let result = reply_refusal(alloc, line, why, wire);
+            let result = reply_refusal(resources.alloc, line, why, wire);
             turned(stand, result, true)
         }
         Err(ScriptRefusal::NoMemory) => turned(stand, Err(Refusal::NoMemory), true),
@@ -250,13 +232,11 @@ fn serve_block<R: Threads + Wait + Sync, W: Wire, D: Disk + Drop + Send, G: Gate
 /// Serves the round of a block, and says its text and `end` at once. No line of a block asks which vectors were released
 /// before, so the state forgets them after each.
 fn serve_jobs<R: Threads + Wait + Sync, W: Wire, D: Disk + Drop + Send, G: Gate + Sync>(
-    rt: &R,
-    alloc: Global,
+    resources: &Resources<R, G>,
     input: &Input,
     jobs: RoundPart,
     stand: Stand<D>,
     wire: &mut W,
-    gate: &G,
 ) -> BlockStep<D>
     requires within { IsWithin input.now.subs input.now.script }
     requires known { IsBlock input.now.subs jobs }
@@ -276,18 +256,14 @@ fn serve_jobs<R: Threads + Wait + Sync, W: Wire, D: Disk + Drop + Send, G: Gate 
     ensures refused { IfErr result.result RoundsStop }
 
     // A fault comes only with a risen count.
-    ensures write_fault { IsErrOf result.result Refusal.WriteFault → Rose (W.faults wire.old) (W.faults wire.new) }
-    ensures quiet { result.result ≢ Err Refusal.WriteFault → W.faults wire.new ≡ W.faults wire.old }
-    ensures store_fault { IsErrOf result.result Refusal.StoreFault
-        → Rose (D.faults stand.journal.disk) (D.faults result.stand.journal.disk) }
-    ensures quiet_store { result.result ≢ Err Refusal.StoreFault → result.result ≢ Err Refusal.WriteFault
-        → result.result ≢ Err Refusal.NoMemory → D.faults result.stand.journal.disk ≡ D.faults stand.journal.disk }
+    ensures wire { RoseAt Refusal.WriteFault result.result (W.faults wire.old) (W.faults wire.new) }
+    ensures store { RoseOnDisk result.result (D.faults stand.journal.disk) (D.faults result.stand.journal.disk) }
 {
-    let Made { mut stand, result } = make_jobs(rt, alloc, input, &jobs, stand, gate);
+    let Made { mut stand, result } = make_jobs(resources, input, &jobs, stand);
     match result {
         Ok(stop) => {
-            stand.state.forget(alloc);
-            let said = say_round(alloc, &mut stand.text, wire);
+            stand.state.forget(resources.alloc);
+            let said = say_round(resources.alloc, &mut stand.text, wire);
             turned(stand, round_answer(said, stop), true)
         }
         Err(NoMemory) => turned(stand, Err(Refusal::NoMemory), true),
@@ -296,12 +272,10 @@ fn serve_jobs<R: Threads + Wait + Sync, W: Wire, D: Disk + Drop + Send, G: Gate 
 
 /// Serves jobs as the header says.
 fn make_jobs<R: Threads + Wait + Sync, D: Disk + Drop + Send, G: Gate + Sync>(
-    rt: &R,
-    alloc: Global,
+    resources: &Resources<R, G>,
     input: &Input,
     jobs: &RoundPart,
     stand: Stand<D>,
-    gate: &G,
 ) -> Made<D>
     requires within { IsWithin input.now.subs input.now.script }
     requires known { IsBlock input.now.subs jobs.now }
@@ -322,10 +296,7 @@ fn make_jobs<R: Threads + Wait + Sync, D: Disk + Drop + Send, G: Gate + Sync>(
     ensures number { result.stand.number ≡ stand.number + 1 }
 
     // A fault comes only with a risen count.
-    ensures store_fault { IfOk result.result (λ stop. stop ≡ Some stops.Fault
-        → Rose (D.faults stand.journal.disk) (D.faults result.stand.journal.disk)) }
-    ensures quiet_store { IfOk result.result (λ stop. stop ≢ Some stops.Fault
-        → D.faults result.stand.journal.disk ≡ D.faults stand.journal.disk) }
+    ensures store { IfOk result.result (λ stop. RoseInRound stop (D.faults stand.journal.disk) (D.faults result.stand.journal.disk)) }
 {
     let rands = Rands::new(input.script.key);
     let names = Names::new(input.script.key);
@@ -339,7 +310,7 @@ fn make_jobs<R: Threads + Wait + Sync, D: Disk + Drop + Send, G: Gate + Sync>(
         full: input.script.full,
         workers: input.script.workers,
     };
-    make_round(rt, alloc, &settings, jobs, stand, gate)
+    make_round(resources, &settings, jobs, stand)
 }
 
 /// What a round comes to whose text was said or wasn't: in it, reservations ended or didn't.
@@ -358,8 +329,7 @@ fn say_round<W: Wire>(alloc: Global, text: &mut Octets, wire: &mut W) -> Result<
     ensures done { OnOk result (text.new ≡ []) }
     ensures stopped { IfErr result (IsSaidUpTo (text.old ++ end_line) (W.turns wire.old) (W.turns wire.new)) }
     ensures same { W.ended wire.new ≡ W.ended wire.old }
-    ensures fault { IsErrOf result Refusal.WriteFault → Rose (W.faults wire.old) (W.faults wire.new) }
-    ensures quiet { result ≢ Err Refusal.WriteFault → W.faults wire.new ≡ W.faults wire.old }
+    ensures wire { RoseAt Refusal.WriteFault result (W.faults wire.old) (W.faults wire.new) }
 {
     text.append(END)?;
     say_whole(wire, text.as_slice())?;

@@ -1,11 +1,11 @@
 //! The input files: the subscribers, then the scenario.
 
-ghost use Rattle.std.specs.Prelude.{◌≡◌, ◌≢◌, ℕ, List, IfOk, IfErr, IsErrOf, Some, Ok, Err};
+ghost use Rattle.std.specs.Prelude.{◌≡◌, ℕ, List, IfOk, IfErr, Some, Ok};
 ghost use Rattle.std.specs.Option.{option_copied};
-ghost use Rattle.auc_edge.specs.Faults.{Rose};
 ghost use Rattle.auc_script.specs.Limits.{IsWithin};
 ghost use Rattle.auc_script.specs.Reading.{script_of};
 ghost use Rattle.auc_run.specs.Inner.{FileStops, SubscribersStop, ScenarioStops};
+ghost use Rattle.auc_run.specs.InnerFaults.{RoseAmong, RoseOf};
 ghost use Rattle.auc_run.specs.Outcome.{BeginsWith, HasText};
 
 use crate::refusal::Refusal;
@@ -28,10 +28,7 @@ pub(crate) fn read_text<H: Shelf>(
 
     // Why it is refused; only a fault raises a count.
     ensures refused { IfErr result (FileStops (H.files shelf.old) name.now) }
-    ensures fault { IsErrOf result Refusal.ReadFault
-        → Rose (H.faults shelf.old name.now) (H.faults shelf.new name.now) }
-    ensures quiet { result ≢ Err Refusal.ReadFault
-        → (other : List ℕ) → H.faults shelf.new other ≡ H.faults shelf.old other }
+    ensures shelf { RoseOf name.now result (H.faults shelf.old) (H.faults shelf.new) }
 {
     Ok(read_all(alloc, shelf, name, MAX_FILE)?)
 }
@@ -45,10 +42,7 @@ pub(crate) fn read_subscribers<H: Shelf>(
     ensures read { IfOk result (BeginsWith (H.files shelf.old) (option_copied name.entry)) }
     ensures same { H.files shelf.new ≡ H.files shelf.old }
     ensures refused { IfErr result (SubscribersStop (H.files shelf.old) (option_copied name.entry)) }
-    ensures fault { IsErrOf result Refusal.ReadFault → (file : List ℕ) × (option_copied name.entry ≡ Some file)
-        × Rose (H.faults shelf.old file) (H.faults shelf.new file) }
-    ensures quiet { result ≢ Err Refusal.ReadFault
-        → (other : List ℕ) → H.faults shelf.new other ≡ H.faults shelf.old other }
+    ensures shelf { RoseAmong (λ file. option_copied name.entry ≡ Some file) result (H.faults shelf.old) (H.faults shelf.new) }
 {
     match name {
         Some(name) => read_file(alloc, name, shelf),
@@ -61,10 +55,7 @@ fn read_file<H: Shelf>(alloc: Global, name: &[u8], shelf: &mut H) -> Result<Subs
     ensures read { IfOk result (BeginsWith (H.files shelf.old) (Some name.now)) }
     ensures same { H.files shelf.new ≡ H.files shelf.old }
     ensures refused { IfErr result (SubscribersStop (H.files shelf.old) (Some name.now)) }
-    ensures fault { IsErrOf result Refusal.ReadFault
-        → Rose (H.faults shelf.old name.now) (H.faults shelf.new name.now) }
-    ensures quiet { result ≢ Err Refusal.ReadFault
-        → (other : List ℕ) → H.faults shelf.new other ≡ H.faults shelf.old other }
+    ensures shelf { RoseOf name.now result (H.faults shelf.old) (H.faults shelf.new) }
 {
     let text = read_text(alloc, name, shelf)?;
     Ok(Subscribers::read(alloc, text.as_slice())?)
@@ -81,10 +72,7 @@ pub(crate) fn read_script<H: Shelf>(
         × (script_of subs.old text ≡ Ok (script, subs.new))) }
     ensures within { IfOk result (IsWithin subs.new) }
     ensures refused { IfErr result (ScenarioStops (H.files shelf.old) name.now subs.old) }
-    ensures fault { IsErrOf result Refusal.ReadFault
-        → Rose (H.faults shelf.old name.now) (H.faults shelf.new name.now) }
-    ensures quiet { result ≢ Err Refusal.ReadFault
-        → (other : List ℕ) → H.faults shelf.new other ≡ H.faults shelf.old other }
+    ensures shelf { RoseOf name.now result (H.faults shelf.old) (H.faults shelf.new) }
 {
     let text = read_text(alloc, name, shelf)?;
     Ok(Script::read(alloc, text.as_slice(), subs)?)

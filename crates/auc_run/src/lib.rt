@@ -35,6 +35,7 @@ mod opening;
 mod refusal;
 mod refusing;
 mod replies;
+mod resources;
 mod rounds;
 mod service;
 mod status;

@@ -1,7 +1,6 @@
 //! The form `load KEY SUBSCRIBERS JOBS WORKERS`: one round of draws over a journal in memory, and the digest of its vectors.
 
-ghost use Rattle.std.specs.Prelude.{◌≡◌, ◌≢◌, ◌≤◌, ℕ, List, [], AllPairs, None, Some, OnOk, IfOk, IfErr, IsErrOf, Err, length, map};
-ghost use Rattle.auc_edge.specs.Faults.{Rose};
+ghost use Rattle.std.specs.Prelude.{◌≡◌, ◌≤◌, ℕ, List, [], AllPairs, None, Some, OnOk, IfOk, IfErr, Err, length, map};
 ghost use Rattle.auc_edge.specs.Sink.{Appends};
 ghost use Rattle.auc_jobs.specs.Round.{IsJournalOf};
 ghost use Rattle.auc_jobs.specs.Serving.{AreAllKnown};
@@ -15,6 +14,7 @@ ghost use Rattle.auc_subs.specs.Subscriber.{AreSubscribers};
 ghost use Rattle.auc_world.specs.Round.{IsLawfulRound};
 ghost use Rattle.auc_world.specs.Start.{Kept};
 ghost use Rattle.auc_run.specs.Inner.{LoadStops, OutputStops, status_in};
+ghost use Rattle.auc_run.specs.InnerFaults.{RoseAt};
 ghost use Rattle.auc_run.specs.Outcome.{EndsLoad, RunsLoad};
 
 use crate::opening::open_journal;
@@ -22,7 +22,7 @@ use crate::refusal::Refusal;
 use auc_disk::{FailList, MemDisk};
 use auc_edge::{Gate, Items, NoMemory, Octets, Sink, write_whole};
 use auc_ident::Names;
-use auc_jobs::{Ran, Served, State, serve};
+use auc_jobs::{Ran, Round, Served, State, serve};
 use auc_journal::Journal;
 use auc_lines::JobPart;
 use auc_load::{LoadWords, jobs, key_of, load_words, subscribers, summary};
@@ -46,8 +46,7 @@ pub(crate) fn run_load<R: Threads + Wait + Sync, K: Sink, G: Gate + Sync>(
     ensures ran { (load : LoadWords) → load_named words.now ≡ Some load
         → EndsLoad load (status_in result) (K.written out.old) (K.written out.new) }
     ensures silent { result ≡ Err Refusal.Usage → K.written out.new ≡ K.written out.old }
-    ensures fault { IsErrOf result Refusal.WriteFault → Rose (K.faults out.old) (K.faults out.new) }
-    ensures quiet { result ≢ Err Refusal.WriteFault → K.faults out.new ≡ K.faults out.old }
+    ensures output { RoseAt Refusal.WriteFault result (K.faults out.old) (K.faults out.new) }
 {
     match load_words(words) {
         Some(load) => write_load(rt, alloc, &load, out, gate),
@@ -67,8 +66,7 @@ fn write_load<R: Threads + Wait + Sync, K: Sink, G: Gate + Sync>(
     ensures written { OnOk result (Appends (K.written out.old) (K.written out.new) (load_text load.now)) }
     ensures refused { IfErr result OutputStops }
     ensures ran { EndsLoad load.now (status_in result) (K.written out.old) (K.written out.new) }
-    ensures fault { IsErrOf result Refusal.WriteFault → Rose (K.faults out.old) (K.faults out.new) }
-    ensures quiet { result ≢ Err Refusal.WriteFault → K.faults out.new ≡ K.faults out.old }
+    ensures output { RoseAt Refusal.WriteFault result (K.faults out.old) (K.faults out.new) }
 {
     let text = load_lines(rt, alloc, load, gate)?;
     write_whole(out, text.as_slice())?;
@@ -136,9 +134,14 @@ fn serve_once<R: Threads + Wait + Sync, G: Gate + Sync>(
     let state = State::new(alloc, set.subs)?;
     // The value of the most parts is taken last: no early return has to give it back.
     let journal = empty_journal(alloc, set.subs)?;
-    ran_of(serve(
-        rt, alloc, 1, jobs, set, false, state, journal, workers, gate,
-    ))
+    let round = Round {
+        number: 1,
+        jobs,
+        set,
+        full: false,
+        workers,
+    };
+    ran_of(serve(rt, alloc, &round, state, journal, gate))
 }
 
 /// What a round did. The state and the journal are given back.

@@ -15,7 +15,7 @@ ghost use Rattle.auc_run.specs.InnerNamed.{IsLed, IsServed, MayServe};
 use crate::rounds::Settings;
 use auc_disk::Disk;
 use auc_edge::{Gate, Imsi, Items, NoMemory};
-use auc_jobs::{Ran, Served, State, serve};
+use auc_jobs::{Ran, Round, Served, State, serve};
 use auc_journal::Journal;
 use auc_lines::JobPart;
 use auc_named::{Named, are_plain, name};
@@ -54,10 +54,19 @@ pub(crate) fn serve_start<R: Threads + Wait + Sync, D: Disk + Drop + Send, G: Ga
     ensures { IsServed D.seen D.may_leave D.faults D.moment D.left_since settings.now.set settings.now.full jobs.now
         start.number start.state start.journal result.result result.state result.journal }
 {
-    if are_fewer(jobs, settings.set.subs.len()) && are_plain(jobs) {
-        serve_named(rt, alloc, settings, jobs, start, gate)
-    } else {
-        serve_all(rt, alloc, settings, jobs, start, gate)
+    if !are_fewer(jobs, settings.set.subs.len()) || !are_plain(jobs) {
+        return serve_all(rt, alloc, settings, jobs, start, gate);
+    }
+    match own_start(alloc, &settings.set, jobs, &start.state) {
+        Ok(own) => serve_own(rt, alloc, settings, own, start, gate),
+        Err(error) => {
+            let Start { state, journal, .. } = start;
+            Served {
+                journal,
+                state,
+                result: Err(error),
+            }
+        }
     }
 }
 
@@ -91,45 +100,14 @@ fn serve_all<R: Threads + Wait + Sync, D: Disk + Drop + Send, G: Gate + Sync>(
         state,
         journal,
     } = start;
-    serve(
-        rt,
-        alloc,
+    let round = Round {
         number,
         jobs,
-        &settings.set,
-        settings.full,
-        state,
-        journal,
-        settings.workers,
-        gate,
-    )
-}
-
-/// Serves a round over the subscribers that its plain lines name. What it says and leaves is that of all.
-fn serve_named<R: Threads + Wait + Sync, D: Disk + Drop + Send, G: Gate + Sync>(
-    rt: &R,
-    alloc: Global,
-    settings: &Settings,
-    jobs: &[JobPart],
-    start: Start<D>,
-    gate: &G,
-) -> Served<D>
-    requires may { MayServe settings.now.set settings.now.workers jobs.now start.state start.journal }
-    requires plain { ArePlain jobs.now }
-    ensures { IsServed D.seen D.may_leave D.faults D.moment D.left_since settings.now.set settings.now.full jobs.now
-        start.number start.state start.journal result.result result.state result.journal }
-{
-    match own_start(alloc, &settings.set, jobs, &start.state) {
-        Ok(own) => serve_own(rt, alloc, settings, own, start, gate),
-        Err(error) => {
-            let Start { state, journal, .. } = start;
-            Served {
-                journal,
-                state,
-                result: Err(error),
-            }
-        }
-    }
+        set: &settings.set,
+        full: settings.full,
+        workers: settings.workers,
+    };
+    serve(rt, alloc, &round, state, journal, gate)
 }
 
 /// The subscribers that plain lines name, each opened at its word.
@@ -197,22 +175,18 @@ fn serve_own<R: Threads + Wait + Sync, D: Disk + Drop + Send, G: Gate + Sync>(
         names: settings.set.names,
         realm: settings.set.realm,
     };
+    let round = Round {
+        number: start.number,
+        jobs: named.jobs(),
+        set: &set,
+        full: false,
+        workers: settings.workers,
+    };
     let Served {
         mut journal,
         state: next,
         result,
-    } = serve(
-        rt,
-        alloc,
-        start.number,
-        named.jobs(),
-        &set,
-        false,
-        own,
-        start.journal,
-        settings.workers,
-        gate,
-    );
+    } = serve(rt, alloc, &round, own, start.journal, gate);
     journal.name_all();
     let result = match result {
         Ok(ran) => of_all(alloc, settings, &named, &mut start.state, &next, ran),

@@ -4,6 +4,7 @@ ghost use Rattle.std.specs.Prelude.{◌≡◌, ◌≢◌, ◌++◌, OnOk, IfOk, 
 ghost use Rattle.auc_edge.specs.Faults.{Rose};
 ghost use Rattle.auc_edge.specs.Sink.{Appends, AppendsFront};
 ghost use Rattle.auc_run.specs.Inner.{IsUntold, Tells};
+ghost use Rattle.auc_run.specs.InnerFaults.{RoseAt};
 ghost use Rattle.auc_run.specs.Refusal.{line_of, status_of, why_word, subs_why_word};
 
 use crate::refusal::Refusal;
@@ -37,20 +38,13 @@ fn write_refusal<K: Sink>(alloc: Global, refusal: Refusal, out: &mut K) -> Resul
     ensures front { AppendsFront (K.written out.old) (K.written out.new) (line_of refusal) }
     ensures refused { IfErr result (λ stop. IsUntold refusal (status_of stop)) }
     ensures spared { IsErrOf result Refusal.NoMemory → K.written out.new ≡ K.written out.old }
-    ensures fault { IsErrOf result Refusal.WriteFault → Rose (K.faults out.old) (K.faults out.new) }
-    ensures quiet { result ≢ Err Refusal.WriteFault → K.faults out.new ≡ K.faults out.old }
+    ensures output { RoseAt Refusal.WriteFault result (K.faults out.old) (K.faults out.new) }
 {
     match refusal {
         Refusal::Usage => Ok(write_whole(out, b"usage\n".as_slice())?),
-        Refusal::Subscribers(row, why) => {
-            let text = refused_line(alloc, b"refused subscribers ", row, subs_why_text(why))?;
-            write_text(text, out)
+        Refusal::Subscribers(_, _) | Refusal::Scenario(_, _) | Refusal::NotJournal(_) => {
+            write_text(refusal_line(alloc, refusal)?, out)
         }
-        Refusal::Scenario(line, why) => {
-            let text = refused_line(alloc, b"refused scenario ", line, why_text(why))?;
-            write_text(text, out)
-        }
-        Refusal::NotJournal(place) => write_text(journal_line(alloc, place)?, out),
         Refusal::ReadFault
         | Refusal::WriteFault
         | Refusal::StoreFault
@@ -65,8 +59,7 @@ fn write_text<K: Sink>(text: Octets, out: &mut K) -> Result<(), Refusal>
     ensures written { OnOk result (Appends (K.written out.old) (K.written out.new) text) }
     ensures front { AppendsFront (K.written out.old) (K.written out.new) text }
     ensures refused { IfErr result (λ stop. stop ≡ Refusal.WriteFault) }
-    ensures fault { IsErrOf result Refusal.WriteFault → Rose (K.faults out.old) (K.faults out.new) }
-    ensures quiet { result ≢ Err Refusal.WriteFault → K.faults out.new ≡ K.faults out.old }
+    ensures output { RoseAt Refusal.WriteFault result (K.faults out.old) (K.faults out.new) }
 {
     Ok(write_whole(out, text.as_slice())?)
 }

@@ -1,9 +1,10 @@
 //! What a service says: its replies, and the line of a refusal with which it ends.
 
-ghost use Rattle.std.specs.Prelude.{◌≡◌, ◌≢◌, ◌≤◌, [], None, length, Err, OnOk, OnErr, IfErr, IsErrOf};
+ghost use Rattle.std.specs.Prelude.{◌≡◌, ◌≢◌, ◌≤◌, [], None, length, Err, OnOk, OnErr, IfErr};
 ghost use Rattle.auc_edge.specs.Faults.{Rose};
 ghost use Rattle.auc_block.specs.Turns.{Says, SaysFront};
 ghost use Rattle.auc_run.specs.Inner.{IsUntold, Tells};
+ghost use Rattle.auc_run.specs.InnerFaults.{RoseAt};
 ghost use Rattle.auc_run.specs.InnerService.{IsSaidUpTo, SaysTold};
 ghost use Rattle.auc_run.specs.Refusal.{line_of, status_of};
 ghost use Rattle.auc_run.specs.Service.{end_line, last_line, most_block, refusal_reply};
@@ -48,8 +49,7 @@ fn say_line<W: Wire>(alloc: Global, refusal: Refusal, wire: &mut W) -> Result<()
     ensures wordless { line_of refusal ≡ [] → W.turns wire.new ≡ W.turns wire.old }
     ensures spared { refusal ≡ Refusal.Usage → result ≢ Err Refusal.NoMemory }
     ensures same { W.ended wire.new ≡ W.ended wire.old }
-    ensures fault { IsErrOf result Refusal.WriteFault → Rose (W.faults wire.old) (W.faults wire.new) }
-    ensures quiet { result ≢ Err Refusal.WriteFault → W.faults wire.new ≡ W.faults wire.old }
+    ensures wire { RoseAt Refusal.WriteFault result (W.faults wire.old) (W.faults wire.new) }
 {
     match refusal {
         Refusal::Usage => Ok(say_whole(wire, b"usage\n".as_slice())?),
@@ -76,8 +76,7 @@ pub(crate) fn reply_refusal<W: Wire>(
     ensures said { OnOk result (Says (W.turns wire.old) (W.turns wire.new) (refusal_reply line why)) }
     ensures stopped { IfErr result (IsSaidUpTo (refusal_reply line why) (W.turns wire.old) (W.turns wire.new)) }
     ensures same { W.ended wire.new ≡ W.ended wire.old }
-    ensures fault { IsErrOf result Refusal.WriteFault → Rose (W.faults wire.old) (W.faults wire.new) }
-    ensures quiet { result ≢ Err Refusal.WriteFault → W.faults wire.new ≡ W.faults wire.old }
+    ensures wire { RoseAt Refusal.WriteFault result (W.faults wire.old) (W.faults wire.new) }
 {
     let mut text = refusal_line(alloc, Refusal::Scenario(line, why))?;
     text.append(END)?;
@@ -88,8 +87,7 @@ pub(crate) fn reply_refusal<W: Wire>(
 pub(crate) fn say_end<W: Wire>(wire: &mut W) -> Result<(), Refusal>
     ensures said { OnOk result (Says (W.turns wire.old) (W.turns wire.new) end_line) }
     ensures stopped { IfErr result (IsSaidUpTo end_line (W.turns wire.old) (W.turns wire.new)) }
-    ensures fault { IsErrOf result Refusal.WriteFault → Rose (W.faults wire.old) (W.faults wire.new) }
-    ensures quiet { result ≢ Err Refusal.WriteFault → W.faults wire.new ≡ W.faults wire.old }
+    ensures wire { RoseAt Refusal.WriteFault result (W.faults wire.old) (W.faults wire.new) }
 {
     Ok(say_whole(wire, END)?)
 }

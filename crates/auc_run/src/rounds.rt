@@ -1,9 +1,7 @@
 //! The rounds and restarts of a scenario. A round is written when it has ended, and a restart with the round after it, or
 //! at the end.
 
-ghost use Rattle.std.specs.Prelude.{◌≡◌, ◌≢◌, ◌≤◌, ◌<◌, ◌+◌, ◌^◌, ◌++◌, ℕ, List, [], All, map, length, slice_index, OnOk, OnErr, IfOk, IfErr, IsErrOf, Some, Err, if◌then◌else◌};
-ghost use Rattle.auc_edge.specs.Faults.{Rose};
-ghost use Rattle.auc_edge.specs.declared.stop.Stop.TheVariants as stops;
+ghost use Rattle.std.specs.Prelude.{◌≡◌, ◌≢◌, ◌≤◌, ◌<◌, ◌+◌, ◌^◌, ◌++◌, ℕ, List, [], All, map, length, slice_index, OnOk, OnErr, IfOk, IfErr, Some, Err, if◌then◌else◌};
 ghost use Rattle.auc_jobs.specs.State.{StandsAt};
 ghost use Rattle.auc_journal.specs.Journal.{limits_of};
 ghost use Rattle.auc_lines.specs.declared.part.Part.TheVariants as part;
@@ -18,14 +16,16 @@ ghost use Rattle.auc_world.specs.Start.{fresh_kept};
 ghost use Rattle.auc_world.specs.Transcript.{Course, beginning};
 ghost use Rattle.auc_world.specs.Vectors.{vectors_in};
 ghost use Rattle.auc_world.specs.declared.record.LineRecord.{LineRecord};
-ghost use Rattle.auc_run.specs.Inner.{AreEnough, Begins, Covers, EndsIn, GoesOn, IsKnownPart, MakesRound, RoundsStop, RunsParts, StandsAfter, StandsOn, status_in, stopped_by};
-ghost use Rattle.auc_run.specs.Outcome.{IsQuiet, IsStopOf, IsWritten};
+ghost use Rattle.auc_run.specs.Inner.{AreEnough, Begins, Covers, EndsIn, GoesOn, IsKnownPart, MakesRound, RoundsStop, RunsParts, StandsAfter, StandsOn, WritesRound, status_in, stopped_by};
+ghost use Rattle.auc_run.specs.InnerFaults.{RoseAt, RoseInRound, RoseOnDisk};
+ghost use Rattle.auc_run.specs.Outcome.{IsStopOf, IsWritten};
 ghost use Rattle.auc_run.specs.Output.{setting_of};
 ghost use Rattle.auc_run.specs.Refusal.{status_of};
 
 use crate::named::{Start, serve_start};
 use crate::opening::openings;
 use crate::refusal::{Performed, Refusal, refused};
+use crate::resources::Resources;
 use auc_disk::Disk;
 use auc_edge::{Failed, Gate, NoMemory, Octets, Sink, Stop, write_whole};
 use auc_ident::Names;
@@ -88,12 +88,10 @@ pub(crate) struct Made<D: Disk + Drop> {
 
 /// Serves the jobs of a round, and appends its text to what isn't written yet. It answers whether reservations ended in it.
 pub(crate) fn make_round<R: Threads + Wait + Sync, D: Disk + Drop + Send, G: Gate + Sync>(
-    rt: &R,
-    alloc: Global,
+    resources: &Resources<R, G>,
     settings: &Settings,
     jobs: &RoundPart,
     stand: Stand<D>,
-    gate: &G,
 ) -> Made<D>
     requires subscribers { AreSubscribers settings.now.set.rows }
     requires known { IsKnownPart settings.now.set.rows (part.Round jobs.now) }
@@ -116,10 +114,7 @@ pub(crate) fn make_round<R: Threads + Wait + Sync, D: Disk + Drop + Send, G: Gat
     ensures number { result.stand.number ≡ stand.number + 1 }
 
     // A fault comes only with a risen count.
-    ensures store_fault { IfOk result.result (λ stop. stop ≡ Some stops.Fault
-        → Rose (D.faults stand.journal.disk) (D.faults result.stand.journal.disk)) }
-    ensures quiet_store { IfOk result.result (λ stop. stop ≢ Some stops.Fault
-        → D.faults result.stand.journal.disk ≡ D.faults stand.journal.disk) }
+    ensures store { IfOk result.result (λ stop. RoseInRound stop (D.faults stand.journal.disk) (D.faults result.stand.journal.disk)) }
 {
     let Stand {
         number,
@@ -136,7 +131,14 @@ pub(crate) fn make_round<R: Threads + Wait + Sync, D: Disk + Drop + Send, G: Gat
         journal,
         state,
         result,
-    } = serve_start(rt, alloc, settings, jobs.as_slice(), start, gate);
+    } = serve_start(
+        resources.rt,
+        resources.alloc,
+        settings,
+        jobs.as_slice(),
+        start,
+        resources.gate,
+    );
     let mut stand = Stand {
         number: number + 1,
         state,
@@ -183,8 +185,7 @@ fn write_made<K: Sink>(
     ensures refused { IfErr result RoundsStop }
     ensures spared { result ≢ Err Refusal.NoMemory }
     ensures done { OnOk result (text.new ≡ []) }
-    ensures quiet { result ≢ Err Refusal.WriteFault → K.faults out.new ≡ K.faults out.old }
-    ensures fault { IsErrOf result Refusal.WriteFault → Rose (K.faults out.old) (K.faults out.new) }
+    ensures output { RoseAt Refusal.WriteFault result (K.faults out.old) (K.faults out.new) }
 {
     write_whole(out, text.as_slice())?;
     *text = Octets::new(alloc);
@@ -202,51 +203,18 @@ pub(crate) fn stopped(stop: Option<Stop>) -> Result<(), Refusal>
     }
 }
 
-/// Serves the jobs of a round, and writes its text. If reservations ended in the round, it is refused with why after it
-/// was written.
-fn serve_round<R: Threads + Wait + Sync, K: Sink, D: Disk + Drop + Send, G: Gate + Sync>(
-    rt: &R,
-    alloc: Global,
-    settings: &Settings,
-    jobs: &RoundPart,
-    stand: Stand<D>,
-    out: &mut K,
-    gate: &G,
-) -> Step<D>
-    requires subscribers { AreSubscribers settings.now.set.rows }
-    requires known { IsKnownPart settings.now.set.rows (part.Round jobs.now) }
-    requires workers { (1 ≤ settings.now.workers) × (settings.now.workers ≤ most_workers) }
-    requires realm { length settings.now.set.realm ≤ longest_realm }
-    requires number { stand.number + 1 < 2 ^ 64 }
-    requires stands { (from : D) × (reserved : List ℕ) × (at : Course) × StandsOn
-        D.seen D.may_leave D.moment D.left_since settings.now.set
-        from reserved at stand.number stand.state stand.journal }
-
-    ensures goes { OnOk result.result ((from : D) (reserved : List ℕ) (at : Course)
-        → StandsOn D.seen D.may_leave D.moment D.left_since
-        settings.now.set from reserved at stand.number stand.state stand.journal
-        → GoesOn D.seen D.may_leave D.moment D.left_since
-        settings.now.set settings.now.full from reserved at (part.Round jobs.now)
-        result.stand.number result.stand.state result.stand.journal stand.text result.stand.text
-        (K.written out.old) (K.written out.new)) }
-    ensures ends { IfErr result.result (λ refusal. (from : D) (reserved : List ℕ) (at : Course)
-        → StandsOn D.seen D.may_leave D.moment D.left_since
-        settings.now.set from reserved at stand.number stand.state stand.journal
-        → EndsIn D.seen D.may_leave D.moment D.left_since
-        settings.now.set settings.now.full from reserved at (part.Round jobs.now)
-        (status_of refusal) result.stand.journal stand.text (K.written out.old) (K.written out.new)) }
-    ensures number { result.stand.number ≤ stand.number + 1 }
+/// Writes the text with which a round was made. If reservations ended in the round, it is refused with why after it was
+/// written.
+fn write_round<K: Sink, D: Disk + Drop>(alloc: Global, made: Made<D>, out: &mut K) -> Step<D>
+    ensures number { result.stand.number ≡ made.stand.number }
+    ensures state { result.stand.state ≡ made.stand.state }
+    ensures journal { result.stand.journal ≡ made.stand.journal }
+    ensures wrote { WritesRound made.result made.stand.text result.result result.stand.text
+        (K.written out.old) (K.written out.new) }
     ensures refused { IfErr result.result RoundsStop }
-
-    // A fault comes only with a risen count.
-    ensures quiet { result.result ≢ Err Refusal.WriteFault → K.faults out.new ≡ K.faults out.old }
-    ensures fault { IsErrOf result.result Refusal.WriteFault → Rose (K.faults out.old) (K.faults out.new) }
-    ensures store_fault { IsErrOf result.result Refusal.StoreFault
-        → Rose (D.faults stand.journal.disk) (D.faults result.stand.journal.disk) }
-    ensures quiet_store { IsQuiet (status_in result.result)
-        → D.faults result.stand.journal.disk ≡ D.faults stand.journal.disk }
+    ensures output { RoseAt Refusal.WriteFault result.result (K.faults out.old) (K.faults out.new) }
 {
-    let Made { mut stand, result } = make_round(rt, alloc, settings, jobs, stand, gate);
+    let Made { mut stand, result } = made;
     match result {
         Ok(stop) => {
             let result = write_made(alloc, stop, &mut stand.text, out);
@@ -286,13 +254,11 @@ fn restart<D: Disk + Drop>(
 
 /// Serves a part of a scenario.
 fn serve_part<R: Threads + Wait + Sync, K: Sink, D: Disk + Drop + Send, G: Gate + Sync>(
-    rt: &R,
-    alloc: Global,
+    resources: &Resources<R, G>,
     settings: &Settings,
     part: &Part,
     mut stand: Stand<D>,
     out: &mut K,
-    gate: &G,
 ) -> Step<D>
     requires subscribers { AreSubscribers settings.now.set.rows }
     requires known { IsKnownPart settings.now.set.rows part.now }
@@ -318,17 +284,17 @@ fn serve_part<R: Threads + Wait + Sync, K: Sink, D: Disk + Drop + Send, G: Gate 
     ensures refused { IfErr result.result RoundsStop }
 
     // A fault comes only with a risen count.
-    ensures quiet { result.result ≢ Err Refusal.WriteFault → K.faults out.new ≡ K.faults out.old }
-    ensures fault { IsErrOf result.result Refusal.WriteFault → Rose (K.faults out.old) (K.faults out.new) }
-    ensures store_fault { IsErrOf result.result Refusal.StoreFault
-        → Rose (D.faults stand.journal.disk) (D.faults result.stand.journal.disk) }
-    ensures quiet_store { IsQuiet (status_in result.result)
-        → D.faults result.stand.journal.disk ≡ D.faults stand.journal.disk }
+    ensures output { RoseAt Refusal.WriteFault result.result (K.faults out.old) (K.faults out.new) }
+    ensures store { RoseOnDisk result.result (D.faults stand.journal.disk) (D.faults result.stand.journal.disk) }
 {
     match part {
-        Part::Round(jobs) => serve_round(rt, alloc, settings, jobs, stand, out, gate),
+        Part::Round(jobs) => write_round(
+            resources.alloc,
+            make_round(resources, settings, jobs, stand),
+            out,
+        ),
         Part::Restart => {
-            let result = restart(alloc, settings.set.subs, &mut stand);
+            let result = restart(resources.alloc, settings.set.subs, &mut stand);
             Step { stand, result }
         }
     }
@@ -337,13 +303,11 @@ fn serve_part<R: Threads + Wait + Sync, K: Sink, D: Disk + Drop + Send, G: Gate 
 /// Serves parts of a scenario one after the other, up to the first that is refused, and writes what isn't written yet at the
 /// end.
 fn serve_all<R: Threads + Wait + Sync, K: Sink, D: Disk + Drop + Send, G: Gate + Sync>(
-    rt: &R,
-    alloc: Global,
+    resources: &Resources<R, G>,
     settings: &Settings,
     parts: &[Part],
     mut stand: Stand<D>,
     out: &mut K,
-    gate: &G,
 ) -> Performed<D>
     requires subscribers { AreSubscribers settings.now.set.rows }
     requires known { All (IsKnownPart settings.now.set.rows) parts.now }
@@ -364,17 +328,14 @@ fn serve_all<R: Threads + Wait + Sync, K: Sink, D: Disk + Drop + Send, G: Gate +
     ensures refused { IfErr result.result RoundsStop }
 
     // A fault comes only with a risen count.
-    ensures quiet { result.result ≢ Err Refusal.WriteFault → K.faults out.new ≡ K.faults out.old }
-    ensures fault { IsErrOf result.result Refusal.WriteFault → Rose (K.faults out.old) (K.faults out.new) }
-    ensures store_fault { IsErrOf result.result Refusal.StoreFault
-        → Rose (D.faults stand.journal.disk) (D.faults result.disk) }
-    ensures quiet_store { IsQuiet (status_in result.result) → D.faults result.disk ≡ D.faults stand.journal.disk }
+    ensures output { RoseAt Refusal.WriteFault result.result (K.faults out.old) (K.faults out.new) }
+    ensures store { RoseOnDisk result.result (D.faults stand.journal.disk) (D.faults result.disk) }
 {
     for part in parts {
         let Step {
             stand: next,
             result,
-        } = serve_part(rt, alloc, settings, part, stand, out, gate);
+        } = serve_part(resources, settings, part, stand, out);
         match result {
             Ok(()) => stand = next,
             Err(refusal) => {
@@ -419,13 +380,11 @@ pub(crate) fn first_state<D: Disk + Drop>(
 
 /// Serves the parts of a scenario and writes each round when it has ended. It hands the disk back.
 pub(crate) fn serve_parts<R: Threads + Wait + Sync, K: Sink, D: Disk + Drop + Send, G: Gate + Sync>(
-    rt: &R,
-    alloc: Global,
+    resources: &Resources<R, G>,
     script: &Script,
     subs: &Subscribers,
     journal: Journal<D>,
     out: &mut K,
-    gate: &G,
 ) -> Performed<D>
     requires subscribers { AreSubscribers subs.now }
     requires known { All (IsKnownPart subs.now) script.now.parts }
@@ -442,11 +401,8 @@ pub(crate) fn serve_parts<R: Threads + Wait + Sync, K: Sink, D: Disk + Drop + Se
     ensures refused { IfErr result.result RoundsStop }
 
     // A fault comes only with a risen count.
-    ensures quiet { result.result ≢ Err Refusal.WriteFault → K.faults out.new ≡ K.faults out.old }
-    ensures fault { IsErrOf result.result Refusal.WriteFault → Rose (K.faults out.old) (K.faults out.new) }
-    ensures store_fault { IsErrOf result.result Refusal.StoreFault
-        → Rose (D.faults journal.disk) (D.faults result.disk) }
-    ensures quiet_store { IsQuiet (status_in result.result) → D.faults result.disk ≡ D.faults journal.disk }
+    ensures output { RoseAt Refusal.WriteFault result.result (K.faults out.old) (K.faults out.new) }
+    ensures store { RoseOnDisk result.result (D.faults journal.disk) (D.faults result.disk) }
 {
     let rands = Rands::new(script.key);
     let names = Names::new(script.key);
@@ -460,22 +416,14 @@ pub(crate) fn serve_parts<R: Threads + Wait + Sync, K: Sink, D: Disk + Drop + Se
         full: script.full,
         workers: script.workers,
     };
-    let Ok(state) = first_state(alloc, subs, &journal) else {
+    let Ok(state) = first_state(resources.alloc, subs, &journal) else {
         return refused(journal, Refusal::NoMemory);
     };
     let stand = Stand {
         number: 1,
         state,
         journal,
-        text: Octets::new(alloc),
+        text: Octets::new(resources.alloc),
     };
-    serve_all(
-        rt,
-        alloc,
-        &settings,
-        script.parts.as_slice(),
-        stand,
-        out,
-        gate,
-    )
+    serve_all(resources, &settings, script.parts.as_slice(), stand, out)
 }

@@ -10,6 +10,7 @@ ghost use Rattle.auc_journal.specs.Journal.{limits_of};
 ghost use Rattle.auc_script.specs.Limits.{IsWithin};
 ghost use Rattle.auc_run.specs.Crash.{IsFull, MayHaveLeft, MayLeave, Remembers, RemembersAlways};
 ghost use Rattle.auc_run.specs.Inner.{Begins, JournalStops, status_in};
+ghost use Rattle.auc_run.specs.InnerFaults.{RoseAt, RoseInService, RoseOnDisk, RoseOnWire};
 ghost use Rattle.auc_run.specs.InnerService.{EndsReady, HeaderStops, HearsFirst, HearsHeader, IsEarly, IsHeaderStop, ServesOr, ServiceStops, TookHeader};
 ghost use Rattle.auc_run.specs.Outcome.{IsQuiet};
 ghost use Rattle.auc_run.specs.Service.{EndsUnnamed, EndsUnserved, HasQuietWire, IsBeforeOpening, Serves};
@@ -22,6 +23,7 @@ use crate::law::laws_of_transcripts;
 use crate::opening::open_journal;
 use crate::refusal::{Performed, Refusal, refused};
 use crate::replies::{READY, last_line, say_refusal};
+use crate::resources::Resources;
 use crate::rounds::{Stand, first_state};
 use crate::status::{Ended, Status};
 use crate::top_call::{Input, is_realm};
@@ -97,7 +99,8 @@ pub fn serve<R: Threads + Wait + Sync, H: Shelf, W: Wire, D: Disk + Drop + Send,
             disk,
         };
     };
-    let Performed { disk, result } = serve_words(rt, alloc, &form, shelf, wire, disk, gate);
+    let resources = Resources { rt, alloc, gate };
+    let Performed { disk, result } = serve_words(&resources, &form, shelf, wire, disk);
     match result {
         Ok(()) => Ended {
             status: Status::Done,
@@ -112,13 +115,11 @@ pub fn serve<R: Threads + Wait + Sync, H: Shelf, W: Wire, D: Disk + Drop + Send,
 
 /// Reads the subscribers, if a file of them is named, hears the header, and serves what is heard behind it.
 fn serve_words<R: Threads + Wait + Sync, H: Shelf, W: Wire, D: Disk + Drop + Send, G: Gate + Sync>(
-    rt: &R,
-    alloc: Global,
+    resources: &Resources<R, G>,
     form: &ServiceWords,
     shelf: &mut H,
     wire: &mut W,
     disk: D,
-    gate: &G,
 ) -> Performed<D>
     ensures ran { ServesOr (λ refusal. IsEarly (H.files shelf.old) (option_copied form.now.subscribers) (D.seen disk)
         refusal (W.turns wire.old) (W.turns wire.new)) (H.files shelf.old) (option_copied form.now.subscribers)
@@ -133,24 +134,18 @@ fn serve_words<R: Threads + Wait + Sync, H: Shelf, W: Wire, D: Disk + Drop + Sen
     ensures untouched { IsBeforeOpening (status_in result.result) → result.disk ≡ disk }
 
     // A fault comes only with a risen count.
-    ensures read_fault { IsErrOf result.result Refusal.ReadFault → Rose (W.faults wire.old) (W.faults wire.new)
-        ⊎ ((name : List ℕ) × (option_copied form.now.subscribers ≡ Some name)
-        × Rose (H.faults shelf.old name) (H.faults shelf.new name)) }
-    ensures quiet_shelf { result.result ≢ Err Refusal.ReadFault
-        → (name : List ℕ) → H.faults shelf.new name ≡ H.faults shelf.old name }
-    ensures write_fault { IsErrOf result.result Refusal.WriteFault → Rose (W.faults wire.old) (W.faults wire.new) }
-    ensures quiet_wire { HasQuietWire (status_in result.result) → W.faults wire.new ≡ W.faults wire.old }
-    ensures store_fault { IsErrOf result.result Refusal.StoreFault → Rose (D.faults disk) (D.faults result.disk) }
-    ensures quiet_disk { IsQuiet (status_in result.result) → D.faults result.disk ≡ D.faults disk }
+    ensures input { RoseInService (λ name. option_copied form.now.subscribers ≡ Some name) result.result
+        (H.faults shelf.old) (H.faults shelf.new) (W.faults wire.old) (W.faults wire.new) }
+    ensures store { RoseOnDisk result.result (D.faults disk) (D.faults result.disk) }
 {
-    let Ok(mut ear) = new_ear(alloc) else {
+    let Ok(mut ear) = new_ear(resources.alloc) else {
         return Performed {
             disk,
             result: Err(Refusal::NoMemory),
         };
     };
-    match read_header(alloc, form, shelf, wire, &mut ear) {
-        Ok(mut input) => serve_input(rt, alloc, &mut input, wire, &mut ear, disk, gate),
+    match read_header(resources.alloc, form, shelf, wire, &mut ear) {
+        Ok(mut input) => serve_input(resources, &mut input, wire, &mut ear, disk),
         Err(refusal) => Performed {
             disk,
             result: Err(refusal),
@@ -189,12 +184,8 @@ fn read_header<H: Shelf, W: Wire>(
     ensures causes { IfErr result HeaderStops }
 
     // A fault comes only with a risen count.
-    ensures read_fault { IsErrOf result Refusal.ReadFault → Rose (W.faults wire.old) (W.faults wire.new)
-        ⊎ ((name : List ℕ) × (option_copied form.now.subscribers ≡ Some name)
-        × Rose (H.faults shelf.old name) (H.faults shelf.new name)) }
-    ensures quiet_shelf { result ≢ Err Refusal.ReadFault
-        → (name : List ℕ) → H.faults shelf.new name ≡ H.faults shelf.old name }
-    ensures quiet_wire { result ≢ Err Refusal.ReadFault → W.faults wire.new ≡ W.faults wire.old }
+    ensures input { RoseInService (λ name. option_copied form.now.subscribers ≡ Some name) result
+        (H.faults shelf.old) (H.faults shelf.new) (W.faults wire.old) (W.faults wire.new) }
 {
     let mut subs = read_subscribers(alloc, form.subscribers, shelf)?;
     let script = hear_header(alloc, wire, ear, &mut subs)?;
@@ -216,8 +207,7 @@ fn hear_header<W: Wire>(
     ensures within { IfOk result (IsWithin subs.new) }
     ensures room { length ear.new.room.items ≡ length ear.old.room.items }
     ensures refused { IfErr result (IsHeaderStop subs.old (W.turns wire.old) (W.turns wire.new)) }
-    ensures fault { IsErrOf result Refusal.ReadFault → Rose (W.faults wire.old) (W.faults wire.new) }
-    ensures quiet { result ≢ Err Refusal.ReadFault → W.faults wire.new ≡ W.faults wire.old }
+    ensures wire { RoseAt Refusal.ReadFault result (W.faults wire.old) (W.faults wire.new) }
 {
     each_block_is_split_off();
     match hear_block(alloc, wire, &mut ear.waiting, ear.room.as_mut_slice())? {
@@ -233,13 +223,11 @@ fn hear_header<W: Wire>(
 
 /// Opens the journal for the subscribers of a header, and serves what is heard behind it.
 fn serve_input<R: Threads + Wait + Sync, W: Wire, D: Disk + Drop + Send, G: Gate + Sync>(
-    rt: &R,
-    alloc: Global,
+    resources: &Resources<R, G>,
     input: &mut Input,
     wire: &mut W,
     ear: &mut Ear,
     disk: D,
-    gate: &G,
 ) -> Performed<D>
     requires within { IsWithin input.old.subs input.old.script }
     requires room { 0 < length ear.old.room.items }
@@ -260,17 +248,14 @@ fn serve_input<R: Threads + Wait + Sync, W: Wire, D: Disk + Drop + Send, G: Gate
     ensures always { RemembersAlways D.seen D.may_leave D.moment D.left_since disk result.disk }
 
     // A fault comes only with a risen count.
-    ensures read_fault { IsErrOf result.result Refusal.ReadFault → Rose (W.faults wire.old) (W.faults wire.new) }
-    ensures write_fault { IsErrOf result.result Refusal.WriteFault → Rose (W.faults wire.old) (W.faults wire.new) }
-    ensures quiet_wire { HasQuietWire (status_in result.result) → W.faults wire.new ≡ W.faults wire.old }
-    ensures store_fault { IsErrOf result.result Refusal.StoreFault → Rose (D.faults disk) (D.faults result.disk) }
-    ensures quiet_disk { IsQuiet (status_in result.result) → D.faults result.disk ≡ D.faults disk }
+    ensures wire { RoseOnWire result.result (W.faults wire.old) (W.faults wire.new) }
+    ensures store { RoseOnDisk result.result (D.faults disk) (D.faults result.disk) }
 {
-    match open_journal(alloc, disk, &input.subs) {
+    match open_journal(resources.alloc, disk, &input.subs) {
         Ok(journal) => {
             laws_of_transcripts();
             is_realm(input.script.realm.as_slice());
-            serve_ready(rt, alloc, input, journal, wire, ear, gate)
+            serve_ready(resources, input, journal, wire, ear)
         }
         Err(OpenRefused { disk, why }) => Performed {
             disk,
@@ -281,13 +266,11 @@ fn serve_input<R: Threads + Wait + Sync, W: Wire, D: Disk + Drop + Send, G: Gate
 
 /// Replies to the header, and serves what is heard behind it.
 fn serve_ready<R: Threads + Wait + Sync, W: Wire, D: Disk + Drop + Send, G: Gate + Sync>(
-    rt: &R,
-    alloc: Global,
+    resources: &Resources<R, G>,
     input: &mut Input,
     journal: Journal<D>,
     wire: &mut W,
     ear: &mut Ear,
-    gate: &G,
 ) -> Performed<D>
     requires within { IsWithin input.old.subs input.old.script }
     requires room { 0 < length ear.old.room.items }
@@ -315,24 +298,20 @@ fn serve_ready<R: Threads + Wait + Sync, W: Wire, D: Disk + Drop + Send, G: Gate
         → RemembersAlways D.seen D.may_leave D.moment D.left_since from result.disk }
 
     // A fault comes only with a risen count.
-    ensures read_fault { IsErrOf result.result Refusal.ReadFault → Rose (W.faults wire.old) (W.faults wire.new) }
-    ensures write_fault { IsErrOf result.result Refusal.WriteFault → Rose (W.faults wire.old) (W.faults wire.new) }
-    ensures quiet_wire { HasQuietWire (status_in result.result) → W.faults wire.new ≡ W.faults wire.old }
-    ensures store_fault { IsErrOf result.result Refusal.StoreFault
-        → Rose (D.faults journal.disk) (D.faults result.disk) }
-    ensures quiet_disk { IsQuiet (status_in result.result) → D.faults result.disk ≡ D.faults journal.disk }
+    ensures wire { RoseOnWire result.result (W.faults wire.old) (W.faults wire.new) }
+    ensures store { RoseOnDisk result.result (D.faults journal.disk) (D.faults result.disk) }
 {
-    let Ok(state) = first_state(alloc, &input.subs, &journal) else {
+    let Ok(state) = first_state(resources.alloc, &input.subs, &journal) else {
         return refused(journal, Refusal::NoMemory);
     };
     let stand = Stand {
         number: 1,
         state,
         journal,
-        text: Octets::new(alloc),
+        text: Octets::new(resources.alloc),
     };
     match say_whole(wire, READY) {
-        Ok(()) => serve_blocks(rt, alloc, input, stand, wire, ear, gate),
+        Ok(()) => serve_blocks(resources, input, stand, wire, ear),
         Err(failed) => Performed {
             disk: stand.into_disk(),
             result: Err(Refusal::from(failed)),

@@ -1,9 +1,9 @@
 //! Telling a journal: its limits as lines, or its bytes anew.
 
-ghost use Rattle.std.specs.Prelude.{◌≡◌, ◌≢◌, ℕ, List, Err, OnOk, IfOk, IfErr, IsErrOf};
-ghost use Rattle.auc_edge.specs.Faults.{Rose};
+ghost use Rattle.std.specs.Prelude.{◌≡◌, ◌≢◌, ℕ, List, Err, OnOk, IfOk, IfErr};
 ghost use Rattle.auc_edge.specs.Sink.{Appends};
 ghost use Rattle.auc_run.specs.Inner.{LimitsStop, TellsLimits, WritesLimits, status_in};
+ghost use Rattle.auc_run.specs.InnerFaults.{RoseAt};
 
 use crate::forms::JournalForm;
 use crate::refusal::Refusal;
@@ -26,8 +26,7 @@ pub(crate) fn write_limits<K: Sink>(
     ensures refused { IfErr result (LimitsStop form limits.now.written) }
     ensures silent { IfErr result (λ refusal. refusal ≢ Refusal.WriteFault
         → K.written out.new ≡ K.written out.old) }
-    ensures fault { IsErrOf result Refusal.WriteFault → Rose (K.faults out.old) (K.faults out.new) }
-    ensures quiet { result ≢ Err Refusal.WriteFault → K.faults out.new ≡ K.faults out.old }
+    ensures output { RoseAt Refusal.WriteFault result (K.faults out.old) (K.faults out.new) }
 {
     let text = limits_text(alloc, form, limits)?;
     write_whole(out, text.as_slice())?;

@@ -17,6 +17,7 @@ ghost use Rattle.auc_subs.specs.declared.row.Row.{Row};
 ghost use Rattle.auc_world.specs.Agreement.{IsRealm};
 ghost use Rattle.auc_run.specs.Crash.{IsFull, MayHaveLeft, MayLeave, Remembers, RemembersAlways};
 ghost use Rattle.auc_run.specs.Inner.{FilesLeave, FilesStop, InputStops, IsBeforeJournal, IsRead, IsSilent, LimitsLeave, OutputStops, ReadingStops, Stops, TellingStops, files_seen, status_in};
+ghost use Rattle.auc_run.specs.InnerFaults.{RoseAmong, RoseAt, RoseOnDisk};
 ghost use Rattle.auc_run.specs.Outcome.{AreRead, AreUnknown, AreWrong, EndsAlgorithm, EndsBefore, EndsLoad, EndsUsage, IsCause, IsQuiet, IsReadNext, IsStop, MayPrint, MayRun, MayTell, NeedsNoJournal, PrintsAlgorithm, Refuses, RunsFiles, RunsFull, RunsLoad, RunsScenario};
 ghost use Rattle.auc_run.specs.Refusal.{MayRefuse};
 ghost use Rattle.auc_run.specs.Telling.{EndsTelling, IsLongTold, IsTooLong, MayBeLong, PrintsJournal, TellsJournal, journal_named};
@@ -30,6 +31,7 @@ use crate::load::run_load;
 use crate::opening::open_journal;
 use crate::refusal::{Performed, Refusal};
 use crate::refusing::tell;
+use crate::resources::Resources;
 use crate::rounds::serve_parts;
 use crate::status::{Ended, Status};
 use crate::telling::write_limits;
@@ -140,7 +142,8 @@ pub fn run<R: Threads + Wait + Sync, H: Shelf, K: Sink, D: Disk + Drop + Send, G
     ensures long_comes { (form : JournalForm) (found : List ℕ) → journal_named words.now ≡ Some form
         → D.seen disk ≡ Some found → IsLongTold form (Some found) → MayBeLong result.status }
 {
-    let Performed { disk, result } = perform(rt, alloc, words, shelf, out, disk, gate);
+    let resources = Resources { rt, alloc, gate };
+    let Performed { disk, result } = perform(&resources, words, shelf, out, disk);
     match result {
         Ok(()) => Ended {
             status: Status::Done,
@@ -156,13 +159,11 @@ pub fn run<R: Threads + Wait + Sync, H: Shelf, K: Sink, D: Disk + Drop + Send, G
 /// Does what the words ask for.
 #[tactic(auto, using(crate::proofs::RememberLemmas::remembers_same))]
 fn perform<R: Threads + Wait + Sync, H: Shelf, K: Sink, D: Disk + Drop + Send, G: Gate + Sync>(
-    rt: &R,
-    alloc: Global,
+    resources: &Resources<R, G>,
     words: &[Octets],
     shelf: &mut H,
     out: &mut K,
     disk: D,
-    gate: &G,
 ) -> Performed<D>
     ensures done { OnOk result.result (RunsScenario words.now (H.files shelf.old) (D.seen disk)
         (MayLeave D.seen D.may_leave disk result.disk)
@@ -194,40 +195,33 @@ fn perform<R: Threads + Wait + Sync, H: Shelf, K: Sink, D: Disk + Drop + Send, G
         → EndsLoad load (status_in result.result) (K.written out.old) (K.written out.new) }
 
     // A fault comes only with a risen count.
-    ensures read_fault { IsErrOf result.result Refusal.ReadFault → (files : Files)
-        × (files_named words.now ≡ Some files) × (name : List ℕ) × IsReadNext (H.files shelf.old) files name
-        × Rose (H.faults shelf.old name) (H.faults shelf.new name) }
-    ensures quiet_shelf { result.result ≢ Err Refusal.ReadFault
-        → (name : List ℕ) → H.faults shelf.new name ≡ H.faults shelf.old name }
-    ensures write_fault { IsErrOf result.result Refusal.WriteFault → Rose (K.faults out.old) (K.faults out.new) }
-    ensures quiet_output { result.result ≢ Err Refusal.WriteFault → K.faults out.new ≡ K.faults out.old }
-    ensures store_fault { IsErrOf result.result Refusal.StoreFault → Rose (D.faults disk) (D.faults result.disk) }
-    ensures quiet_disk { IsQuiet (status_in result.result) → D.faults result.disk ≡ D.faults disk }
+    ensures shelf { RoseAmong (λ name. (files : Files) × (files_named words.now ≡ Some files)
+        × IsReadNext (H.files shelf.old) files name) result.result (H.faults shelf.old) (H.faults shelf.new) }
+    ensures output { RoseAt Refusal.WriteFault result.result (K.faults out.old) (K.faults out.new) }
+    ensures store { RoseOnDisk result.result (D.faults disk) (D.faults result.disk) }
 {
     if let Some(files) = input_files(words) {
-        return run_files(rt, alloc, &files, shelf, out, disk, gate);
+        return run_files(resources, &files, shelf, out, disk);
     }
     if let Some(form) = algorithm_words(words) {
-        let result = print_algorithm(alloc, &form, out);
+        let result = print_algorithm(resources.alloc, &form, out);
         return Performed { disk, result };
     }
     if let Some(form) = journal_form(words) {
-        return print_journal(alloc, form, out, disk);
+        return print_journal(resources.alloc, form, out, disk);
     }
-    let result = run_load(rt, alloc, words, out, gate);
+    let result = run_load(resources.rt, resources.alloc, words, out, resources.gate);
     Performed { disk, result }
 }
 
 /// Reads the subscribers, if a file of them is named, and then the scenario, opens the journal, and serves the rounds.
 #[tactic(auto, using(crate::proofs::RefusalLemmas::reading_stops, crate::proofs::RefusalLemmas::input_stops, crate::proofs::RefusalLemmas::right_read, crate::proofs::RefusalLemmas::leave_unread, crate::proofs::RememberLemmas::remembers_same))]
 fn run_files<R: Threads + Wait + Sync, H: Shelf, K: Sink, D: Disk + Drop + Send, G: Gate + Sync>(
-    rt: &R,
-    alloc: Global,
+    resources: &Resources<R, G>,
     files: &InputFiles,
     shelf: &mut H,
     out: &mut K,
     disk: D,
-    gate: &G,
 ) -> Performed<D>
     ensures refused { IfErr result.result (FilesStop (H.files shelf.old) (files_seen files.now) (D.seen disk)) }
     ensures ran { FilesLeave (H.files shelf.old) (files_seen files.now) (D.seen disk)
@@ -246,18 +240,13 @@ fn run_files<R: Threads + Wait + Sync, H: Shelf, K: Sink, D: Disk + Drop + Send,
         → AreWrong (Some there) (files_seen files.now) cause → result.disk ≡ disk }
 
     // A fault comes only with a risen count.
-    ensures read_fault { IsErrOf result.result Refusal.ReadFault → (name : List ℕ)
-        × IsReadNext (H.files shelf.old) (files_seen files.now) name
-        × Rose (H.faults shelf.old name) (H.faults shelf.new name) }
-    ensures quiet_shelf { result.result ≢ Err Refusal.ReadFault
-        → (name : List ℕ) → H.faults shelf.new name ≡ H.faults shelf.old name }
-    ensures write_fault { IsErrOf result.result Refusal.WriteFault → Rose (K.faults out.old) (K.faults out.new) }
-    ensures quiet_output { result.result ≢ Err Refusal.WriteFault → K.faults out.new ≡ K.faults out.old }
-    ensures store_fault { IsErrOf result.result Refusal.StoreFault → Rose (D.faults disk) (D.faults result.disk) }
-    ensures quiet_disk { IsQuiet (status_in result.result) → D.faults result.disk ≡ D.faults disk }
+    ensures shelf { RoseAmong (IsReadNext (H.files shelf.old) (files_seen files.now)) result.result
+        (H.faults shelf.old) (H.faults shelf.new) }
+    ensures output { RoseAt Refusal.WriteFault result.result (K.faults out.old) (K.faults out.new) }
+    ensures store { RoseOnDisk result.result (D.faults disk) (D.faults result.disk) }
 {
-    match read_input(alloc, files, shelf) {
-        Ok(input) => run_input(rt, alloc, &input, out, disk, gate),
+    match read_input(resources.alloc, files, shelf) {
+        Ok(input) => run_input(resources, &input, out, disk),
         Err(refusal) => Performed {
             disk,
             result: Err(refusal),
@@ -268,12 +257,10 @@ fn run_files<R: Threads + Wait + Sync, H: Shelf, K: Sink, D: Disk + Drop + Send,
 /// Opens the journal for the subscribers of a run, and serves the rounds of its script.
 #[tactic(auto, using(crate::proofs::RefusalLemmas::leave_unopened))]
 fn run_input<R: Threads + Wait + Sync, K: Sink, D: Disk + Drop + Send, G: Gate + Sync>(
-    rt: &R,
-    alloc: Global,
+    resources: &Resources<R, G>,
     input: &Input,
     out: &mut K,
     disk: D,
-    gate: &G,
 ) -> Performed<D>
     requires { IsWithin input.now.subs input.now.script }
     ensures ran { (told : Option (List File)) (files : Files) → IsRead told files input.now.subs input.now.script
@@ -291,16 +278,14 @@ fn run_input<R: Threads + Wait + Sync, K: Sink, D: Disk + Drop + Send, G: Gate +
         → RunsFull D.seen D.may_leave told files disk result.disk (K.written out.old) (K.written out.new) }
 
     // A fault comes only with a risen count.
-    ensures write_fault { IsErrOf result.result Refusal.WriteFault → Rose (K.faults out.old) (K.faults out.new) }
-    ensures quiet_output { result.result ≢ Err Refusal.WriteFault → K.faults out.new ≡ K.faults out.old }
-    ensures store_fault { IsErrOf result.result Refusal.StoreFault → Rose (D.faults disk) (D.faults result.disk) }
-    ensures quiet_disk { IsQuiet (status_in result.result) → D.faults result.disk ≡ D.faults disk }
+    ensures output { RoseAt Refusal.WriteFault result.result (K.faults out.old) (K.faults out.new) }
+    ensures store { RoseOnDisk result.result (D.faults disk) (D.faults result.disk) }
 {
-    match open_journal(alloc, disk, &input.subs) {
+    match open_journal(resources.alloc, disk, &input.subs) {
         Ok(journal) => {
             laws_of_transcripts();
             is_realm(input.script.realm.as_slice());
-            serve_parts(rt, alloc, &input.script, &input.subs, journal, out, gate)
+            serve_parts(resources, &input.script, &input.subs, journal, out)
         }
         Err(OpenRefused { disk, why }) => Performed {
             disk,
@@ -330,11 +315,8 @@ fn read_input<H: Shelf>(alloc: Global, files: &InputFiles, shelf: &mut H) -> Res
     ensures refused { IfErr result (ReadingStops (H.files shelf.old) (files_seen files.now)) }
 
     // A fault comes only with a risen count.
-    ensures read_fault { IsErrOf result Refusal.ReadFault
-        → (name : List ℕ) × IsReadNext (H.files shelf.old) (files_seen files.now) name
-        × Rose (H.faults shelf.old name) (H.faults shelf.new name) }
-    ensures quiet_shelf { result ≢ Err Refusal.ReadFault
-        → (name : List ℕ) → H.faults shelf.new name ≡ H.faults shelf.old name }
+    ensures shelf { RoseAmong (IsReadNext (H.files shelf.old) (files_seen files.now)) result
+        (H.faults shelf.old) (H.faults shelf.new) }
 {
     let mut subs = read_subscribers(alloc, files.subscribers, shelf)?;
     let script = read_script(alloc, files.scenario, shelf, &mut subs)?;
@@ -356,10 +338,8 @@ fn print_journal<K: Sink, D: Disk + Drop>(
     ensures always { RemembersAlways D.seen D.may_leave D.moment D.left_since disk result.disk }
     ensures silent { IfErr result.result (λ refusal. refusal ≢ Refusal.WriteFault
         → K.written out.new ≡ K.written out.old) }
-    ensures write_fault { IsErrOf result.result Refusal.WriteFault → Rose (K.faults out.old) (K.faults out.new) }
-    ensures quiet_output { result.result ≢ Err Refusal.WriteFault → K.faults out.new ≡ K.faults out.old }
-    ensures store_fault { IsErrOf result.result Refusal.StoreFault → Rose (D.faults disk) (D.faults result.disk) }
-    ensures quiet_disk { result.result ≢ Err Refusal.StoreFault → D.faults result.disk ≡ D.faults disk }
+    ensures output { RoseAt Refusal.WriteFault result.result (K.faults out.old) (K.faults out.new) }
+    ensures store { RoseAt Refusal.StoreFault result.result (D.faults disk) (D.faults result.disk) }
 {
     match Journal::open(alloc, disk, &[]) {
         Ok(journal) => {
@@ -381,8 +361,7 @@ fn print_algorithm<K: Sink>(alloc: Global, form: &AlgorithmForm, out: &mut K) ->
     ensures written { OnOk result (Appends (K.written out.old) (K.written out.new) (algorithm_text form.now)) }
     ensures ran { EndsAlgorithm form.now (status_in result) (K.written out.old) (K.written out.new) }
     ensures refused { IfErr result OutputStops }
-    ensures fault { IsErrOf result Refusal.WriteFault → Rose (K.faults out.old) (K.faults out.new) }
-    ensures quiet { result ≢ Err Refusal.WriteFault → K.faults out.new ≡ K.faults out.old }
+    ensures output { RoseAt Refusal.WriteFault result (K.faults out.old) (K.faults out.new) }
 {
     let text = algorithm_lines(alloc, form)?;
     write_whole(out, text.as_slice())?;

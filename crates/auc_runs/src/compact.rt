@@ -1,7 +1,7 @@
 //! The form `compact`: a journal is written anew.
 
-use auc_disk::{FailList, MemDisk};
-use auc_edge::{Items, MemShelf, MemSink, Octets, OpenGate};
+use crate::outside::{disk_of, words_of};
+use auc_edge::{MemShelf, MemSink, Octets, OpenGate};
 use auc_run::{Status, run};
 use std::alloc::Global;
 use std::process::Abort;
@@ -30,13 +30,8 @@ fn check<R: Abort + Threads + Wait + Sync>(
     status: Status,
     output: &[u8],
 ) -> Octets {
-    let image = Octets::copied_from(alloc, file).expect(rt, "memory");
-    let disk = MemDisk::new(alloc, image, FailList::new(alloc)).expect(rt, "memory");
-    let mut words = Items::new(alloc);
-    for bytes in all {
-        let word = Octets::copied_from(alloc, bytes).expect(rt, "memory");
-        words.push(word).expect(rt, "memory");
-    }
+    let disk = disk_of(rt, alloc, file);
+    let words = words_of(rt, alloc, all);
     let mut shelf = MemShelf::new(alloc);
     let mut out = MemSink::new(alloc);
     let ended = run(
@@ -52,11 +47,23 @@ fn check<R: Abort + Threads + Wait + Sync>(
     ended.disk.crash(alloc, 0).expect(rt, "memory")
 }
 
+// Checks `compact` over a disk with these bytes, and answers whether it leaves this file.
+fn leaves<R: Abort + Threads + Wait + Sync>(
+    rt: &R,
+    alloc: Global,
+    file: &[u8],
+    status: Status,
+    output: &[u8],
+    image: &[u8],
+) -> bool {
+    let left = check(rt, alloc, file, &[b"compact"], status, output);
+    left.as_slice() == image
+}
+
 #[test]
 fn compact_writes_each_identity_once(rt: HostRuntime) {
     let alloc = rt.alloc();
-    let left = check(&rt, alloc, FOUND, &[b"compact"], Status::Done, ANEW);
-    assert!(rt; left.as_slice() == FOUND);
+    assert!(rt; leaves(&rt, alloc, FOUND, Status::Done, ANEW, FOUND));
     check(&rt, alloc, FOUND, &[b"reserved"], Status::Done, TOLD);
     check(&rt, alloc, ANEW, &[b"reserved"], Status::Done, TOLD);
     check(&rt, alloc, ANEW, &[b"compact"], Status::Done, ANEW);
@@ -81,8 +88,7 @@ fn compact_goes_by_the_file_that_it_finds(rt: HostRuntime) {
         ),
     ];
     for (file, status, output, image) in cases {
-        let left = check(&rt, alloc, file, &[b"compact"], status, output);
-        assert!(rt; left.as_slice() == image);
+        assert!(rt; leaves(&rt, alloc, file, status, output, image));
     }
 }
 

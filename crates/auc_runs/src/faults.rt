@@ -1,7 +1,8 @@
 //! Runs in which one call of the outside fails: each in turn, until none fails.
 
-use auc_disk::{DiskCall, FailList, MemDisk};
-use auc_edge::{Items, MemShelf, MemSink, Octets, OpenGate};
+use crate::outside::{RUN, failing_disk, shelf_of, words_of};
+use auc_disk::{DiskCall, MemDisk};
+use auc_edge::{MemShelf, MemSink, OpenGate};
 use auc_run::{Status, run};
 use std::alloc::Global;
 use std::process::Abort;
@@ -33,20 +34,9 @@ enum Kind {
     Disk(DiskCall),
 }
 
-// The words `run scenario`.
-fn words(rt: &impl Abort, alloc: Global) -> Items<Octets> {
-    let mut words = Items::new(alloc);
-    for word in [b"run".as_slice(), b"scenario"] {
-        let octets = Octets::copied_from(alloc, word).expect(rt, "memory");
-        words.push(octets).expect(rt, "memory");
-    }
-    words
-}
-
 // A shelf with this scenario, of which a read fails.
-fn shelf_of(rt: &impl Abort, alloc: Global, scenario: &[u8], read: u64) -> MemShelf {
-    let mut shelf = MemShelf::new(alloc);
-    shelf.add(b"scenario", scenario).expect(rt, "memory");
+fn failing_shelf(rt: &impl Abort, alloc: Global, scenario: &[u8], read: u64) -> MemShelf {
+    let mut shelf = shelf_of(rt, alloc, b"scenario", scenario);
     shelf.fail(read).expect(rt, "memory");
     shelf
 }
@@ -56,14 +46,6 @@ fn sink_of(rt: &impl Abort, alloc: Global, write: u64) -> MemSink {
     let mut sink = MemSink::new(alloc);
     sink.fail(write).expect(rt, "memory");
     sink
-}
-
-// A disk with these bytes, of which a call of a kind fails.
-fn disk_of(rt: &impl Abort, alloc: Global, bytes: &[u8], call: DiskCall, place: u64) -> MemDisk {
-    let mut fail = FailList::new(alloc);
-    fail.push(call, place).expect(rt, "memory");
-    let image = Octets::copied_from(alloc, bytes).expect(rt, "memory");
-    MemDisk::new(alloc, image, fail).expect(rt, "memory")
 }
 
 // What a run leaves.
@@ -88,10 +70,10 @@ fn run_failing<R: Abort + Threads + Wait + Sync>(
         Kind::Write => (0, place, DiskCall::Len, 0),
         Kind::Disk(call) => (0, 0, call, place),
     };
-    let words = words(rt, alloc);
-    let mut shelf = shelf_of(rt, alloc, scenario, read);
+    let words = words_of(rt, alloc, &RUN);
+    let mut shelf = failing_shelf(rt, alloc, scenario, read);
     let mut out = sink_of(rt, alloc, write);
-    let disk = disk_of(rt, alloc, bytes, call, called);
+    let disk = failing_disk(rt, alloc, bytes, call, called);
     let gate = OpenGate::new();
     let ended = run(
         rt,

@@ -2,14 +2,16 @@
 
 ghost use Rattle.std.specs.Prelude.{None};
 
+use crate::outside::{RUN, TWO_JOBS, shelf_of, words_of};
 use auc_disk::Disk;
-use auc_edge::{Failed, Gate, Items, MemShelf, MemSink, Octets, TurnGate};
+use auc_edge::{Failed, Gate, MemSink, TurnGate};
 use auc_run::{Status, run};
 use std::alloc::Global;
 use std::process::Abort;
 use std::sync::Wait;
 use std::sync::atomic::AtomicU32;
 use std::sync::atomic::Ordering::SeqCst;
+use std::thread::Threads;
 
 // A disk that keeps no bytes, and counts its writes where others see them.
 #[derive(Drop)]
@@ -75,46 +77,41 @@ impl Gate for CountingGate<'_> {
     }
 }
 
-// Two jobs, each of which draws the first number of its own subscriber.
-const TWO_JOBS: &[u8] =
-    b"workers 2\nsubscriber 001010000000001 465b5ce8b199b49faa5f0a2ee238a6bc opc cd63cb71954a9f4e48a5994e37a02baf 8000 0 0\nsubscriber 001010000000002 465b5ce8b199b49faa5f0a2ee238a6bc opc cd63cb71954a9f4e48a5994e37a02baf 8000 0 0\nround\njob\ndraw 001010000000001 1\njob\ndraw 001010000000002 1\n";
-
-// The words `run scenario`.
-fn words(rt: &impl Abort, alloc: Global) -> Items<Octets> {
-    let mut words = Items::new(alloc);
-    for word in [b"run".as_slice(), b"scenario"] {
-        let octets = Octets::copied_from(alloc, word).expect(rt, "memory");
-        words.push(octets).expect(rt, "memory");
-    }
-    words
+// How a run of two jobs ends at a gate, over a disk that counts its writes there.
+fn run_two_jobs<R: Abort + Threads + Wait + Sync>(
+    rt: &R,
+    alloc: Global,
+    gate: &CountingGate<'_>,
+) -> Status {
+    let words = words_of(rt, alloc, &RUN);
+    let mut shelf = shelf_of(rt, alloc, b"scenario", TWO_JOBS);
+    let mut out = MemSink::new(alloc);
+    let disk = CountingDisk {
+        writes: gate.writes,
+    };
+    run(
+        rt,
+        alloc,
+        words.as_slice(),
+        &mut shelf,
+        &mut out,
+        disk,
+        gate,
+    )
+    .status
 }
 
 // By hand: the opening writes once. Each job appends a limit, which is two writes, before its number is released. So three
 // writes or five were made when the first job left the gate.
 #[test]
 fn job_leaves_the_gate_after_its_last_line(rt: HostRuntime) {
-    let alloc = rt.alloc();
     let writes = AtomicU32::new(0);
     let gate = CountingGate {
         turn: TurnGate::new(1000000),
         writes: &writes,
         fewest: AtomicU32::new(u32::MAX),
     };
-    let disk = CountingDisk { writes: &writes };
-    let words = words(&rt, alloc);
-    let mut out = MemSink::new(alloc);
-    let mut shelf = MemShelf::new(alloc);
-    shelf.add(b"scenario", TWO_JOBS).expect(&rt, "memory");
-    let ended = run(
-        &rt,
-        alloc,
-        words.as_slice(),
-        &mut shelf,
-        &mut out,
-        disk,
-        &gate,
-    );
-    assert!(rt; ended.status == Status::Done);
+    assert!(rt; run_two_jobs(&rt, rt.alloc(), &gate) == Status::Done);
     assert!(rt; gate.turn.left() == 2 && !gate.turn.expired());
     assert!(rt; gate.fewest.load(SeqCst) >= 3);
 }

@@ -11,6 +11,8 @@ mod faults;
 #[cfg(test)]
 mod gates;
 #[cfg(test)]
+mod outside;
+#[cfg(test)]
 mod service;
 #[cfg(test)]
 mod tests;

@@ -10,7 +10,7 @@ use Rattle.auc_subs.specs.declared.row.Row.{Row}
 use Rattle.auc_script.specs.declared.script.Script.{Script}
 use Rattle.auc_script.specs.declared.refusal.ScriptRefusal.{ScriptRefusal}
 use Rattle.auc_script.specs.declared.refusal.ScriptRefusal.TheVariants as refusal
-use Rattle.auc_script.specs.declared.refusal.ScriptWhy.{ScriptWhy}
+use Rattle.auc_reading.specs.declared.refusal.ScriptWhy.{ScriptWhy}
 use Rattle.auc_text.specs.Text.{ended, lines_of, without_cr}
 use Rattle.auc_script.specs.Scenario.{Scenario, after_line}
 use Rattle.auc_script.specs.Reading.{AreRight, after, beginning, read_lines, script_from, script_in}

@@ -1,10 +1,4 @@
-mod FieldLemmas
-mod FitLemmas
-mod FivegLemmas
 mod LawLemmas
-mod LineLemmas
-mod NameLemmas
 mod ReadingLemmas
-mod ScheduleLemmas
 mod SessionLemmas
 mod SoFarLemmas

@@ -4,9 +4,9 @@ use Rattle.std.specs.Option.{option_copied}
 use Rattle.std.proofs.lemmas.List.{append_assoc, length-append, take_at}
 use Rattle.auc_subs.specs.declared.row.Row.{Row}
 use Rattle.auc_script.specs.declared.refusal.ScriptRefusal.TheVariants as refusal
-use Rattle.auc_script.specs.declared.refusal.ScriptWhy.{ScriptWhy}
-use Rattle.auc_script.specs.declared.refusal.LineRefusal.{LineRefusal}
-use Rattle.auc_script.specs.declared.refusal.LineRefusal.TheVariants as of
+use Rattle.auc_reading.specs.declared.refusal.ScriptWhy.{ScriptWhy}
+use Rattle.auc_reading.specs.declared.refusal.LineRefusal.{LineRefusal}
+use Rattle.auc_reading.specs.declared.refusal.LineRefusal.TheVariants as of
 use Rattle.auc_script.specs.InnerRefusal.{Becomes, refusal_at}
 use Rattle.auc_script.specs.Scenario.{Scenario, after_line}
 use Rattle.auc_text.specs.Text.{lines_of}

@@ -14,10 +14,10 @@ use Rattle.std.proofs.lemmas.Option.{get_or_from_slice_get, slice_get-get_or, sl
 use Rattle.std.proofs.Math.Seq.{get_or-append_seam, take-append_seam}
 use Rattle.auc_lines.specs.declared.part.Line.{Line}
 use Rattle.auc_lines.specs.declared.part.Line.TheVariants.{Draw, Give, Sync, Eps, Fiveg, Sites, Sim, Session, Start, Deliver, Repeat, GiveUp, Plain, Tamper, Cut}
-use Rattle.auc_script.specs.declared.refusal.ScriptWhy.{ScriptWhy}
-use Rattle.auc_script.specs.declared.refusal.ScriptWhy.TheVariants as why
+use Rattle.auc_reading.specs.declared.refusal.ScriptWhy.{ScriptWhy}
+use Rattle.auc_reading.specs.declared.refusal.ScriptWhy.TheVariants as why
 use Rattle.auc_subs.specs.Steps.{◌>>=◌}
-use Rattle.auc_script.specs.Field.{require}
+use Rattle.auc_reading.specs.Field.{require}
 use Rattle.auc_script.specs.InnerSoFar.{AreOfJob, noted}
 use Rattle.auc_script.specs.Limits.{IsOpened, SessionsAreOpened}
 use Rattle.auc_script.specs.Scenario.{in_order, is_new}

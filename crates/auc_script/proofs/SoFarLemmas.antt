@@ -1,7 +1,7 @@
 -- What is kept while lines are read, for `SoFar`.
 use Rattle.std.proofs.Common.{ℕ, ◌≡◌, ◌≢◌, ◌<◌, ◌≤◌, ◌+◌, ◌*◌, ◌∙◌, ◌&&◌, ◌||◌, nat_eq, nat_le, nat_lt, Bool, true, false, List, ◌∷◌, ◌++◌, [], length, get_or, slice_index, slice_set, Option, Some, None, IfSome, is_some, slice_get, Result, Ok, Err, arith, ap, sym, refl, append-nil, append_assoc, length-append, length-set, replicate}
 use Rattle.std.specs.Prelude.{◌==◌, not}
-use Rattle.std.specs.List.{All, AllPairs, join_with_byte, list_any, sum_by}
+use Rattle.std.specs.List.{All, AllPairs, list_any, sum_by}
 use Rattle.std.specs.Option.{option_map, option_to_list}
 use Rattle.std.proofs.lemmas.Bool.Decides.{nat_tests}
 use Rattle.std.proofs.lemmas.List.{get_or_append_left, length-replicate, get_or-set_same, get_or-set_other}
@@ -15,7 +15,7 @@ use Rattle.std.proofs.lemmas.List.Sums.{count_by-le-length, sum_by-append}
 use Rattle.std.proofs.lemmas.Option.{slice_get_within}
 use Rattle.auc_subs.specs.declared.row.Row.{Row}
 use Rattle.auc_subs.specs.declared.refusal.SubsWhy.{SubsWhy}
-use Rattle.auc_subs.specs.Subscriber.{line_counts, rows_after}
+use Rattle.auc_subs.specs.Subscriber.{line_counts, rows_with_fields}
 use Rattle.auc_script.specs.declared.holders.Holders.{Holders}
 use Rattle.auc_script.specs.declared.sessions.Sessions.{Sessions}
 use Rattle.auc_script.specs.declared.so_far.SoFar.{SoFar}
@@ -24,20 +24,23 @@ use Rattle.auc_lines.specs.declared.part.Line.TheVariants.{Draw, Give, Sync, Eps
 use Rattle.auc_lines.specs.declared.part.Part.{Part}
 use Rattle.auc_lines.specs.declared.part.Part.TheVariants.{Round, Restart}
 use Rattle.auc_lines.specs.Sites.{IsSitesValue, SitesValue, deliveries_in, is_delivery}
-use Rattle.auc_script.specs.Numbers.{most_events, most_jobs, most_leased, most_packets, most_rounds, most_sessions, most_vectors}
+use Rattle.auc_reading.specs.Numbers.{most_events, most_leased}
+use Rattle.auc_script.specs.Numbers.{most_jobs, most_packets, most_rounds, most_sessions, most_vectors}
 use Rattle.auc_script.specs.declared.round_so_far.RoundSoFar.{RoundSoFar}
 use Rattle.auc_script.specs.declared.form.Form.{Form}
 use Rattle.auc_script.specs.declared.form.Form.TheVariants as forms
-use Rattle.auc_script.specs.declared.word.JobWord.{JobWord}
-use Rattle.auc_script.specs.Limits.{AreJobs, AreWithin, IsBlock, IsLine, IsOpened, IsPart, SessionsAreOpened}
-use Rattle.auc_lines.specs.Part.{AreApart}
-use Rattle.auc_script.specs.Scenario.{Scenario, by_subs, in_order, is_block, is_busy, is_header, jobs_in, job_line, line_of, may_stand_in_block, no_jobs, of_job_line, parts_of, restart_line, round_line, rounds_of, subscriber_line, with_round}
-use Rattle.auc_lines.specs.Part.{asked, asked_by, held_by, holds, is_held_by, jobs_of}
-use Rattle.auc_script.specs.Session.{has_fit_texts, is_among, named_by, opened, opened_by, packets, packets_by, sessions_of}
-use Rattle.auc_script.specs.declared.refusal.ScriptWhy.{ScriptWhy}
-use Rattle.auc_script.specs.declared.refusal.ScriptWhy.TheVariants.{Limit, NotInBlock, UsimBusy}
+use Rattle.auc_reading.specs.declared.word.JobWord.{JobWord}
+use Rattle.auc_script.specs.Limits.{AreJobs, AreWithin, IsBlock, IsOpened, IsPart, SessionsAreOpened}
+use Rattle.auc_reading.specs.Ranges.{IsLine}
+use Rattle.auc_lines.specs.Part.{AreApart, asked, asked_by, held_by, holds, is_held_by, jobs_of}
+use Rattle.auc_script.specs.Scenario.{Scenario, by_subs, in_order, is_block, is_busy, is_header, jobs_in, job_line, may_stand_in_block, no_jobs, of_job_line, parts_of, restart_line, round_line, rounds_of, subscriber_line, with_round}
+use Rattle.auc_reading.specs.JobLine.{line_of}
+use Rattle.auc_reading.specs.Texts.{has_fit_texts}
+use Rattle.auc_script.specs.Session.{is_among, named_by, opened, opened_by, packets, packets_by, sessions_of}
+use Rattle.auc_reading.specs.declared.refusal.ScriptWhy.{ScriptWhy}
+use Rattle.auc_reading.specs.declared.refusal.ScriptWhy.TheVariants.{Limit, NotInBlock, UsimBusy}
 use Rattle.auc_subs.specs.Steps.{◌>>=◌}
-use Rattle.auc_script.specs.Field.{no_field, require}
+use Rattle.auc_reading.specs.Field.{no_field, require}
 use Rattle.auc_script.specs.InnerSoFar.{AreMarks, AreOfJob, IsBetween, IsMark, IsReady, IsSoFar, asked_with, marked, noted, of_new_job, room_for, scenario, with_line}
 use Rattle.auc_script.proofs.SessionLemmas.{fresh, known, not_last, numbers_push, of_job_more, opened_more, packets_push, sessions_job, sessions_last, sessions_line}
 
@@ -434,16 +437,6 @@ pub marks_bound : (rows : List Row) (s : SoFar) (round : RoundSoFar) → IsSoFar
 marks_bound rows s round kept = All-from_get_or (λ mark. mark ≤ s.jobs) s.holders.marks.items 0
     (λ sub inside. omega (arith, (kept.round.marks sub inside).bound, kept.round.before, kept.jobs, length-jobs s.ended (jobs_in round)))
 
--- a test that had to hold holds
-pub must_hold : (b : Bool) (cause : ScriptWhy) (done : Unit {0}) → Ok done ≡ require b cause → b ≡ true
-must_hold true cause done is = refl
-must_hold false cause done is = cc
-
--- a test that had to fail fails
-pub must_fail : (b : Bool) (cause : ScriptWhy) (done : Unit {0}) → Ok done ≡ require (not b) cause → b ≡ false
-must_fail true cause done is = cc
-must_fail false cause done is = refl
-
 -- one of two tests holds if the first one does, or the second one
 pub first_of : (a b : Bool) → a ≡ true → (a || b) ≡ true
 first_of true b is = refl
@@ -477,9 +470,9 @@ not_both forms.Header none is = cc
 not_both forms.Block none is = cc
 
 -- what a subscriber's line makes of the scenario, by what it makes of the rows
-pub subscriber_is : (s : Scenario) (fields : List (List ℕ)) (line : List ℕ) (rows : Result (List Row) SubsWhy) → (not (is_block s.form) && not (is_some s.round) && (length s.ended == 0)) ≡ true
-    → list_any (λ n. length fields == n) line_counts ≡ true → line ≡ join_with_byte 32 fields → rows_after s.rows line ≡ rows → subscriber_line s fields ≡ (by_subs rows >>= λ rows. Ok (record s { rows = rows }))
-subscriber_is s fields line rows place counted joined is = rw (place, counted, ← joined, is) refl
+pub subscriber_is : (s : Scenario) (fields : List (List ℕ)) (rows : Result (List Row) SubsWhy) → (not (is_block s.form) && not (is_some s.round) && (length s.ended == 0)) ≡ true
+    → rows_with_fields line_counts s.rows fields ≡ rows → subscriber_line s fields ≡ (by_subs rows >>= λ rows. Ok (record s { rows = rows }))
+subscriber_is s fields rows place is = rw (place, is) refl
 
 -- what is kept when a restart comes
 pub kept_restart : (rows : List Row) (old s : SoFar) (parts : List Part) (round : RoundSoFar) → IsSoFar rows old → old.round ≡ Some round → IsBetween rows old s

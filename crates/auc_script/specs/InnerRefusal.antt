@@ -1,27 +1,16 @@
 -- Inner facts: what only private contracts of this crate cite. How one line is taken or refused, and what
 -- its refusal makes of the scenario's.
 use Rattle.std.specs.Prelude.{ℕ, ◌≡◌, Result, Ok, Err}
-use Rattle.auc_script.specs.declared.refusal.LineRefusal.{LineRefusal}
-use Rattle.auc_script.specs.declared.refusal.LineRefusal.TheVariants as line
+use Rattle.auc_reading.specs.declared.refusal.LineRefusal.{LineRefusal}
+use Rattle.auc_reading.specs.declared.refusal.LineRefusal.TheVariants as line
+use Rattle.auc_reading.specs.declared.refusal.ScriptWhy.{ScriptWhy}
 use Rattle.auc_script.specs.declared.refusal.ScriptRefusal.{ScriptRefusal}
 use Rattle.auc_script.specs.declared.refusal.ScriptRefusal.TheVariants as refusal
-use Rattle.auc_script.specs.declared.refusal.ScriptWhy.{ScriptWhy}
 
 -- what the refusal of the line of a number makes of the scenario's
 abbrev pub refusal_at : ℕ → LineRefusal → ScriptRefusal
 refusal_at number (line.Why why) = refusal.Line number why
 refusal_at number line.NoMemory = refusal.NoMemory
-
--- how a part of a line was read: what it should say, and what was read
-abbrev pub Says : {A : Type 0} → Result A ScriptWhy → Result A LineRefusal → Type 0
-Says expected (Ok part) = expected ≡ Ok part
-Says expected (Err (line.Why why)) = expected ≡ Err why
-Says expected (Err line.NoMemory) = Unit {0}
-
--- what was read without memory, where memory may lack
-abbrev pub as_said : {A : Type 0} → Result A ScriptWhy → Result A LineRefusal
-as_said (Ok part) = Ok part
-as_said (Err why) = Err (line.Why why)
 
 -- how a line was taken: what should be after it, the answer, and what is after it
 abbrev pub Becomes : {A : Type 0} → Result A ScriptWhy → Result (Unit {0}) LineRefusal → A → Type 0

@@ -10,15 +10,16 @@ use Rattle.auc_script.specs.declared.round_so_far.RoundSoFar.{RoundSoFar}
 use Rattle.auc_script.specs.declared.sessions.Sessions.{Sessions}
 use Rattle.auc_script.specs.declared.so_far.SoFar.{SoFar}
 use Rattle.auc_script.specs.declared.form.Form.{Form}
-use Rattle.auc_script.specs.declared.refusal.ScriptWhy.{ScriptWhy}
-use Rattle.auc_script.specs.declared.refusal.ScriptWhy.TheVariants as why
-use Rattle.auc_script.specs.Field.{require}
+use Rattle.auc_reading.specs.declared.refusal.ScriptWhy.{ScriptWhy}
+use Rattle.auc_reading.specs.declared.refusal.ScriptWhy.TheVariants as why
+use Rattle.auc_reading.specs.Field.{require}
 use Rattle.auc_script.specs.Scenario.{Scenario, in_order, is_block, is_busy, jobs_in, may_stand_in_block, rounds_of, with_round}
 use Rattle.auc_lines.specs.Part.{asked, asked_by, held_by, holds, jobs_of}
 use Rattle.auc_subs.specs.Steps.{◌>>=◌}
 use Rattle.auc_script.specs.Limits.{AreWithin}
 use Rattle.auc_script.specs.Numbers.{longest_realm, most_packets, most_sessions, most_vectors, most_workers}
-use Rattle.auc_script.specs.Session.{has_fit_texts, opened, opened_by, packets, packets_by, sessions_of, started, started_by}
+use Rattle.auc_reading.specs.Texts.{has_fit_texts}
+use Rattle.auc_script.specs.Session.{opened, opened_by, packets, packets_by, sessions_of, started, started_by}
 
 -- a header within its limits
 pub record IsHeader (header : Header) : Type 0 where

@@ -4,7 +4,7 @@ use Rattle.std.specs.List.{flat_map}
 use Rattle.auc_subs.specs.declared.row.Row.{Row}
 use Rattle.auc_script.specs.declared.script.Script.{Script}
 use Rattle.auc_script.specs.declared.refusal.ScriptRefusal.TheVariants as refusal
-use Rattle.auc_script.specs.declared.refusal.ScriptWhy.{ScriptWhy}
+use Rattle.auc_reading.specs.declared.refusal.ScriptWhy.{ScriptWhy}
 use Rattle.auc_text.specs.Text.{lines_of}
 use Rattle.auc_script.specs.Scenario.{Scenario, after_line}
 use Rattle.auc_script.specs.Reading.{AreRight, beginning, script_from, script_of}

@@ -1,6 +1,3 @@
-pub mod Field
-pub mod FivegLine
-pub mod InnerFields
 pub mod InnerRefusal
 pub mod InnerSoFar
 pub mod Law
@@ -8,9 +5,4 @@ pub mod Limits
 pub mod Numbers
 pub mod Reading
 pub mod Scenario
-pub mod Schedule
 pub mod Session
-pub mod SessionLine
-pub mod SimLine
-pub mod SitesLine
-pub mod Word

@@ -8,7 +8,7 @@ use Rattle.auc_script.specs.declared.form.Form.TheVariants as forms
 use Rattle.auc_script.specs.declared.script.Script.{Script}
 use Rattle.auc_script.specs.declared.refusal.ScriptRefusal.{ScriptRefusal}
 use Rattle.auc_script.specs.declared.refusal.ScriptRefusal.TheVariants as refusal
-use Rattle.auc_script.specs.declared.refusal.ScriptWhy.{ScriptWhy}
+use Rattle.auc_reading.specs.declared.refusal.ScriptWhy.{ScriptWhy}
 use Rattle.auc_text.specs.Text.{lines_of}
 use Rattle.auc_script.specs.Scenario.{Scenario, after_line, jobs_in, parts_of}
 

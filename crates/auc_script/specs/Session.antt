@@ -1,12 +1,10 @@
 -- The sessions of a scenario's lines: which line opens one, starts it, or is otherwise of it, and how many packets the
 -- lines of a job count for. Beside them whether a line's texts are within their limits.
-use Rattle.std.specs.Prelude.{ℕ, ◌&&◌, nat_eq, nat_le, Bool, true, List, length, sum_by, Option, Some, None}
+use Rattle.std.specs.Prelude.{ℕ, nat_eq, Bool, List, sum_by, Option, Some, None}
 use Rattle.std.specs.List.{filter_map, flat_map, list_any}
-use Rattle.auc_lines.specs.declared.part.Identity.{Identity}
-use Rattle.auc_lines.specs.declared.part.Identity.TheVariants.{Held, Permanent, Text}
 use Rattle.auc_lines.specs.declared.part.Line.{Line}
 use Rattle.auc_lines.specs.declared.part.Line.TheVariants.{Draw, Give, Sync, Eps, Fiveg, Sites, Sim, Session, Start, Deliver, Repeat, GiveUp, Plain}
-use Rattle.auc_script.specs.Numbers.{longest_name, longest_text, packets_of_plain}
+use Rattle.auc_script.specs.Numbers.{packets_of_plain}
 
 -- the number of the session that a line opens, and of the one that it starts as a `start` line
 abbrev pub opened_by : Line → Option ℕ
@@ -40,24 +38,6 @@ sessions_of jobs = flat_map opened jobs
 -- a number is among others
 abbrev pub is_among : ℕ → List ℕ → Bool
 is_among number others = list_any (nat_eq number) others
-
--- a name, if there is one, is within its limit
-abbrev pub is_short : Option (List ℕ) → Bool
-is_short None = true
-is_short (Some name) = nat_le (length name) longest_name
-
--- an identity's text, if it is one, is within its limits
-abbrev pub is_first : Identity → Bool
-is_first Held = true
-is_first Permanent = true
-is_first (Text text) = nat_le 1 (length text) && nat_le (length text) longest_text
-
--- the names of the session that a line opens, and its first identity, are within their limits; or the two names of a line's
--- serving network
-abbrev pub has_fit_texts : Line → Bool
-has_fit_texts (Session line) = nat_le (length line.name) longest_name && is_short line.peer_name && is_first line.identity
-has_fit_texts (Fiveg line) = nat_le (length line.home) longest_name && nat_le (length line.device) longest_name
-has_fit_texts other = true
 
 -- how many packets a line counts for, and all lines of a job
 abbrev pub packets_by : Line → ℕ

@@ -6,11 +6,9 @@ ghost use Rattle.auc_script.specs.InnerRefusal.{Becomes};
 ghost use Rattle.auc_script.specs.InnerSoFar.{IsHeader};
 ghost use Rattle.auc_script.specs.Scenario.{header_with, key_line, print_line, realm_line, workers_line};
 
-use crate::field::{one_field, read_full, read_number};
 use crate::limits::{MAX_REALM, MAX_WORKERS};
-use crate::refusal::{LineRefusal, ScriptWhy, require};
-use crate::word::HeaderWord;
 use auc_edge::Octets;
+use auc_reading::{HeaderWord, LineRefusal, ScriptWhy, one_field, read_full, read_number, require};
 use auc_text::read_octets;
 use std::alloc::Global;
 

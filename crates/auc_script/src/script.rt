@@ -9,10 +9,11 @@ ghost use Rattle.auc_script.specs.declared.form.Form.TheVariants as forms;
 ghost use Rattle.auc_script.specs.declared.refusal.ScriptRefusal.TheVariants as refusal;
 
 use crate::form::Form;
-use crate::refusal::{ScriptRefusal, ScriptWhy};
+use crate::refusal::ScriptRefusal;
 use crate::so_far::SoFar;
 use auc_edge::{Items, Octets};
 use auc_lines::{Part, RoundPart};
+use auc_reading::ScriptWhy;
 use auc_subs::Subscribers;
 use auc_text::next_line;
 use std::alloc::Global;
@@ -155,7 +156,7 @@ fn put_lines(
                 rest = behind;
                 number += 1;
             }
-            Err(refusal) => return Err(refusal.at(number)),
+            Err(refusal) => return Err(ScriptRefusal::at(number, refusal)),
         }
     }
     Ok(())

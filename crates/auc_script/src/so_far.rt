@@ -1,34 +1,33 @@
 //! What the lines so far say.
 
 ghost use Rattle.std.specs.Prelude.{◌≡◌, ◌==◌, ◌&&◌, not, is_some, [], List, length, IfOk, IfSome, OnErr, OnOk};
-ghost use Rattle.std.specs.List.{list_any};
 ghost use Rattle.std.specs.Option.{option_map, unwrap_or};
 ghost use Rattle.auc_subs.specs.declared.row.Row.{Row};
-ghost use Rattle.auc_subs.specs.Subscriber.{AreSubscribers, line_counts};
+ghost use Rattle.auc_subs.specs.Subscriber.{AreSubscribers};
 ghost use Rattle.auc_text.specs.Text.{words_of};
 ghost use Rattle.auc_script.specs.Limits.{IsBlock, IsWithin};
 ghost use Rattle.auc_script.specs.Reading.{beginning_of, script_from};
 ghost use Rattle.auc_script.specs.InnerRefusal.{Becomes};
-ghost use Rattle.auc_script.specs.Scenario.{after_line, header_line, is_block, job_line, jobs_in, may_stand_in_block, of_job_line, restart_line, round_line, subscriber_line, with_round, word_line};
+ghost use Rattle.auc_script.specs.Scenario.{after_line, cause_of, header_line, is_block, job_line, jobs_in, of_job_line, restart_line, round_line, subscriber_line, with_round, word_line};
 ghost use Rattle.auc_script.specs.declared.form.Form.TheVariants as forms;
-ghost use Rattle.auc_script.specs.InnerSoFar.{IsBetween, IsHeader, IsReady, IsSoFar, asked_with, scenario, with_line};
+ghost use Rattle.auc_script.specs.InnerSoFar.{IsBetween, IsHeader, IsSoFar, scenario, with_line};
 
-use crate::field::no_field;
 use crate::form::Form;
 use crate::header::Header;
 use crate::holders::Holders;
-use crate::job_line::read_line;
-use crate::limits::{MAX_JOBS, MAX_ROUNDS, MAX_VECTORS};
-use crate::refusal::{LineRefusal, ScriptWhy, require};
+use crate::limits::{MAX_JOBS, MAX_ROUNDS};
+use crate::line_order::asked_with;
 use crate::round_so_far::RoundSoFar;
 use crate::script::Script;
-use crate::session_line::has_fit_texts;
 use crate::sessions::Sessions;
-use crate::word::{HeaderWord, JobWord, Word, is_comment, read_word};
 use auc_edge::{Items, NoMemory, Octets};
 use auc_lines::{Line, Part, RoundPart};
-use auc_subs::{AddRefusal, Subscribers};
-use auc_text::{joined, next_word, word_count};
+use auc_reading::{
+    HeaderWord, JobWord, LineRefusal, ScriptWhy, Word, is_comment, no_field, read_line, read_word,
+    require,
+};
+use auc_subs::{AddRefusal, SubsWhy, Subscribers};
+use auc_text::next_word;
 use std::alloc::Global;
 
 /// What the lines so far say, except the subscribers.
@@ -125,7 +124,7 @@ impl SoFar {
     {
         match word {
             Word::Header(which) => self.put_header(alloc, which, fields),
-            Word::Subscriber => self.put_subscriber(alloc, subs, fields),
+            Word::Subscriber => self.put_subscriber(subs, fields),
             Word::Round => self.put_round(alloc, subs, fields),
             Word::Job => self.put_job(alloc, fields),
             Word::Restart => self.put_restart(alloc, subs, fields),
@@ -151,12 +150,7 @@ impl SoFar {
     }
 
     /// Takes the fields of a subscriber.
-    fn put_subscriber(
-        &mut self,
-        alloc: Global,
-        subs: &mut Subscribers,
-        fields: &[u8],
-    ) -> Result<(), LineRefusal>
+    fn put_subscriber(&mut self, subs: &mut Subscribers, fields: &[u8]) -> Result<(), LineRefusal>
         requires { IsSoFar subs.old self.old }
         ensures becomes { Becomes (subscriber_line (scenario subs.old self.old) (words_of fields.now)) result
             (scenario subs.new self.new) }
@@ -166,11 +160,9 @@ impl SoFar {
         ensures same { self.new.form ≡ self.old.form }
     {
         require(self.is_before_rounds(), ScriptWhy::OutOfOrder)?;
-        require(is_line_count(word_count(fields)), ScriptWhy::Fields)?;
-        let line = joined(alloc, fields)?;
-        match subs.add(line.as_slice()) {
+        match subs.add_words(fields) {
             Ok(_) => Ok(()),
-            Err(AddRefusal::Why(why)) => Err(LineRefusal::Why(ScriptWhy::Subscriber(why))),
+            Err(AddRefusal::Why(fault)) => Err(LineRefusal::Why(cause_of(fault))),
             Err(AddRefusal::NoMemory) => Err(LineRefusal::NoMemory),
         }
     }
@@ -364,43 +356,6 @@ impl SoFar {
     }
 }
 
-/// How many vectors the lines ask for with one more of the present job, if it may stand there; else the cause.
-fn asked_with(
-    sessions: &Sessions,
-    holders: &Holders,
-    asked: u32,
-    round: &RoundSoFar,
-    line: &Line,
-    form: Form,
-) -> Result<u32, ScriptWhy>
-    requires { IsReady sessions.now holders.now asked round.now line.now }
-    ensures { result ≡ asked_with sessions.now asked round.now line.now form }
-{
-    sessions.order(line)?;
-    if holders.is_busy(round, line) {
-        return Err(ScriptWhy::UsimBusy);
-    }
-    let sum = asked + line.count();
-    if sum > MAX_VECTORS || !sessions.has_room(line) || !has_fit_texts(line) {
-        return Err(ScriptWhy::Limit);
-    }
-    require(
-        !form.is_block() || may_stand_in_block(line),
-        ScriptWhy::NotInBlock,
-    )?;
-    Ok(sum)
-}
-
-/// Whether a line rests on no USIM and on no line of an earlier round, so that it may stand in a block.
-fn may_stand_in_block(line: &Line) -> bool
-    ensures { result ≡ may_stand_in_block line.now }
-{
-    matches!(
-        line,
-        Line::Draw { .. } | Line::Sync { .. } | Line::Eps { .. } | Line::Sites(_) | Line::Sim(_)
-    )
-}
-
 /// Parts with the present round after the last, if there is one.
 fn with_round(ended: Items<Part>, round: Option<RoundSoFar>) -> Result<Items<Part>, NoMemory>
     ensures { IfOk result (λ parts. parts ≡ with_round ended round) }
@@ -425,9 +380,12 @@ fn put_in_round(round: &mut Option<RoundSoFar>, line: Line) -> Result<(), NoMemo
     }
 }
 
-/// Whether a subscriber may have so many fields.
-fn is_line_count(count: usize) -> bool
-    ensures { result ≡ list_any (λ n. count == n) line_counts }
+/// What a fault of a subscriber's fields is as the cause of a line.
+fn cause_of(fault: SubsWhy) -> ScriptWhy
+    ensures { result ≡ cause_of fault }
 {
-    count == 7 || count == 9
+    match fault {
+        SubsWhy::FieldCount => ScriptWhy::Fields,
+        _ => ScriptWhy::Subscriber(fault),
+    }
 }

@@ -74,9 +74,17 @@ impl Checkcode {
             → HoldsPackets self.new method (packets ++ packet.now ∷ []) }
         ensures total { IsOk result }
     {
+        self.add(packet);
+        Ok(())
+    }
+
+    // Adds the next packet.
+    pub(crate) fn add(&mut self, packet: &[u8])
+        ensures { (method : Method) (packets : List (List ℕ)) → HoldsPackets self.old method packets
+            → HoldsPackets self.new method (packets ++ packet.now ∷ []) }
+    {
         self.hasher.feed(packet);
         self.is_empty = false;
-        Ok(())
     }
 
     /// The hash of all packets in order, or `Empty` if there was none.
@@ -111,18 +119,23 @@ impl Hasher {
 fn sha1_of(hasher: &Sha1) -> [u8; 20]
     ensures { (bytes : List ℕ) → One.Holds hasher.now bytes → result ≡ sha1 bytes }
 {
-    match hasher.clone() {
-        Ok(copy) => copy.finalize(),
-        Err(_) => unreachable!(),
-    }
+    copy_of(hasher).finalize()
 }
 
 // The same of SHA-256.
 fn sha256_of(hasher: &Sha256) -> [u8; 32]
     ensures { (bytes : List ℕ) → Holds256 hasher.now bytes → result ≡ sha256 bytes }
 {
+    copy_of(hasher).finalize()
+}
+
+// A copy of what takes no memory. The trait's call answers a `Result` all the same.
+fn copy_of<H: Clone>(hasher: &H) -> H
+    requires { H.is_infallible hasher.now }
+    ensures { H.is_clone hasher.now result }
+{
     match hasher.clone() {
-        Ok(copy) => copy.finalize(),
+        Ok(copy) => copy,
         Err(_) => unreachable!(),
     }
 }

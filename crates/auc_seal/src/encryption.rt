@@ -1,11 +1,11 @@
 //! Encryption of attributes (RFC 4187 §10.12).
 
-ghost use Rattle.std.specs.Prelude.{◌≡◌, ◌%◌, ◌≤◌, ◌↔◌, ◌++◌, true, IsTrue, List, length, Ok, IfOk, OnOk, OnErr};
+ghost use Rattle.std.specs.Prelude.{◌≡◌, ◌%◌, ◌≤◌, ◌↔◌, ◌++◌, IsTrue, List, length, Ok, IfOk, OnOk, OnErr};
 ghost use Rattle.auc_aes.specs.Bytes.{IsBlock};
 ghost use Rattle.auc_aes.specs.Cbc.{cbc_encrypted};
 ghost use Rattle.auc_attr.specs.declared.attr.Attr.{Attr};
 ghost use Rattle.auc_attr.specs.Laws.{AreBytes};
-ghost use Rattle.auc_attr.specs.Spelling.{writable, spelling};
+ghost use Rattle.auc_attr.specs.Spelling.{spelling};
 ghost use Rattle.auc_edge.specs.Reserved.{wrote};
 ghost use Rattle.auc_seal.specs.Encrypted.{padding_for, padded, encrypted, MayBeEncrypted, HasNoneEncrypted, Decrypts};
 
@@ -52,18 +52,7 @@ impl EncryptionRoom {
 pub fn may_be_encrypted(inner: &AttrList) -> bool
     ensures { IsTrue result ↔ MayBeEncrypted inner.now }
 {
-    inner.len() > 0 && !has_padding(inner) && inner.writable() && is_short(inner)
-}
-
-/// Whether a spelling has at most 992 bytes.
-fn is_short(inner: &AttrList) -> bool
-    requires { writable inner.now ≡ true }
-    ensures { IsTrue result ↔ (length (spelling inner.now) ≤ 992) }
-{
-    match inner.size() {
-        Some(size) => size <= MOST,
-        None => false,
-    }
+    inner.len() > 0 && !has_padding(inner) && inner.writable() && inner.is_within(MOST)
 }
 
 /// Encrypts attributes under K_encr and pushes AT_IV and AT_ENCR_DATA. If the spelling of `inner` is no
@@ -134,7 +123,7 @@ fn put_padded(inner: &AttrList, room: &mut Room)
     ensures { room.new ≡ wrote room.old (spelling (padded inner.now)) }
 {
     put_attrs(inner, room);
-    room.put(padding_for(size_of(inner)));
+    room.put(padding_for(inner.size()));
 }
 
 /// Writes the ciphertext of whole blocks. The last three clauses say that arguments are bytes, as the law that
@@ -155,27 +144,15 @@ fn put_ciphertext(k_encr: [u8; 16], iv: [u8; 16], plain: &[u8], room: &mut Room)
     room.put(blocks);
 }
 
-/// The size of the spelling of attributes, in bytes.
-fn size_of(inner: &AttrList) -> usize
-    requires { MayBeEncrypted inner.now }
-    ensures { result ≡ length (spelling inner.now) }
-{
-    match inner.size() {
-        Some(size) => size,
-        None => unreachable!(),
-    }
-}
-
 /// The spelling of the padding after `size` bytes.
 fn padding_for(size: usize) -> &'static [u8]
     requires { size % 4 ≡ 0 }
     ensures { result.now ≡ spelling (padding_for size) }
 {
-    match (16 - size % 16) % 16 {
-        0 => &[],
-        4 => &[6, 1, 0, 0],
-        8 => &[6, 2, 0, 0, 0, 0, 0, 0],
-        12 => &[6, 3, 0, 0, 0, 0, 0, 0, 0, 0, 0, 0],
-        _ => unreachable!(),
+    match size / 4 % 4 {
+        1 => &[6, 3, 0, 0, 0, 0, 0, 0, 0, 0, 0, 0],
+        2 => &[6, 2, 0, 0, 0, 0, 0, 0],
+        3 => &[6, 1, 0, 0],
+        _ => &[],
     }
 }

@@ -94,10 +94,7 @@ impl IdentityPackets {
     {
         let mut code = Checkcode::new(method);
         for packet in self.all.as_slice() {
-            match code.update(packet.as_slice()) {
-                Ok(()) => {}
-                Err(_) => unreachable!(),
-            }
+            code.add(packet.as_slice());
         }
         code.value()
     }

@@ -1,5 +1,5 @@
 -- What a turn asks a centre for: a resynchronisation and then a number, or nothing.
-use Rattle.std.proofs.Common.{◌≡◌, ◌≢◌, ℕ, Bool, false, true, List, [], ◌++◌, Option, Some, None, is_some, refl, sym, ap, ◌∙◌, subst}
+use Rattle.std.proofs.Common.{◌≡◌, ◌≢◌, ℕ, true, false, List, [], ◌++◌, Option, Some, None, is_some, refl, sym, ◌∙◌, subst}
 use Rattle.auc_edge.specs.declared.stop.Stop.{Stop}
 use Rattle.auc_history.specs.declared.entry.Entry.{Entry}
 use Rattle.auc_vector.specs.Notes.{AnswersNote, AnswersNumber, AnswersReport, AskedOf, entries_noted, entries_resynced, kept_noted, withheld_noted}
@@ -9,20 +9,15 @@ use Rattle.auc_vector.specs.declared.notes.NumberNote.TheVariants as number
 use Rattle.auc_vector.specs.declared.notes.ResyncNote.{ResyncNote}
 use Rattle.auc_vector.specs.declared.notes.ResyncNote.TheVariants as resync
 use Rattle.auc_vector.specs.declared.turn.Turn.{Turn}
-use Rattle.auc_reauth.specs.declared.context.Context.{Context}
-use Rattle.auc_server.specs.Contexts.{context_in, homes_left}
 use Rattle.auc_server.specs.InnerAsking.{IsRedrawn, number_noted, resync_noted}
 use Rattle.auc_server.specs.InnerServer.{IsNumbered}
 use Rattle.auc_server.specs.Server.{ServerEnd}
 use Rattle.auc_server.specs.Setting.{Setting}
-use Rattle.auc_server.specs.Steps.{AsksAsNeeded, asking, challenges_again}
-use Rattle.auc_server.specs.Table.{challenged, noted, reauthenticated, resumed_with, resynchronised, resynchronising, server_does, succeeded}
+use Rattle.auc_server.specs.Steps.{challenges_again}
+use Rattle.auc_server.specs.Table.{challenged, noted, resynchronised, resynchronising}
 use Rattle.auc_server.specs.declared.asking.Redrawn.{Redrawn}
 use Rattle.auc_server.specs.declared.asking.Redrawn.TheVariants as redrawn
-use Rattle.auc_server.specs.declared.rows.Row.{Row}
-use Rattle.auc_server.specs.declared.rows.Row.TheVariants as row
-use Rattle.auc_server.specs.declared.server.Challenged.{Challenged}
-use Rattle.auc_server.specs.declared.server.Resumed.{Resumed}
+use Rattle.auc_server.specs.declared.plan.Plan.{Plan}
 use Rattle.auc_server.specs.declared.setting.HomeRow.{HomeRow}
 use Rattle.auc_server.specs.declared.why.ServerWhy.{ServerWhy}
 
@@ -60,46 +55,9 @@ pub draws_again : (top : ℕ) (answered : Redrawn) → IsRedrawn top answered �
 draws_again top (redrawn.Again r d) own = sym own.0
 draws_again top (redrawn.Beyond seen at) own = refl
 
--- what holds of a row and of notes holds of equal ones
-pub as_noted : (P : Row → Notes → Type 0) (r is : Row) (notes are : Notes) → r ≡ is → notes ≡ are → P is are → P r notes
-as_noted P r is notes are same alike holds = subst (λ (x : Row). P x notes) (sym same) (subst (λ (n : Notes). P is n) (sym alike) holds)
-
--- a row asks for nothing unless it is one of three
-pub asks_alone : (r : Row) → ((sub : ℕ) → r ≡ row.Challenge sub → ⊥) → ((sub : ℕ) → r ≡ row.TooSmall sub → ⊥) → ((sub seq : ℕ) → r ≡ row.Resynchronise sub seq → ⊥)
-    → asking r ≡ None
-asks_alone (row.Challenge sub) first instead again = absurd (first sub refl)
-asks_alone (row.TooSmall sub) first instead again = absurd (instead sub refl)
-asks_alone (row.Resynchronise sub seq) first instead again = absurd (again sub seq refl)
-asks_alone other first instead again = refl
-
--- whether a turn notes a number
-abbrev draws : ServerEnd × Turn ServerWhy → Bool
-draws t = is_some t.1.notes.number
-
-resumed_draws : (set : Setting) (left : List HomeRow) (s : ServerEnd) (text : List ℕ) (packets : List (List ℕ)) (sub : ℕ) (c : Option Context)
-    → draws (resumed_with set left s text packets sub c) ≡ false
-resumed_draws set left s text packets sub None = refl
-resumed_draws set left s text packets sub (Some c) = refl
-
-succeeded_draws : (s : ServerEnd) (c : Option Challenged) → draws (succeeded s c) ≡ false
-succeeded_draws s None = refl
-succeeded_draws s (Some sent) = refl
-
-renewed_draws : (s : ServerEnd) (c : Option Resumed) → draws (reauthenticated s c) ≡ false
-renewed_draws s None = refl
-renewed_draws s (Some sent) = refl
-
--- a row that asks for nothing notes no number
-pub draws_alone : (set : Setting) (homes : List HomeRow) (s new : ServerEnd) (turn : Turn ServerWhy) (text : List ℕ) (packets : List (List ℕ)) (r : Row) → asking r ≡ None
-    → (new, turn) ≡ server_does set homes s text packets r turn.notes → AsksAsNeeded r turn.notes
-draws_alone set homes s new turn text packets (row.Challenge sub) alone step = absurd cc
-draws_alone set homes s new turn text packets (row.TooSmall sub) alone step = absurd cc
-draws_alone set homes s new turn text packets (row.Resynchronise sub seq) alone step = absurd cc
-draws_alone set homes s new turn text packets (row.Resume sub) alone step =
-    ap draws step ∙ resumed_draws set (homes_left s.options.method text homes sub) s text packets sub (context_in s.options.method text homes sub)
-draws_alone set homes s new turn text packets row.Success alone step = ap draws step ∙ succeeded_draws s s.challenged
-draws_alone set homes s new turn text packets row.Reauthenticated alone step = ap draws step ∙ renewed_draws s s.resumed
-draws_alone set homes s new turn text packets other alone step = ap draws step
+-- what holds of a plan and of notes holds of equal ones
+pub as_noted : (P : Plan → Notes → Type 0) (p is : Plan) (notes are : Notes) → p ≡ is → notes ≡ are → P is are → P p notes
+as_noted P p is notes are same alike holds = subst (λ (x : Plan). P x notes) (sym same) (subst (λ (n : Notes). P is n) (sym alike) holds)
 
 module _ {S : Type 0} (goes : S → ℕ → List Entry → List (ℕ × Stop) → S → Type 0) (kept : S → ℕ → Option ℕ) (top : S → ℕ → ℕ) where
   -- a number alone was asked for

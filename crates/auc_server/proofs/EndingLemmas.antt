@@ -29,18 +29,19 @@ use Rattle.auc_reauth.specs.declared.context.Context.{Context}
 use Rattle.auc_request.specs.declared.identities.IdentityRequest.TheVariants as asks
 use Rattle.auc_server.specs.Attributes.{auts_of, checkcode_of, error_code_of, first_of, identity_in, res_of}
 use Rattle.auc_server.specs.Contexts.{context_in, homes_left}
-use Rattle.auc_server.specs.Ending.{EachTurnLeavesFewer, packets_left, packets_left_in}
+use Rattle.auc_server.specs.Ending.{EachTurnLeavesFewer, left_challenged, packets_left, packets_left_in}
 use Rattle.auc_server.specs.Rounds.{checkcode}
-use Rattle.auc_server.specs.Rows.{by_auts, challenge_or, context_subscriber, differs, if_challenged, if_resumed, in_state, is_expected, is_type, is_wrong, on_any, on_auts, on_challenged, on_client_error, on_error_code, on_first, on_full, on_head, on_identity, on_message, on_method, on_permanent, on_reading, on_reauth, on_response, on_resumed, on_sync_failure, permanent_subscriber, read_by, resume_or, says_small, server_row, subscriber_in, text_in, type_awaited}
+use Rattle.auc_server.specs.Rows.{by_auts, challenge_or, context_subscriber, differs, in_state, is_expected, is_type, is_wrong, on_any, on_auts, on_challenged, on_client_error, on_error_code, on_first, on_full, on_head, on_identity, on_message, on_method, on_permanent, on_reading, on_reauth, on_response, on_resumed, on_sync_failure, permanent_subscriber, read_by, resume_or, says_small, server_row, subscriber_in, text_in, type_awaited}
 use Rattle.auc_server.specs.Server.{ServerEnd}
 use Rattle.auc_server.specs.Setting.{Setting}
-use Rattle.auc_server.specs.Table.{challenged, challenged_with, identified, names_given, noted, packets_after, reauthenticated, resumed_with, resynchronised, resynchronising, server_does, succeeded, vector_at}
+use Rattle.auc_server.specs.Table.{challenged, challenged_with, identified, names_given, noted, packets_after, resumed_with, resynchronised, resynchronising, server_does, vector_at}
 use Rattle.auc_server.specs.declared.naming.GivenNames.{GivenNames}
 use Rattle.auc_server.specs.declared.options.ServerOptions.{ServerOptions}
 use Rattle.auc_server.specs.declared.reply.Reply.{Reply}
 use Rattle.auc_server.specs.declared.rows.Row.{Row}
 use Rattle.auc_server.specs.declared.rows.Row.TheVariants as row
 use Rattle.auc_server.specs.declared.server.Challenged.{Challenged}
+use Rattle.auc_server.specs.declared.server.Last.{Last}
 use Rattle.auc_server.specs.declared.server.Resumed.{Resumed}
 use Rattle.auc_server.specs.declared.server.ServerState.{ServerState}
 use Rattle.auc_server.specs.declared.server.ServerState.TheVariants as state
@@ -60,11 +61,11 @@ needs (row.Challenge sub) = 4
 needs (row.Resume sub) = 5
 needs row.WrongCounter = 2
 needs (row.TooSmall sub) = 4
-needs row.Reauthenticated = 1
+needs (row.Reauthenticated sent) = 1
 needs row.WrongMac = 2
 needs row.WrongRes = 2
 needs row.WrongCheckcode = 2
-needs row.Success = 1
+needs (row.Success sent) = 1
 needs row.SecondSync = 2
 needs row.BadAuts = 2
 needs (row.Resynchronise sub seq) = 3
@@ -102,32 +103,32 @@ first_needs options set homes text =
     of_two 7 options.any (row.Ask asks.Any) (on_any options.method set homes text) (omega arith) (omega (arith, six))
 
 -- the response to a challenge, by what is tested
-response_by : (missing forged other_res other_code : Bool)
-    → needs (cond missing (row.Ignore reason.Missing) (cond forged row.WrongMac (cond other_res row.WrongRes (cond other_code row.WrongCheckcode row.Success)))) ≤ 2
-response_by true forged other_res other_code = omega arith
-response_by false true other_res other_code = omega arith
-response_by false false true other_code = omega arith
-response_by false false false true = omega arith
-response_by false false false false = omega arith
+response_by : (sent : Challenged) (missing forged other_res other_code : Bool)
+    → needs (cond missing (row.Ignore reason.Missing) (cond forged row.WrongMac (cond other_res row.WrongRes (cond other_code row.WrongCheckcode (row.Success sent))))) ≤ 2
+response_by sent true forged other_res other_code = omega arith
+response_by sent false true other_res other_code = omega arith
+response_by sent false false true other_code = omega arith
+response_by sent false false false true = omega arith
+response_by sent false false false false = omega arith
 
 response_needs : (by : Method) (packets : List (List ℕ)) (sent : Challenged) (seen : Seen) (list : List Attr) → needs (on_response by packets sent seen list) ≤ 2
 response_needs by packets sent seen list =
-    response_by (is_missing subtype.Challenge false list) (not (is_sealed by sent.keys.k_aut [] seen)) (not (is_expected sent.vector.xres (first_of res_of list)))
+    response_by sent (is_missing subtype.Challenge false list) (not (is_sealed by sent.keys.k_aut [] seen)) (not (is_expected sent.vector.xres (first_of res_of list)))
     (differs (checkcode by packets) (first_of checkcode_of list))
 
 -- the response to a re-authentication, by what is tested
-reauth_by : (sub : ℕ) (missing forged wrong small other_code : Bool)
-    → needs (cond missing (row.Ignore reason.Missing) (cond forged row.WrongMac (cond wrong row.WrongCounter (cond small (row.TooSmall sub) (cond other_code row.WrongCheckcode row.Reauthenticated))))) ≤ 4
-reauth_by sub true forged wrong small other_code = omega arith
-reauth_by sub false true wrong small other_code = omega arith
-reauth_by sub false false true small other_code = omega arith
-reauth_by sub false false false true other_code = omega arith
-reauth_by sub false false false false true = omega arith
-reauth_by sub false false false false false = omega arith
+reauth_by : (sent : Resumed) (missing forged wrong small other_code : Bool)
+    → needs (cond missing (row.Ignore reason.Missing) (cond forged row.WrongMac (cond wrong row.WrongCounter (cond small (row.TooSmall sent.sub) (cond other_code row.WrongCheckcode (row.Reauthenticated sent)))))) ≤ 4
+reauth_by sent true forged wrong small other_code = omega arith
+reauth_by sent false true wrong small other_code = omega arith
+reauth_by sent false false true small other_code = omega arith
+reauth_by sent false false false true other_code = omega arith
+reauth_by sent false false false false true = omega arith
+reauth_by sent false false false false false = omega arith
 
 reauth_needs : (by : Method) (packets : List (List ℕ)) (sent : Resumed) (seen : Seen) (said : Reply) (list : List Attr) → needs (on_reauth by packets sent seen said list) ≤ 4
 reauth_needs by packets sent seen said list =
-    reauth_by sent.sub (is_missing subtype.Reauthentication false list) (not (is_sealed by sent.context.k_aut sent.nonce seen)) (is_wrong said) (says_small said)
+    reauth_by sent (is_missing subtype.Reauthentication false list) (not (is_sealed by sent.context.k_aut sent.nonce seen)) (is_wrong said) (says_small said)
     (differs (checkcode by packets) (first_of checkcode_of list))
 
 -- a synchronisation failure: only the first one resynchronises
@@ -143,7 +144,7 @@ answer_needs : (set : Setting) (sent : Challenged) (answer : Option (List ℕ)) 
 answer_needs set sent None = omega arith
 answer_needs set sent (Some answer) = read_needs sent answer (slice_get set.rows sent.sub)
 
-sync_needs : (set : Setting) (synced : Bool) (sent : Challenged) (list : List Attr) → needs (on_sync_failure set synced sent list) ≤ packets_left_in state.AwaitChallenge synced
+sync_needs : (set : Setting) (synced : Bool) (sent : Challenged) (list : List Attr) → needs (on_sync_failure set synced sent list) ≤ left_challenged synced
 sync_needs set true sent list = of_two 2 (is_missing subtype.SynchronizationFailure false list) (row.Ignore reason.Missing) row.SecondSync (omega arith) (omega arith)
 sync_needs set false sent list =
     of_two 3 (is_missing subtype.SynchronizationFailure false list) (row.Ignore reason.Missing) (on_auts set sent (first_of auts_of list)) (omega arith)
@@ -159,12 +160,12 @@ error_needs list =
     (code_needs (first_of error_code_of list))
 
 -- two packets may follow a challenge at least
-two_left : (synced : Bool) → 2 ≤ packets_left_in state.AwaitChallenge synced
+two_left : (synced : Bool) → 2 ≤ left_challenged synced
 two_left true = omega arith
 two_left false = omega arith
 
 challenged_needs : (set : Setting) (s : ServerEnd) (sent : Challenged) (seen : Seen) (kind : Subtype) (list : List Attr)
-    → needs (on_challenged set s sent seen kind list) ≤ packets_left_in state.AwaitChallenge s.synced
+    → needs (on_challenged set s sent seen kind list) ≤ left_challenged s.synced
 challenged_needs set s sent seen subtype.Challenge list =
     let two = two_left s.synced in let less = response_needs s.options.method s.packets sent seen list in omega (arith, two, less)
 challenged_needs set s sent seen subtype.SynchronizationFailure list = sync_needs set s.synced sent list
@@ -172,19 +173,10 @@ challenged_needs set s sent seen subtype.AuthenticationReject list = let two = t
 challenged_needs set s sent seen subtype.ClientError list = let two = two_left s.synced in let less = error_needs list in omega (arith, two, less)
 challenged_needs set s sent seen other list = omega arith
 
-if_challenged_needs : (set : Setting) (s : ServerEnd) (sent : Option Challenged) (seen : Seen) (kind : Subtype) (list : List Attr)
-    → needs (if_challenged set s sent seen kind list) ≤ packets_left_in state.AwaitChallenge s.synced
-if_challenged_needs set s None seen kind list = omega arith
-if_challenged_needs set s (Some sent) seen kind list = challenged_needs set s sent seen kind list
-
 resumed_needs : (s : ServerEnd) (sent : Resumed) (seen : Seen) (said : Reply) (kind : Subtype) (list : List Attr) → needs (on_resumed s sent seen said kind list) ≤ 4
 resumed_needs s sent seen said subtype.Reauthentication list = reauth_needs s.options.method s.packets sent seen said list
 resumed_needs s sent seen said subtype.ClientError list = let less = error_needs list in omega (arith, less)
 resumed_needs s sent seen said other list = omega arith
-
-if_resumed_needs : (s : ServerEnd) (sent : Option Resumed) (seen : Seen) (said : Reply) (kind : Subtype) (list : List Attr) → needs (if_resumed s sent seen said kind list) ≤ 4
-if_resumed_needs s None seen said kind list = omega arith
-if_resumed_needs s (Some sent) seen said kind list = resumed_needs s sent seen said kind list
 
 identity_needs : (k : ℕ) (answered : Row) (kind : Subtype) (list : List Attr) → needs answered ≤ k → 1 ≤ k → needs (on_identity answered kind list) ≤ k
 identity_needs k answered subtype.Identity list less one =
@@ -192,24 +184,24 @@ identity_needs k answered subtype.Identity list less one =
 identity_needs k answered subtype.ClientError list less one = let few = error_needs list in omega (arith, one, few)
 identity_needs k answered other list less one = omega arith
 
-notified_needs : (set : Setting) (homes : List HomeRow) (s : ServerEnd) (why : ServerWhy) (seen : Seen) (said : Reply) (kind : Subtype) (list : List Attr)
-    → needs (on_message set homes s (state.Notifying why) seen said kind list) ≤ 1
-notified_needs set homes s why seen said subtype.Notification list = omega arith
-notified_needs set homes s why seen said other list = omega arith
+notified_needs : (set : Setting) (homes : List HomeRow) (s : ServerEnd) (why : ServerWhy) (last : Last) (seen : Seen) (said : Reply) (kind : Subtype) (list : List Attr)
+    → needs (on_message set homes s (state.Notifying why last) seen said kind list) ≤ 1
+notified_needs set homes s why last seen said subtype.Notification list = omega arith
+notified_needs set homes s why last seen said other list = omega arith
 
 message_needs : (set : Setting) (homes : List HomeRow) (s : ServerEnd) (now : ServerState) (seen : Seen) (said : Reply) (kind : Subtype) (list : List Attr)
     → needs (on_message set homes s now seen said kind list) ≤ packets_left_in now s.synced
-message_needs set homes s state.AwaitAny seen said kind list =
+message_needs set homes s (state.Await asks.Any) seen said kind list =
     identity_needs 6 (on_any s.options.method set homes (identity_in list)) kind list (any_needs s.options.method set homes (identity_in list)) (omega arith)
-message_needs set homes s state.AwaitFull seen said kind list =
+message_needs set homes s (state.Await asks.Fullauth) seen said kind list =
     identity_needs 5 (on_full s.options.method set homes (identity_in list)) kind list (full_needs s.options.method set homes (identity_in list)) (omega arith)
-message_needs set homes s state.AwaitPermanent seen said kind list =
+message_needs set homes s (state.Await asks.Permanent) seen said kind list =
     identity_needs 4 (on_permanent s.options.method set homes (identity_in list)) kind list (permanent_needs s.options.method set homes (identity_in list)) (omega arith)
-message_needs set homes s state.AwaitChallenge seen said kind list = if_challenged_needs set s s.challenged seen kind list
-message_needs set homes s state.AwaitReauth seen said kind list = if_resumed_needs s s.resumed seen said kind list
-message_needs set homes s (state.Notifying why) seen said kind list = notified_needs set homes s why seen said kind list
+message_needs set homes s (state.AwaitChallenge sent before) seen said kind list = challenged_needs set s sent seen kind list
+message_needs set homes s (state.AwaitReauth sent) seen said kind list = resumed_needs s sent seen said kind list
+message_needs set homes s (state.Notifying why last) seen said kind list = notified_needs set homes s why last seen said kind list
 message_needs set homes s state.AwaitIdentity seen said kind list = omega arith
-message_needs set homes s (state.Ended result) seen said kind list = omega arith
+message_needs set homes s (state.Ended result last) seen said kind list = omega arith
 
 method_needs : (set : Setting) (homes : List HomeRow) (s : ServerEnd) (now : ServerState) (seen : Seen) (said : Reply) (r : Reading)
     → needs (on_method set homes s now seen said r) ≤ packets_left_in now s.synced
@@ -232,7 +224,7 @@ head_needs set homes s seen said (Some head) =
     (of_two (packets_left s) other (row.Ignore reason.OtherType) inner (omega arith) (reading_needs set homes s s.state seen said seen.reading))
 
 state_needs : (set : Setting) (homes : List HomeRow) (s : ServerEnd) (seen : Seen) (said : Reply) (now : ServerState) → needs (in_state set homes s seen said now) ≤ packets_left s
-state_needs set homes s seen said (state.Ended result) = omega arith
+state_needs set homes s seen said (state.Ended result last) = omega arith
 state_needs set homes s seen said other = head_needs set homes s seen said (head_at seen.bytes)
 
 -- ---- what a row leaves
@@ -242,12 +234,12 @@ abbrev Leaves : ℕ → ServerEnd → ServerEnd × Turn ServerWhy → Type 0
 Leaves k s t = ((cause : Reason) × (t.1.step ≡ step.Ignored cause) × (packets_left t.0 ≤ packets_left s)) ⊎ (packets_left t.0 < k)
 
 drawn_leaves : (k : ℕ) (realm : List ℕ) (s base : ServerEnd) (sub n : ℕ) (v : Option Vector) (given : Option GivenNames) (notes : Notes) (checked : Bool)
-    → packets_left base ≤ packets_left s → packets_left_in state.AwaitChallenge base.synced < k → Leaves k s (challenged_with realm base sub n v given notes checked)
+    → packets_left base ≤ packets_left s → left_challenged base.synced < k → Leaves k s (challenged_with realm base sub n v given notes checked)
 drawn_leaves k realm s base sub n None given notes checked same less = inl (reason.Unexpected, refl, same)
 drawn_leaves k realm s base sub n (Some v) given notes checked same less = inr less
 
 challenged_leaves : (k : ℕ) (set : Setting) (homes : List HomeRow) (s base : ServerEnd) (sub : ℕ) (checked : Bool) (resynced : Option ResyncNote) (drawn : Option NumberNote)
-    → packets_left base ≤ packets_left s → packets_left_in state.AwaitChallenge base.synced < k → 1 < k → Leaves k s (challenged set homes base sub checked resynced drawn)
+    → packets_left base ≤ packets_left s → left_challenged base.synced < k → 1 < k → Leaves k s (challenged set homes base sub checked resynced drawn)
 challenged_leaves k set homes s base sub checked resynced None same less more = inl (reason.Unexpected, refl, same)
 challenged_leaves k set homes s base sub checked resynced (Some (number.Drew n)) same less more =
     drawn_leaves k set.realm s base sub n (vector_at set base.options sub n) (names_given set homes base sub) (noted resynced (Some (number.Drew n))) checked same less
@@ -255,20 +247,20 @@ challenged_leaves k set homes s base sub checked resynced (Some (number.Exhauste
 challenged_leaves k set homes s base sub checked resynced (Some (number.Withheld n stop)) same less more = inr more
 
 -- a challenge after an identity or a re-authentication
-below_four : (synced : Bool) → packets_left_in state.AwaitChallenge synced < 4
+below_four : (synced : Bool) → left_challenged synced < 4
 below_four true = omega arith
 below_four false = omega arith
 
 synced_left : (now : ServerState) (synced : Bool) → packets_left_in now true ≤ packets_left_in now synced
-synced_left state.AwaitChallenge true = omega arith
-synced_left state.AwaitChallenge false = omega arith
+synced_left (state.AwaitChallenge sent before) true = omega arith
+synced_left (state.AwaitChallenge sent before) false = omega arith
 synced_left state.AwaitIdentity synced = omega arith
-synced_left state.AwaitAny synced = omega arith
-synced_left state.AwaitFull synced = omega arith
-synced_left state.AwaitPermanent synced = omega arith
-synced_left state.AwaitReauth synced = omega arith
-synced_left (state.Notifying cause) synced = omega arith
-synced_left (state.Ended result) synced = omega arith
+synced_left (state.Await asks.Any) synced = omega arith
+synced_left (state.Await asks.Fullauth) synced = omega arith
+synced_left (state.Await asks.Permanent) synced = omega arith
+synced_left (state.AwaitReauth sent) synced = omega arith
+synced_left (state.Notifying cause last) synced = omega arith
+synced_left (state.Ended result last) synced = omega arith
 
 resynchronised_leaves : (set : Setting) (homes : List HomeRow) (s : ServerEnd) (sub : ℕ) (resynced : Option ResyncNote) (drawn : Option NumberNote)
     → Leaves 3 s (resynchronised set homes s sub resynced drawn)
@@ -285,14 +277,6 @@ resumed_leaves : (set : Setting) (homes : List HomeRow) (s : ServerEnd) (text : 
 resumed_leaves set homes s text packets sub None = inl (reason.Unexpected, refl, omega arith)
 resumed_leaves set homes s text packets sub (Some c) = inr (omega arith)
 
-succeeded_leaves : (s : ServerEnd) (sent : Option Challenged) → Leaves 1 s (succeeded s sent)
-succeeded_leaves s None = inl (reason.Unexpected, refl, omega arith)
-succeeded_leaves s (Some sent) = inr (omega arith)
-
-renewed_leaves : (s : ServerEnd) (sent : Option Resumed) → Leaves 1 s (reauthenticated s sent)
-renewed_leaves s None = inl (reason.Unexpected, refl, omega arith)
-renewed_leaves s (Some sent) = inr (omega arith)
-
 does_leaves : (set : Setting) (homes : List HomeRow) (s : ServerEnd) (text : List ℕ) (packets : List (List ℕ)) (r : Row) (notes : Notes)
     → Leaves (needs r) s (server_does set homes s text packets r notes)
 does_leaves set homes s text packets (row.Ignore cause) notes = inl (cause, refl, omega arith)
@@ -305,8 +289,8 @@ does_leaves set homes s text packets (row.TooSmall sub) notes = challenged_leave
 does_leaves set homes s text packets (row.Resume sub) notes =
     resumed_leaves set (homes_left s.options.method text homes sub) s text packets sub (context_in s.options.method text homes sub)
 does_leaves set homes s text packets (row.Resynchronise sub seq) notes = resynchronised_leaves set homes s sub notes.resync notes.number
-does_leaves set homes s text packets row.Success notes = succeeded_leaves s s.challenged
-does_leaves set homes s text packets row.Reauthenticated notes = renewed_leaves s s.resumed
+does_leaves set homes s text packets (row.Success sent) notes = inr (omega arith)
+does_leaves set homes s text packets (row.Reauthenticated sent) notes = inr (omega arith)
 does_leaves set homes s text packets row.UnknownIdentity notes = inr (omega arith)
 does_leaves set homes s text packets row.WrongCounter notes = inr (omega arith)
 does_leaves set homes s text packets row.WrongMac notes = inr (omega arith)

@@ -17,17 +17,17 @@ use Rattle.auc_vector.specs.declared.notes.ResyncNote.{ResyncNote}
 use Rattle.auc_vector.specs.declared.notes.ResyncNote.TheVariants as resync
 use Rattle.auc_vector.specs.declared.parts.Vector.{Vector}
 use Rattle.auc_vector.specs.declared.turn.Turn.{Turn}
-use Rattle.auc_server.specs.InnerRows.{IsHeldRow, IsOwnRow}
+use Rattle.auc_server.specs.InnerRows.{IsHeldRow}
 use Rattle.auc_hmac.specs.declared.method.Method.{Method}
 use Rattle.auc_reauth.specs.declared.context.Context.{Context}
 use Rattle.auc_reauth.specs.Server.{no_contexts}
 use Rattle.auc_server.specs.Contexts.{context_after, context_in, won_context, gives_next, homes_kept, homes_left, homes_resumed, homes_rewon, homes_won, with_context, with_context_at, without, without_at}
 use Rattle.auc_server.specs.Ordinals.{home_at, home_place, homes_given, homes_with, ordinal_after, with_next}
 use Rattle.auc_server.specs.Rows.{by_auts, is_held}
-use Rattle.auc_server.specs.Server.{ServerEnd}
+use Rattle.auc_server.specs.Server.{ServerEnd, challenged_of, resumed_of}
 use Rattle.auc_server.specs.Steps.{IsHeld, IsHeldToo, IsHome, IsServed}
 use Rattle.auc_server.specs.Setting.{Setting}
-use Rattle.auc_server.specs.Table.{challenged, challenged_with, homes_challenged, homes_done, homes_named, identified, names_given, noted, reauthenticated, resumed_with, resynchronised, resynchronising, server_does, succeeded, vector_at}
+use Rattle.auc_server.specs.Table.{challenged, challenged_with, homes_challenged, homes_done, homes_named, identified, names_given, noted, resumed_with, resynchronised, resynchronising, server_does, vector_at}
 use Rattle.auc_server.specs.declared.naming.GivenNames.{GivenNames}
 use Rattle.auc_server.specs.declared.options.ServerOptions.{ServerOptions}
 use Rattle.auc_server.specs.declared.rows.Row.{Row}
@@ -74,9 +74,10 @@ listed_of all subs top homes None each held = tt
 listed_of all subs top homes (Some sent) each held = (home_of all subs top homes sent.sub each held).listed
 
 -- AUTS that is read reports one of the subscriber's numbers
-pub auts_own : (all : List rows.Row) (sub : ℕ) (home : rows.Row) (a : Auts) → slice_get all sub ≡ Some home → IsNumber home.bits a → IsOwnRow all sub (by_auts sub a)
-auts_own all sub home auts.WrongMac here number = tt
-auts_own all sub home (auts.SeqMs seq) here number = (refl, subst (λ (top : ℕ). seq ≤ top) (sym (top_at-row all sub home here)) number)
+pub auts_own : (by : Method) (all : List rows.Row) (homes : List HomeRow) (sub : ℕ) (home : rows.Row) (a : Auts) → is_held homes sub ≡ true → slice_get all sub ≡ Some home
+    → IsNumber home.bits a → IsHeldRow by all homes (by_auts sub a)
+auts_own by all homes sub home auts.WrongMac held here number = tt
+auts_own by all homes sub home (auts.SeqMs seq) held here number = (held, subst (λ (top : ℕ). seq ≤ top) (sym (top_at-row all sub home here)) number)
 
 -- ---- the homes after an ordinal was used
 
@@ -126,13 +127,11 @@ pub kept_subs : (by : Method) (homes : List HomeRow) (sub : ℕ) (c : Option Con
 kept_subs by homes sub None = refl
 kept_subs by homes sub (Some c) = put_subs by c homes (home_place homes sub)
 
-pub won_subs : (by : Method) (homes : List HomeRow) (c : Option Challenged) → map (λ (home : HomeRow). home.sub) (homes_won by homes c) ≡ map (λ (home : HomeRow). home.sub) homes
-won_subs by homes None = refl
-won_subs by homes (Some sent) = kept_subs by homes sent.sub (won_context sent)
+pub won_subs : (by : Method) (homes : List HomeRow) (sent : Challenged) → map (λ (home : HomeRow). home.sub) (homes_won by homes sent) ≡ map (λ (home : HomeRow). home.sub) homes
+won_subs by homes sent = kept_subs by homes sent.sub (won_context sent)
 
-pub rewon_subs : (by : Method) (homes : List HomeRow) (c : Option Resumed) → map (λ (home : HomeRow). home.sub) (homes_rewon by homes c) ≡ map (λ (home : HomeRow). home.sub) homes
-rewon_subs by homes None = refl
-rewon_subs by homes (Some sent) = kept_subs by homes sent.sub (context_after sent)
+pub rewon_subs : (by : Method) (homes : List HomeRow) (sent : Resumed) → map (λ (home : HomeRow). home.sub) (homes_rewon by homes sent) ≡ map (λ (home : HomeRow). home.sub) homes
+rewon_subs by homes sent = kept_subs by homes sent.sub (context_after sent)
 
 pub resumed_subs : (options : ServerOptions) (text : List ℕ) (homes : List HomeRow) (sub : ℕ) (c : Option Context)
     → map (λ (home : HomeRow). home.sub) (homes_resumed options text homes sub c) ≡ map (λ (home : HomeRow). home.sub) homes
@@ -172,13 +171,13 @@ done_subs homes s text (row.Challenge sub) notes = challenged_subs s.options hom
 done_subs homes s text (row.Resume sub) notes = resumed_subs s.options text homes sub (context_in s.options.method text homes sub)
 done_subs homes s text (row.TooSmall sub) notes = challenged_subs s.options homes sub notes.number
 done_subs homes s text (row.Resynchronise sub seq) notes = challenged_subs s.options homes sub notes.number
-done_subs homes s text row.Success notes = won_subs s.options.method homes s.challenged
-done_subs homes s text row.Reauthenticated notes = rewon_subs s.options.method homes s.resumed
+done_subs homes s text (row.Success sent) notes = won_subs s.options.method homes sent
+done_subs homes s text (row.Reauthenticated sent) notes = rewon_subs s.options.method homes sent
 done_subs homes s text other notes = refl
 
 -- whom a server has challenged or re-authenticates is one of the homes
 abbrev Holds : List HomeRow → ServerEnd → Type 0
-Holds homes s = IsHeld homes s.challenged × IsHeldToo homes s.resumed
+Holds homes s = IsHeld homes (challenged_of s) × IsHeldToo homes (resumed_of s)
 
 with_holds : (homes : List HomeRow) (realm : List ℕ) (s : ServerEnd) (sub n : ℕ) (v : Option Vector) (given : Option GivenNames) (notes : Notes) (checked : Bool)
     → is_held homes sub ≡ true → Holds homes s → Holds homes (challenged_with realm s sub n v given notes checked).0
@@ -199,36 +198,27 @@ resynchronised_holds set homes s sub (Some (resync.Moved seen seq)) drawn held w
     challenged_holds set homes (resynchronising s) sub false (Some (resync.Moved seen seq)) drawn held was
 resynchronised_holds set homes s sub other drawn held was = was
 
-succeeded_holds : (homes : List HomeRow) (s : ServerEnd) (c : Option Challenged) → Holds homes s → Holds homes (succeeded s c).0
-succeeded_holds homes s None was = was
-succeeded_holds homes s (Some sent) was = was
-
-renewed_holds : (homes : List HomeRow) (s : ServerEnd) (c : Option Resumed) → Holds homes s → Holds homes (reauthenticated s c).0
-renewed_holds homes s None was = was
-renewed_holds homes s (Some sent) was = was
-
 resumed_holds : (set : Setting) (homes left : List HomeRow) (s : ServerEnd) (text : List ℕ) (packets : List (List ℕ)) (sub : ℕ) (c : Option Context)
     → is_held homes sub ≡ true → Holds homes s → Holds homes (resumed_with set left s text packets sub c).0
 resumed_holds set homes left s text packets sub None held was = was
-resumed_holds set homes left s text packets sub (Some c) held was = (was.0, held)
+resumed_holds set homes left s text packets sub (Some c) held was = (tt, held)
 
 -- also after a turn
 does_hold : (set : Setting) (homes : List HomeRow) (s : ServerEnd) (text : List ℕ) (packets : List (List ℕ)) (r : Row) (notes : Notes)
-    → IsHeldRow set.rows homes r → Holds homes s → Holds homes (server_does set homes s text packets r notes).0
+    → IsHeldRow s.options.method set.rows homes r → Holds homes s → Holds homes (server_does set homes s text packets r notes).0
 does_hold set homes s text packets (row.Challenge sub) notes held was = challenged_holds set homes (identified s text packets) sub false None notes.number held was
 does_hold set homes s text packets (row.Resume sub) notes held was =
     resumed_holds set homes (homes_left s.options.method text homes sub) s text packets sub (context_in s.options.method text homes sub) held was
 does_hold set homes s text packets (row.TooSmall sub) notes held was = challenged_holds set homes s sub true None notes.number held was
 does_hold set homes s text packets (row.Resynchronise sub seq) notes held was = resynchronised_holds set homes s sub notes.resync notes.number held.0 was
-does_hold set homes s text packets row.Success notes held was = succeeded_holds homes s s.challenged was
-does_hold set homes s text packets row.Reauthenticated notes held was = renewed_holds homes s s.resumed was
+does_hold set homes s text packets (row.Ask kind) notes held was = (tt, tt)
 does_hold set homes s text packets other notes held was = was
 
 -- what a server needs holds again after a turn, if the centre has as many subscribers with the same greatest numbers
 pub served_again : (all : List rows.Row) (subs subs' : ℕ) (top top' : ℕ → ℕ) (set : Setting) (homes later : List HomeRow) (s new : ServerEnd) (turn : Turn ServerWhy)
     (text : List ℕ) (packets : List (List ℕ)) (r : Row) → subs' ≡ subs → ((i : ℕ) → top' i ≡ top i)
     → (new, turn) ≡ server_does set homes s text packets r turn.notes → later ≡ homes_done homes s text r turn.notes
-    → IsHeldRow set.rows homes r → IsServed all subs top homes s → IsServed all subs' top' later new
+    → IsHeldRow s.options.method set.rows homes r → IsServed all subs top homes s → IsServed all subs' top' later new
 served_again all subs subs' top top' set homes later s new turn text packets r same alike step done held served =
     let is : map (λ (home : HomeRow). home.sub) later ≡ map (λ (home : HomeRow). home.sub) homes =
     ap (λ (l : List HomeRow). map (λ (home : HomeRow). home.sub) l) done ∙ done_subs homes s text r turn.notes in
@@ -237,6 +227,6 @@ served_again all subs subs' top top' set homes later s new turn text packets r s
     subst (λ (p : ServerEnd × Turn ServerWhy). Holds homes p.0) (sym step) (does_hold set homes s text packets r turn.notes held (served.held, served.resumed)) in
     record {
       each = homes_again all subs subs' top top' later same alike (subs_each (IsHome all subs top) homes later is served.each);
-      held = held_again homes later new.challenged stays now.0;
-      resumed = held_too_again homes later new.resumed stays now.1;
+      held = held_again homes later (challenged_of new) stays now.0;
+      resumed = held_too_again homes later (resumed_of new) stays now.1;
     }

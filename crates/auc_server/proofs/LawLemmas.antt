@@ -1,5 +1,5 @@
 -- What each row says of the server, and that Success comes only after a right AT_MAC.
-use Rattle.std.proofs.Common.{◌≡◌, ◌⊎◌, inl, inr, ℕ, ◌==◌, ◌||◌, Bool, true, false, cond, not, List, [], Option, Some, None, slice_get, refl, sym, ap, ◌∙◌}
+use Rattle.std.proofs.Common.{◌≡◌, ◌⊎◌, inl, inr, ℕ, ◌==◌, ◌||◌, Bool, true, false, cond, not, List, [], Option, Some, None, slice_get, refl, ap, ◌∙◌}
 use Rattle.std.specs.Option.{option_or}
 use Rattle.auc_attr.specs.declared.attr.Attr.{Attr}
 use Rattle.auc_hmac.specs.declared.keys.KeySet.{KeySet}
@@ -33,10 +33,12 @@ use Rattle.auc_server.specs.Laws.{AreProved, AreRenewed, SuccessNeedsARightMac, 
 use Rattle.auc_reauth.specs.declared.context.Context.{Context}
 use Rattle.auc_server.specs.Contexts.{context_in, homes_left}
 use Rattle.auc_server.specs.Rounds.{checkcode}
-use Rattle.auc_server.specs.Rows.{by_auts, challenge_or, context_subscriber, differs, if_challenged, if_resumed, in_state, is_expected, is_type, is_wrong, on_any, on_auts, on_challenged, on_client_error, on_error_code, on_first, on_full, on_head, on_identity, on_message, on_method, on_permanent, on_reading, on_reauth, on_response, on_resumed, on_sync_failure, permanent_subscriber, pseudonym_subscriber, read_by, resume_or, says_small, server_row, subscriber_in, text_in, type_awaited}
-use Rattle.auc_server.specs.Server.{ServerEnd}
+use Rattle.auc_server.specs.Rows.{by_auts, challenge_or, context_subscriber, differs, in_state, is_expected, is_type, is_wrong, on_any, on_auts, on_challenged, on_client_error, on_error_code, on_first, on_full, on_head, on_identity, on_message, on_method, on_permanent, on_reading, on_reauth, on_requested, on_response, on_resumed, on_sync_failure, permanent_subscriber, pseudonym_subscriber, read_by, resume_or, says_small, server_row, subscriber_in, text_in, type_awaited}
+use Rattle.auc_server.specs.Server.{ServerEnd, challenged_of, resumed_of}
+use Rattle.auc_server.specs.State.{last_of, nothing_sent}
 use Rattle.auc_server.specs.Setting.{Setting}
 use Rattle.auc_server.specs.Table.{challenged, challenged_with, identified, names_given, noted, packets_after, reauthenticated, resumed_keys, resumed_with, resynchronised, resynchronising, server_does, succeeded, vector_at}
+use Rattle.auc_request.specs.declared.identities.IdentityRequest.{IdentityRequest}
 use Rattle.auc_request.specs.declared.identities.IdentityRequest.TheVariants as asks
 use Rattle.auc_server.specs.declared.naming.GivenNames.{GivenNames}
 use Rattle.auc_server.specs.declared.options.ServerOptions.{ServerOptions}
@@ -44,6 +46,7 @@ use Rattle.auc_server.specs.declared.reply.Reply.{Reply}
 use Rattle.auc_server.specs.declared.rows.Row.{Row}
 use Rattle.auc_server.specs.declared.rows.Row.TheVariants as row
 use Rattle.auc_server.specs.declared.server.Challenged.{Challenged}
+use Rattle.auc_server.specs.declared.server.Last.{Last}
 use Rattle.auc_server.specs.declared.server.Resumed.{Resumed}
 use Rattle.auc_server.specs.declared.server.ServerState.{ServerState}
 use Rattle.auc_server.specs.declared.server.ServerState.TheVariants as state
@@ -52,34 +55,31 @@ use Rattle.auc_server.specs.declared.why.ServerWhy.{ServerWhy}
 
 -- ---- what a row says of the server
 
--- the response to the last challenge has a right AT_MAC
-pub record IsRight (s : ServerEnd) (seen : Seen) : Type 0 where
-  pub sent : Challenged
-  pub last : s.challenged ≡ Some sent
+-- the response to a challenge that is awaited has a right AT_MAC
+pub record IsRight (s : ServerEnd) (seen : Seen) (sent : Challenged) : Type 0 where
+  pub before : Option Resumed
+  pub waits : s.state ≡ state.AwaitChallenge sent before
   pub right : is_sealed s.options.method sent.keys.k_aut [] seen ≡ true
-  pub waits : s.state ≡ state.AwaitChallenge
 
--- the response to the re-authentication has a right AT_MAC
-pub record IsRightToo (s : ServerEnd) (seen : Seen) : Type 0 where
-  pub sent : Resumed
-  pub last : s.resumed ≡ Some sent
+-- the response to a re-authentication that is awaited has a right AT_MAC
+pub record IsRightToo (s : ServerEnd) (seen : Seen) (sent : Resumed) : Type 0 where
+  pub waits : s.state ≡ state.AwaitReauth sent
   pub right : is_sealed s.options.method sent.context.k_aut sent.nonce seen ≡ true
-  pub waits : s.state ≡ state.AwaitReauth
 
--- the subscriber of the re-authentication
+-- the subscriber of the re-authentication that is awaited
 abbrev pub IsResumed : ServerEnd → ℕ → Type 0
-IsResumed s sub = (sent : Resumed) × (s.resumed ≡ Some sent) × (sent.sub ≡ sub)
+IsResumed s sub = (sent : Resumed) × (s.state ≡ state.AwaitReauth sent) × (sent.sub ≡ sub)
 
--- the subscriber of the last challenge
+-- the subscriber of the challenge that is awaited
 abbrev pub IsLast : ServerEnd → ℕ → Type 0
-IsLast s sub = (sent : Challenged) × (s.challenged ≡ Some sent) × (sent.sub ≡ sub)
+IsLast s sub = (sent : Challenged) × (before : Option Resumed) × (s.state ≡ state.AwaitChallenge sent before) × (sent.sub ≡ sub)
 
 -- an identity comes only where one is awaited, and a subscriber that was found by it is challenged; Success comes only after a
 -- right AT_MAC; the subscriber of the last challenge resynchronises, and that of the re-authentication is challenged if the
 -- counter was too small
 abbrev pub Says : Option ℕ → ServerEnd → Seen → Row → Type 0
-Says found s seen row.Success = IsRight s seen
-Says found s seen row.Reauthenticated = IsRightToo s seen
+Says found s seen (row.Success sent) = IsRight s seen sent
+Says found s seen (row.Reauthenticated sent) = IsRightToo s seen sent
 Says found s seen (row.Resume sub) = awaits_identity s.state ≡ true
 Says found s seen (row.TooSmall sub) = IsResumed s sub
 Says found s seen (row.Ask kind) = awaits_identity s.state ≡ true
@@ -96,45 +96,46 @@ is_true : (b : Bool) → not b ≡ false → b ≡ true
 is_true true e = refl
 is_true false e = absurd cc
 
-says_response : (found : Option ℕ) (s : ServerEnd) (sent : Challenged) (seen : Seen) (list : List Attr) → s.challenged ≡ Some sent → s.state ≡ state.AwaitChallenge → Says found s seen (on_response s.options.method s.packets sent seen list)
-says_response found s sent seen list f now =
+says_response : (found : Option ℕ) (s : ServerEnd) (sent : Challenged) (before : Option Resumed) (seen : Seen) (list : List Attr) → s.state ≡ state.AwaitChallenge sent before
+    → Says found s seen (on_response s.options.method s.packets sent seen list)
+says_response found s sent before seen list now =
     let sealed = is_sealed s.options.method sent.keys.k_aut [] seen in
     let expected = is_expected sent.vector.xres (first_of res_of list) in
     let other = differs (checkcode s.options.method s.packets) (first_of checkcode_of list) in
-    let last = cond other row.WrongCheckcode row.Success in
+    let last = cond other row.WrongCheckcode (row.Success sent) in
     let by_res = cond (not expected) row.WrongRes last in
     on_cond (Says found s seen) (is_missing subtype.Challenge false list) (row.Ignore reason.Missing) (cond (not sealed) row.WrongMac by_res) tt (λ there.
     on_cond (Says found s seen) (not sealed) row.WrongMac by_res tt (λ right.
     on_cond (Says found s seen) (not expected) row.WrongRes last tt (λ same.
-    on_cond (Says found s seen) other row.WrongCheckcode row.Success tt (λ alike. record { sent = sent; last = f; right = is_true sealed right; waits = now }))))
+    on_cond (Says found s seen) other row.WrongCheckcode (row.Success sent) tt (λ alike. record { before = before; waits = now; right = is_true sealed right }))))
 
-says_reauth : (found : Option ℕ) (s : ServerEnd) (sent : Resumed) (seen : Seen) (said : Reply) (list : List Attr) → s.resumed ≡ Some sent → s.state ≡ state.AwaitReauth
+says_reauth : (found : Option ℕ) (s : ServerEnd) (sent : Resumed) (seen : Seen) (said : Reply) (list : List Attr) → s.state ≡ state.AwaitReauth sent
     → Says found s seen (on_reauth s.options.method s.packets sent seen said list)
-says_reauth found s sent seen said list f now =
+says_reauth found s sent seen said list now =
     let sealed = is_sealed s.options.method sent.context.k_aut sent.nonce seen in
     let other = differs (checkcode s.options.method s.packets) (first_of checkcode_of list) in
-    let last = cond other row.WrongCheckcode row.Reauthenticated in
+    let last = cond other row.WrongCheckcode (row.Reauthenticated sent) in
     let small = cond (says_small said) (row.TooSmall sent.sub) last in
     let by_counter = cond (is_wrong said) row.WrongCounter small in
     on_cond (Says found s seen) (is_missing subtype.Reauthentication false list) (row.Ignore reason.Missing) (cond (not sealed) row.WrongMac by_counter) tt (λ there.
     on_cond (Says found s seen) (not sealed) row.WrongMac by_counter tt (λ right.
     on_cond (Says found s seen) (is_wrong said) row.WrongCounter small tt (λ counted.
-    on_cond (Says found s seen) (says_small said) (row.TooSmall sent.sub) last (sent, f, refl) (λ great.
-    on_cond (Says found s seen) other row.WrongCheckcode row.Reauthenticated tt (λ alike. record { sent = sent; last = f; right = is_true sealed right; waits = now })))))
+    on_cond (Says found s seen) (says_small said) (row.TooSmall sent.sub) last (sent, now, refl) (λ great.
+    on_cond (Says found s seen) other row.WrongCheckcode (row.Reauthenticated sent) tt (λ alike. record { waits = now; right = is_true sealed right })))))
 
-says_auts : (found : Option ℕ) (s : ServerEnd) (seen : Seen) (sent : Challenged) (a : Auts) → s.challenged ≡ Some sent → Says found s seen (by_auts sent.sub a)
+says_auts : (found : Option ℕ) (s : ServerEnd) (seen : Seen) (sent : Challenged) (a : Auts) → IsLast s sent.sub → Says found s seen (by_auts sent.sub a)
 says_auts found s seen sent auts.WrongMac f = tt
-says_auts found s seen sent (auts.SeqMs seq) f = (sent, f, refl)
+says_auts found s seen sent (auts.SeqMs seq) f = f
 
-says_read : (found : Option ℕ) (s : ServerEnd) (seen : Seen) (sent : Challenged) (answer : List ℕ) (home : Option rows.Row) → s.challenged ≡ Some sent → Says found s seen (read_by sent answer home)
+says_read : (found : Option ℕ) (s : ServerEnd) (seen : Seen) (sent : Challenged) (answer : List ℕ) (home : Option rows.Row) → IsLast s sent.sub → Says found s seen (read_by sent answer home)
 says_read found s seen sent answer None f = tt
 says_read found s seen sent answer (Some home) f = says_auts found s seen sent (read_auts_of home.secret sent.vector.rand answer home.bits) f
 
-says_on_auts : (found : Option ℕ) (set : Setting) (s : ServerEnd) (seen : Seen) (sent : Challenged) (answer : Option (List ℕ)) → s.challenged ≡ Some sent → Says found s seen (on_auts set sent answer)
+says_on_auts : (found : Option ℕ) (set : Setting) (s : ServerEnd) (seen : Seen) (sent : Challenged) (answer : Option (List ℕ)) → IsLast s sent.sub → Says found s seen (on_auts set sent answer)
 says_on_auts found set s seen sent None f = tt
 says_on_auts found set s seen sent (Some answer) f = says_read found s seen sent answer (slice_get set.rows sent.sub) f
 
-says_sync : (found : Option ℕ) (set : Setting) (s : ServerEnd) (seen : Seen) (synced : Bool) (sent : Challenged) (list : List Attr) → s.challenged ≡ Some sent → Says found s seen (on_sync_failure set synced sent list)
+says_sync : (found : Option ℕ) (set : Setting) (s : ServerEnd) (seen : Seen) (synced : Bool) (sent : Challenged) (list : List Attr) → IsLast s sent.sub → Says found s seen (on_sync_failure set synced sent list)
 says_sync found set s seen synced sent list f =
     let answered = on_auts set sent (first_of auts_of list) in
     on_cond (Says found s seen) (is_missing subtype.SynchronizationFailure false list) (row.Ignore reason.Missing) (cond synced row.SecondSync answered) tt (λ there.
@@ -149,44 +150,35 @@ says_error found s seen list =
     on_cond (Says found s seen) (is_missing subtype.ClientError false list) (row.Ignore reason.Missing) (on_error_code (first_of error_code_of list)) tt
     (λ there. says_code found s seen (first_of error_code_of list))
 
-says_answer : (found : Option ℕ) (set : Setting) (s : ServerEnd) (sent : Challenged) (seen : Seen) (kind : Subtype) (list : List Attr) → s.challenged ≡ Some sent → s.state ≡ state.AwaitChallenge
-    → Says found s seen (on_challenged set s sent seen kind list)
-says_answer found set s sent seen subtype.Challenge list f now = says_response found s sent seen list f now
-says_answer found set s sent seen subtype.SynchronizationFailure list f now = says_sync found set s seen s.synced sent list f
-says_answer found set s sent seen subtype.AuthenticationReject list f now = tt
-says_answer found set s sent seen subtype.ClientError list f now = says_error found s seen list
-says_answer found set s sent seen subtype.Identity list f now = tt
-says_answer found set s sent seen subtype.Notification list f now = tt
-says_answer found set s sent seen subtype.Reauthentication list f now = tt
+says_answer : (found : Option ℕ) (set : Setting) (s : ServerEnd) (sent : Challenged) (before : Option Resumed) (seen : Seen) (kind : Subtype) (list : List Attr)
+    → s.state ≡ state.AwaitChallenge sent before → Says found s seen (on_challenged set s sent seen kind list)
+says_answer found set s sent before seen subtype.Challenge list now = says_response found s sent before seen list now
+says_answer found set s sent before seen subtype.SynchronizationFailure list now = says_sync found set s seen s.synced sent list (sent, before, now, refl)
+says_answer found set s sent before seen subtype.AuthenticationReject list now = tt
+says_answer found set s sent before seen subtype.ClientError list now = says_error found s seen list
+says_answer found set s sent before seen subtype.Identity list now = tt
+says_answer found set s sent before seen subtype.Notification list now = tt
+says_answer found set s sent before seen subtype.Reauthentication list now = tt
 
-says_if : (found : Option ℕ) (set : Setting) (s : ServerEnd) (c : Option Challenged) (seen : Seen) (kind : Subtype) (list : List Attr) → s.challenged ≡ c → s.state ≡ state.AwaitChallenge
-    → Says found s seen (if_challenged set s c seen kind list)
-says_if found set s None seen kind list f now = tt
-says_if found set s (Some sent) seen kind list f now = says_answer found set s sent seen kind list f now
-
-says_resumed : (found : Option ℕ) (s : ServerEnd) (sent : Resumed) (seen : Seen) (said : Reply) (kind : Subtype) (list : List Attr) → s.resumed ≡ Some sent → s.state ≡ state.AwaitReauth
+says_resumed : (found : Option ℕ) (s : ServerEnd) (sent : Resumed) (seen : Seen) (said : Reply) (kind : Subtype) (list : List Attr) → s.state ≡ state.AwaitReauth sent
     → Says found s seen (on_resumed s sent seen said kind list)
-says_resumed found s sent seen said subtype.Reauthentication list f now = says_reauth found s sent seen said list f now
-says_resumed found s sent seen said subtype.ClientError list f now = says_error found s seen list
-says_resumed found s sent seen said subtype.Challenge list f now = tt
-says_resumed found s sent seen said subtype.AuthenticationReject list f now = tt
-says_resumed found s sent seen said subtype.SynchronizationFailure list f now = tt
-says_resumed found s sent seen said subtype.Identity list f now = tt
-says_resumed found s sent seen said subtype.Notification list f now = tt
+says_resumed found s sent seen said subtype.Reauthentication list now = says_reauth found s sent seen said list now
+says_resumed found s sent seen said subtype.ClientError list now = says_error found s seen list
+says_resumed found s sent seen said subtype.Challenge list now = tt
+says_resumed found s sent seen said subtype.AuthenticationReject list now = tt
+says_resumed found s sent seen said subtype.SynchronizationFailure list now = tt
+says_resumed found s sent seen said subtype.Identity list now = tt
+says_resumed found s sent seen said subtype.Notification list now = tt
 
-says_if_resumed : (found : Option ℕ) (s : ServerEnd) (c : Option Resumed) (seen : Seen) (said : Reply) (kind : Subtype) (list : List Attr) → s.resumed ≡ c → s.state ≡ state.AwaitReauth
-    → Says found s seen (if_resumed s c seen said kind list)
-says_if_resumed found s None seen said kind list f now = tt
-says_if_resumed found s (Some sent) seen said kind list f now = says_resumed found s sent seen said kind list f now
-
-says_notified : (found : Option ℕ) (set : Setting) (homes : List HomeRow) (s : ServerEnd) (seen : Seen) (said : Reply) (kind : Subtype) (list : List Attr) (why : ServerWhy) → Says found s seen (on_message set homes s (state.Notifying why) seen said kind list)
-says_notified found set homes s seen said subtype.Notification list why = tt
-says_notified found set homes s seen said subtype.Challenge list why = tt
-says_notified found set homes s seen said subtype.AuthenticationReject list why = tt
-says_notified found set homes s seen said subtype.SynchronizationFailure list why = tt
-says_notified found set homes s seen said subtype.Identity list why = tt
-says_notified found set homes s seen said subtype.Reauthentication list why = tt
-says_notified found set homes s seen said subtype.ClientError list why = tt
+says_notified : (found : Option ℕ) (set : Setting) (homes : List HomeRow) (s : ServerEnd) (seen : Seen) (said : Reply) (kind : Subtype) (list : List Attr) (why : ServerWhy) (last : Last)
+    → Says found s seen (on_message set homes s (state.Notifying why last) seen said kind list)
+says_notified found set homes s seen said subtype.Notification list why last = tt
+says_notified found set homes s seen said subtype.Challenge list why last = tt
+says_notified found set homes s seen said subtype.AuthenticationReject list why last = tt
+says_notified found set homes s seen said subtype.SynchronizationFailure list why last = tt
+says_notified found set homes s seen said subtype.Identity list why last = tt
+says_notified found set homes s seen said subtype.Reauthentication list why last = tt
+says_notified found set homes s seen said subtype.ClientError list why last = tt
 
 -- ---- an identity
 
@@ -220,6 +212,12 @@ says_permanent found by set homes s seen text e f =
     says_or found s seen row.UnknownIdentity (permanent_subscriber by set homes text) e e
     (λ sub g. f ∙ permanent_is (permanent_subscriber by set homes text) (pseudonym_subscriber by set homes text) sub g)
 
+says_requested : (found : Option ℕ) (asked : IdentityRequest) (by : Method) (set : Setting) (homes : List HomeRow) (s : ServerEnd) (seen : Seen) (text : List ℕ)
+    → awaits_identity s.state ≡ true → found ≡ subscriber_in by set homes text → Says found s seen (on_requested asked by set homes text)
+says_requested found asks.Any by set homes s seen text e f = says_any found by set homes s seen text e f
+says_requested found asks.Fullauth by set homes s seen text e f = says_full found by set homes s seen text e f
+says_requested found asks.Permanent by set homes s seen text e f = says_permanent found by set homes s seen text e f
+
 says_first : (found : Option ℕ) (options : ServerOptions) (set : Setting) (homes : List HomeRow) (s : ServerEnd) (seen : Seen) (text : List ℕ) → awaits_identity s.state ≡ true
     → found ≡ subscriber_in options.method set homes text → Says found s seen (on_first options set homes text)
 says_first found options set homes s seen text e f =
@@ -238,18 +236,14 @@ says_identity found s seen answered subtype.Reauthentication list says = tt
 
 says_message : (found : Option ℕ) (set : Setting) (homes : List HomeRow) (s : ServerEnd) (now : ServerState) (seen : Seen) (said : Reply) (kind : Subtype) (list : List Attr) → s.state ≡ now
     → found ≡ subscriber_in s.options.method set homes (identity_in list) → Says found s seen (on_message set homes s now seen said kind list)
-says_message found set homes s state.AwaitAny seen said kind list e f =
-    says_identity found s seen (on_any s.options.method set homes (identity_in list)) kind list (says_any found s.options.method set homes s seen (identity_in list) (ap awaits_identity e) f)
-says_message found set homes s state.AwaitFull seen said kind list e f =
-    says_identity found s seen (on_full s.options.method set homes (identity_in list)) kind list (says_full found s.options.method set homes s seen (identity_in list) (ap awaits_identity e) f)
-says_message found set homes s state.AwaitPermanent seen said kind list e f =
-    says_identity found s seen (on_permanent s.options.method set homes (identity_in list)) kind list
-    (says_permanent found s.options.method set homes s seen (identity_in list) (ap awaits_identity e) f)
-says_message found set homes s state.AwaitChallenge seen said kind list e f = says_if found set s s.challenged seen kind list refl e
-says_message found set homes s state.AwaitReauth seen said kind list e f = says_if_resumed found s s.resumed seen said kind list refl e
-says_message found set homes s (state.Notifying why) seen said kind list e f = says_notified found set homes s seen said kind list why
+says_message found set homes s (state.Await asked) seen said kind list e f =
+    says_identity found s seen (on_requested asked s.options.method set homes (identity_in list)) kind list
+    (says_requested found asked s.options.method set homes s seen (identity_in list) (ap awaits_identity e) f)
+says_message found set homes s (state.AwaitChallenge sent before) seen said kind list e f = says_answer found set s sent before seen kind list e
+says_message found set homes s (state.AwaitReauth sent) seen said kind list e f = says_resumed found s sent seen said kind list e
+says_message found set homes s (state.Notifying why last) seen said kind list e f = says_notified found set homes s seen said kind list why last
 says_message found set homes s state.AwaitIdentity seen said kind list e f = tt
-says_message found set homes s (state.Ended result) seen said kind list e f = tt
+says_message found set homes s (state.Ended result last) seen said kind list e f = tt
 
 says_method : (found : Option ℕ) (set : Setting) (homes : List HomeRow) (s : ServerEnd) (now : ServerState) (seen : Seen) (said : Reply) (r : Reading) → s.state ≡ now
     → found ≡ subscriber_in s.options.method set homes (text_in r) → Says found s seen (on_method set homes s now seen said r)
@@ -264,13 +258,11 @@ says_method found set homes s now seen said (reading.Fault fault) e f = tt
 says_reading : (found : Option ℕ) (set : Setting) (homes : List HomeRow) (s : ServerEnd) (now : ServerState) (seen : Seen) (said : Reply) (r : Reading) → s.state ≡ now → found ≡ subscriber_in s.options.method set homes (text_in r)
     → Says found s seen (on_reading set homes s now seen said r)
 says_reading found set homes s state.AwaitIdentity seen said r e f = says_first found s.options set homes s seen (text_in r) (ap awaits_identity e) f
-says_reading found set homes s state.AwaitAny seen said r e f = says_method found set homes s state.AwaitAny seen said r e f
-says_reading found set homes s state.AwaitFull seen said r e f = says_method found set homes s state.AwaitFull seen said r e f
-says_reading found set homes s state.AwaitPermanent seen said r e f = says_method found set homes s state.AwaitPermanent seen said r e f
-says_reading found set homes s state.AwaitChallenge seen said r e f = says_method found set homes s state.AwaitChallenge seen said r e f
-says_reading found set homes s state.AwaitReauth seen said r e f = says_method found set homes s state.AwaitReauth seen said r e f
-says_reading found set homes s (state.Notifying why) seen said r e f = says_method found set homes s (state.Notifying why) seen said r e f
-says_reading found set homes s (state.Ended result) seen said r e f = says_method found set homes s (state.Ended result) seen said r e f
+says_reading found set homes s (state.Await asked) seen said r e f = says_method found set homes s (state.Await asked) seen said r e f
+says_reading found set homes s (state.AwaitChallenge sent before) seen said r e f = says_method found set homes s (state.AwaitChallenge sent before) seen said r e f
+says_reading found set homes s (state.AwaitReauth sent) seen said r e f = says_method found set homes s (state.AwaitReauth sent) seen said r e f
+says_reading found set homes s (state.Notifying why last) seen said r e f = says_method found set homes s (state.Notifying why last) seen said r e f
+says_reading found set homes s (state.Ended result last) seen said r e f = says_method found set homes s (state.Ended result last) seen said r e f
 
 says_head : (found : Option ℕ) (set : Setting) (homes : List HomeRow) (s : ServerEnd) (seen : Seen) (said : Reply) (head : Option Head) → found ≡ subscriber_in s.options.method set homes (text_in seen.reading) → Says found s seen (on_head set homes s seen said head)
 says_head found set homes s seen said None f = tt
@@ -281,18 +273,34 @@ says_head found set homes s seen said (Some head) f =
     on_cond (Says found s seen) typed (row.Ignore reason.OtherType) inner tt (λ same. says_reading found set homes s s.state seen said seen.reading refl f))
 
 says_state : (found : Option ℕ) (set : Setting) (homes : List HomeRow) (s : ServerEnd) (seen : Seen) (said : Reply) (now : ServerState) → found ≡ subscriber_in s.options.method set homes (text_in seen.reading) → Says found s seen (in_state set homes s seen said now)
-says_state found set homes s seen said (state.Ended result) f = tt
+says_state found set homes s seen said (state.Ended result last) f = tt
 says_state found set homes s seen said state.AwaitIdentity f = says_head found set homes s seen said (head_at seen.bytes) f
-says_state found set homes s seen said state.AwaitAny f = says_head found set homes s seen said (head_at seen.bytes) f
-says_state found set homes s seen said state.AwaitFull f = says_head found set homes s seen said (head_at seen.bytes) f
-says_state found set homes s seen said state.AwaitPermanent f = says_head found set homes s seen said (head_at seen.bytes) f
-says_state found set homes s seen said state.AwaitChallenge f = says_head found set homes s seen said (head_at seen.bytes) f
-says_state found set homes s seen said state.AwaitReauth f = says_head found set homes s seen said (head_at seen.bytes) f
-says_state found set homes s seen said (state.Notifying why) f = says_head found set homes s seen said (head_at seen.bytes) f
+says_state found set homes s seen said (state.Await asked) f = says_head found set homes s seen said (head_at seen.bytes) f
+says_state found set homes s seen said (state.AwaitChallenge sent before) f = says_head found set homes s seen said (head_at seen.bytes) f
+says_state found set homes s seen said (state.AwaitReauth sent) f = says_head found set homes s seen said (head_at seen.bytes) f
+says_state found set homes s seen said (state.Notifying why last) f = says_head found set homes s seen said (head_at seen.bytes) f
 
 -- each row says this
 pub says_row : (set : Setting) (homes : List HomeRow) (s : ServerEnd) (seen : Seen) (said : Reply) → Says (subscriber_in s.options.method set homes (text_in seen.reading)) s seen (server_row set homes s seen said)
 says_row set homes s seen said = says_state (subscriber_in s.options.method set homes (text_in seen.reading)) set homes s seen said s.state refl
+
+-- ---- while an identity is awaited nothing was sent
+
+none_sent : (now : ServerState) → awaits_identity now ≡ true → last_of now ≡ nothing_sent
+none_sent state.AwaitIdentity e = refl
+none_sent (state.Await asked) e = refl
+none_sent (state.AwaitChallenge sent before) e = absurd cc
+none_sent (state.AwaitReauth sent) e = absurd cc
+none_sent (state.Notifying why last) e = absurd cc
+none_sent (state.Ended result last) e = absurd cc
+
+-- no challenge
+pub none_challenged : (s : ServerEnd) → awaits_identity s.state ≡ true → challenged_of s ≡ None
+none_challenged s e = ap (λ (last : Last). last.challenged) (none_sent s.state e)
+
+-- and no re-authentication
+pub none_resumed : (s : ServerEnd) → awaits_identity s.state ≡ true → resumed_of s ≡ None
+none_resumed s e = ap (λ (last : Last). last.resumed) (none_sent s.state e)
 
 -- ---- only those rows end in Success
 
@@ -334,47 +342,43 @@ IsProved s seen keys t = (AreProved s seen keys ⊎ AreRenewed s seen keys) × (
 success_keys : (k keys : KeySet) (b bytes : List ℕ) → ◌≡◌ {A = Step ServerWhy} (step.Ended (outcome.Success k) b) (step.Ended (outcome.Success keys) bytes) → keys ≡ k
 success_keys k keys b bytes e = cc
 
-one_sent : (a b : Challenged) (c : Option Challenged) → c ≡ Some a → c ≡ Some b → a ≡ b
-one_sent a b c e f = cc
+-- what a server that awaits an answer sent last
+pub awaits_challenge : (s : ServerEnd) (sent : Challenged) (before : Option Resumed) → s.state ≡ state.AwaitChallenge sent before → challenged_of s ≡ Some sent
+awaits_challenge s sent before now = ap (λ (now : ServerState). (last_of now).challenged) now
 
-one_resumed : (a b : Resumed) (c : Option Resumed) → c ≡ Some a → c ≡ Some b → a ≡ b
-one_resumed a b c e f = cc
+pub awaits_reauth : (s : ServerEnd) (sent : Resumed) → s.state ≡ state.AwaitReauth sent → resumed_of s ≡ Some sent
+awaits_reauth s sent now = ap (λ (now : ServerState). (last_of now).resumed) now
 
-proved_by : (s : ServerEnd) (seen : Seen) (c : Option Challenged) (keys : KeySet) (bytes : List ℕ) → s.challenged ≡ c → IsRight s seen
-    → EndsIn keys bytes (succeeded s c) → IsProved s seen keys (succeeded s c)
-proved_by s seen None keys bytes f right e = absurd cc
-proved_by s seen (Some sent) keys bytes f right e =
-    let are : keys ≡ sent.keys = success_keys sent.keys keys _ bytes e in
-    let same = one_sent right.sent sent s.challenged right.last f in (
+proved_by : (s : ServerEnd) (seen : Seen) (sent : Challenged) (keys : KeySet) (bytes : List ℕ) → IsRight s seen sent
+    → EndsIn keys bytes (succeeded s sent) → IsProved s seen keys (succeeded s sent)
+proved_by s seen sent keys bytes right e =
+    let are : keys ≡ sent.keys = success_keys sent.keys keys _ bytes e in (
       inl (record {
         sent = sent;
-        last = f;
+        last = awaits_challenge s sent right.before right.waits;
         keys_are = are;
-        right = ap (λ (k : KeySet). is_sealed s.options.method k.k_aut [] seen) are ∙ ap (λ (c : Challenged). is_sealed s.options.method c.keys.k_aut [] seen) (sym same) ∙ right.right;
+        right = ap (λ (k : KeySet). is_sealed s.options.method k.k_aut [] seen) are ∙ right.right;
       }),
       refl,
     )
 
-renewed_by : (s : ServerEnd) (seen : Seen) (c : Option Resumed) (keys : KeySet) (bytes : List ℕ) → s.resumed ≡ c → IsRightToo s seen
-    → EndsIn keys bytes (reauthenticated s c) → IsProved s seen keys (reauthenticated s c)
-renewed_by s seen None keys bytes f right e = absurd cc
-renewed_by s seen (Some sent) keys bytes f right e =
-    let are : keys ≡ resumed_keys s sent = success_keys (resumed_keys s sent) keys _ bytes e in
-    let same = one_resumed right.sent sent s.resumed right.last f in (
+renewed_by : (s : ServerEnd) (seen : Seen) (sent : Resumed) (keys : KeySet) (bytes : List ℕ) → IsRightToo s seen sent
+    → EndsIn keys bytes (reauthenticated s sent) → IsProved s seen keys (reauthenticated s sent)
+renewed_by s seen sent keys bytes right e =
+    let are : keys ≡ resumed_keys s sent = success_keys (resumed_keys s sent) keys _ bytes e in (
       inr (record {
         sent = sent;
-        last = f;
+        last = awaits_reauth s sent right.waits;
         keys_are = are;
-        right = ap (λ (k : KeySet). is_sealed s.options.method k.k_aut sent.nonce seen) are
-            ∙ ap (λ (c : Resumed). is_sealed s.options.method c.context.k_aut c.nonce seen) (sym same) ∙ right.right;
+        right = ap (λ (k : KeySet). is_sealed s.options.method k.k_aut sent.nonce seen) are ∙ right.right;
       }),
       refl,
     )
 
 proved_does : (found : Option ℕ) (set : Setting) (homes : List HomeRow) (s : ServerEnd) (seen : Seen) (text : List ℕ) (packets : List (List ℕ)) (r : Row) (notes : Notes) (keys : KeySet) (bytes : List ℕ)
     → Says found s seen r → EndsIn keys bytes (server_does set homes s text packets r notes) → IsProved s seen keys (server_does set homes s text packets r notes)
-proved_does found set homes s seen text packets row.Success notes keys bytes right e = proved_by s seen s.challenged keys bytes refl right e
-proved_does found set homes s seen text packets row.Reauthenticated notes keys bytes right e = renewed_by s seen s.resumed keys bytes refl right e
+proved_does found set homes s seen text packets (row.Success sent) notes keys bytes right e = proved_by s seen sent keys bytes right e
+proved_does found set homes s seen text packets (row.Reauthenticated sent) notes keys bytes right e = renewed_by s seen sent keys bytes right e
 proved_does found set homes s seen text packets (row.Challenge sub) notes keys bytes right e =
     absurd (no_challenged set homes (identified s text packets) sub false None notes.number keys bytes e)
 proved_does found set homes s seen text packets (row.Resume sub) notes keys bytes right e =

@@ -11,5 +11,4 @@ mod OptionsLemmas
 mod OrdinalLemmas
 mod PlanLemmas
 mod ResumeLemmas
-mod RoundLemmas
 mod TurnLemmas

@@ -23,22 +23,18 @@ use Rattle.auc_vector.specs.declared.notes.ResyncNote.{ResyncNote}
 use Rattle.auc_vector.specs.declared.notes.ResyncNote.TheVariants as resync
 use Rattle.auc_vector.specs.declared.parts.Vector.{Vector}
 use Rattle.auc_server.specs.Contexts.{context_after, context_in, won_context, first_context, found_at, gives_next, homes_kept, homes_left, homes_resumed, homes_rewon, homes_won, later_context, with_context, with_context_at, without, without_at}
-use Rattle.auc_server.specs.Moves.{EachTurnMakesOneMove, IsNewName, IsNewOrNone, Makes, Stands, is_at, left_first, left_later, of_sub, waiting, waiting_at}
+use Rattle.auc_server.specs.Moves.{EachTurnMakesOneMove, IsNewName, IsNewOrNone, Makes, Stands, is_at, of_sub, waiting, waiting_at}
 use Rattle.auc_server.specs.Ordinals.{home_at, home_place, homes_given, homes_with, ordinal_after, ordinal_at, ordinal_given, with_next}
 use Rattle.auc_server.specs.Rows.{server_row, subscriber_in, text_in}
 use Rattle.auc_server.specs.Server.{ServerEnd}
 use Rattle.auc_server.specs.Setting.{Setting}
-use Rattle.auc_server.specs.Table.{asked, awaiting, both_of, challenge_of, challenged, challenged_with, homes_challenged, homes_done, failed, homes_named, identified, identity_given, ignored, name_of, names_given, next_given, noted, notified, packets_after, pseudonym_given, random_at, reauthenticated, resumed_with, resumption, resynchronised, resynchronising, server_does, silent, succeeded, under, unknown, vector_at}
-use Rattle.auc_request.specs.declared.identities.IdentityRequest.{IdentityRequest}
-use Rattle.auc_request.specs.declared.identities.IdentityRequest.TheVariants as asks
-use Rattle.auc_server.specs.Laws.{awaits_identity}
+use Rattle.auc_server.specs.Table.{asked, both_of, challenge_of, challenged, challenged_with, homes_challenged, homes_done, failed, homes_named, identified, identity_given, ignored, name_of, names_given, next_given, noted, notified, packets_after, pseudonym_given, random_at, reauthenticated, resumed_with, resumption, resynchronised, resynchronising, server_does, silent, succeeded, under, unknown, vector_at}
 use Rattle.auc_server.specs.declared.naming.GivenNames.{GivenNames}
 use Rattle.auc_server.specs.declared.options.ServerOptions.{ServerOptions}
 use Rattle.auc_server.specs.declared.rows.Row.{Row}
 use Rattle.auc_server.specs.declared.rows.Row.TheVariants as row
 use Rattle.auc_server.specs.declared.server.Challenged.{Challenged}
 use Rattle.auc_server.specs.declared.server.Resumed.{Resumed}
-use Rattle.auc_server.specs.declared.server.ServerState.{ServerState}
 use Rattle.auc_server.specs.declared.server.ServerState.TheVariants as state
 use Rattle.auc_server.specs.declared.setting.HomeRow.{HomeRow}
 use Rattle.auc_server.specs.declared.why.ServerWhy.TheVariants as why
@@ -93,19 +89,19 @@ waiting_stays place homes later (Some c) same = ap (λ (p : Option ℕ). cond (i
 -- none, if the home and what the session would leave stay
 stay : (t place : ℕ) (set : Setting) (homes later : List HomeRow) (s new : ServerEnd) (notes : Notes) (w : Home) → new.options ≡ s.options
     → (home_at later place).store ≡ (home_at homes place).store → map (λ (home : HomeRow). home.sub) later ≡ map (λ (home : HomeRow). home.sub) homes
-    → waiting new new.state ≡ waiting s s.state → Stands t place homes s w → Makes t place set homes later new notes w
+    → waiting new.state ≡ waiting s.state → Stands t place homes s w → Makes t place set homes later new notes w
 stay t place set homes later s new notes w options store subs left at = record {
   move = None;
   of = tt;
   stands = record {
     store = at.store ∙ ap (λ (c : Contexts). entry s.options.method c) (sym store) ∙ ap (λ (o : ServerOptions). entry o.method (home_at later place).store) (sym options);
-    session = at.session ∙ sym (waiting_stays place homes later (waiting s s.state) subs) ∙ ap (waiting_at place later) (sym left);
+    session = at.session ∙ sym (waiting_stays place homes later (waiting s.state) subs) ∙ ap (waiting_at place later) (sym left);
   };
 }
 
 -- the session loses what it would have left
 lose : (t place : ℕ) (set : Setting) (homes later : List HomeRow) (s new : ServerEnd) (notes : Notes) (w : Home) → new.options ≡ s.options
-    → (home_at later place).store ≡ (home_at homes place).store → waiting_at place later (waiting new new.state) ≡ None → Stands t place homes s w → Makes t place set homes later new notes w
+    → (home_at later place).store ≡ (home_at homes place).store → waiting_at place later (waiting new.state) ≡ None → Stands t place homes s w → Makes t place set homes later new notes w
 lose t place set homes later s new notes w options store left at = record {
   move = Some (Lose t);
   of = refl;
@@ -117,7 +113,7 @@ lose t place set homes later s new notes w options store left at = record {
 
 -- a context comes from a Challenge
 comes : (t place : ℕ) (set : Setting) (homes later : List HomeRow) (s new : ServerEnd) (notes : Notes) (w : Home) (c : Context) → new.options ≡ s.options
-    → (home_at later place).store ≡ (home_at homes place).store → waiting_at place later (waiting new new.state) ≡ Some c → notes.number ≡ Some (number.Drew c.origin)
+    → (home_at later place).store ≡ (home_at homes place).store → waiting_at place later (waiting new.state) ≡ Some c → notes.number ≡ Some (number.Drew c.origin)
     → IsNewName set.names new.options.method (home_at homes place) (home_at later place) c.identity → Stands t place homes s w → Makes t place set homes later new notes w
 comes t place set homes later s new notes w c options store left drawn name at = record {
   move = Some (Challenge t c);
@@ -271,7 +267,7 @@ sent_makes t place set homes later s old realm sub n v given resynced checked w 
     names) at
 
 with_makes : (t place : ℕ) (set : Setting) (homes later : List HomeRow) (s old : ServerEnd) (realm : List ℕ) (sub n : ℕ) (v : Option Vector) (given : Option GivenNames) (resynced : Option ResyncNote) (checked : Bool) (w : Home)
-    → s.options ≡ old.options → waiting s s.state ≡ waiting old old.state → (home_at later place).store ≡ (home_at homes place).store
+    → s.options ≡ old.options → waiting s.state ≡ waiting old.state → (home_at later place).store ≡ (home_at homes place).store
     → map (λ (home : HomeRow). home.sub) later ≡ map (λ (home : HomeRow). home.sub) homes
     → ((identity : List ℕ) → next_given given ≡ Some identity → home_place later sub ≡ Some place → IsNewName set.names s.options.method (home_at homes place) (home_at later place) identity)
     → Stands t place homes old w
@@ -284,7 +280,7 @@ with_makes t place set homes later s old realm sub n (Some v) given resynced che
     (waiting_at place later (of_sub sub (won_context (challenge_of s sub n v (next_given given))))) refl names at
 
 challenged_makes : (t place : ℕ) (set : Setting) (homes : List HomeRow) (s old : ServerEnd) (sub : ℕ) (checked : Bool) (resynced : Option ResyncNote) (drawn : Option NumberNote) (w : Home)
-    → s.options ≡ old.options → waiting s s.state ≡ waiting old old.state → Stands t place homes old w
+    → s.options ≡ old.options → waiting s.state ≡ waiting old.state → Stands t place homes old w
     → Makes t place set homes (homes_challenged old.options homes sub drawn) (challenged set homes s sub checked resynced drawn).0 (challenged set homes s sub checked resynced drawn).1.notes w
 challenged_makes t place set homes s old sub checked resynced None w options left at =
     stay t place set homes homes old s (challenged set homes s sub checked resynced None).1.notes w options refl refl left at
@@ -300,16 +296,6 @@ challenged_makes t place set homes s old sub checked resynced (Some (number.With
     lose t place set homes homes old (challenged set homes s sub checked resynced (Some (number.Withheld n stop))).0
     (challenged set homes s sub checked resynced (Some (number.Withheld n stop))).1.notes w options refl refl at
 
-synced_waits : (s : ServerEnd) (now : ServerState) → waiting (resynchronising s) now ≡ waiting s now
-synced_waits s state.AwaitIdentity = refl
-synced_waits s state.AwaitAny = refl
-synced_waits s state.AwaitFull = refl
-synced_waits s state.AwaitPermanent = refl
-synced_waits s state.AwaitChallenge = refl
-synced_waits s state.AwaitReauth = refl
-synced_waits s (state.Notifying why) = refl
-synced_waits s (state.Ended result) = refl
-
 resynchronised_makes : (t place : ℕ) (set : Setting) (homes : List HomeRow) (s : ServerEnd) (sub : ℕ) (resynced : Option ResyncNote) (drawn : Option NumberNote) (w : Home) → Stands t place homes s w
     → Makes t place set homes (homes_challenged s.options homes sub drawn) (resynchronised set homes s sub resynced drawn).0 (resynchronised set homes s sub resynced drawn).1.notes w
 resynchronised_makes t place set homes s sub None drawn w at =
@@ -322,9 +308,9 @@ resynchronised_makes t place set homes s sub (Some (resync.Beyond seen seq)) dra
     lose t place set homes (homes_challenged s.options homes sub drawn) s (resynchronised set homes s sub (Some (resync.Beyond seen seq)) drawn).0
     (resynchronised set homes s sub (Some (resync.Beyond seen seq)) drawn).1.notes w refl (challenged_store s.options homes sub drawn place) refl at
 resynchronised_makes t place set homes s sub (Some (resync.InRange seen seq)) drawn w at =
-    challenged_makes t place set homes (resynchronising s) s sub false (Some (resync.InRange seen seq)) drawn w refl (synced_waits s s.state) at
+    challenged_makes t place set homes (resynchronising s) s sub false (Some (resync.InRange seen seq)) drawn w refl refl at
 resynchronised_makes t place set homes s sub (Some (resync.Moved seen seq)) drawn w at =
-    challenged_makes t place set homes (resynchronising s) s sub false (Some (resync.Moved seen seq)) drawn w refl (synced_waits s s.state) at
+    challenged_makes t place set homes (resynchronising s) s sub false (Some (resync.Moved seen seq)) drawn w refl refl at
 
 -- ---- success
 
@@ -344,7 +330,7 @@ put_there by homes at' place c other =
 
 -- at the home of the session what it would leave goes to the store; at another home nothing is done
 wins_by : (t place : ℕ) (set : Setting) (homes : List HomeRow) (s new : ServerEnd) (notes : Notes) (w : Home) (sub : ℕ) (c : Context) (at' : ℕ) (b : Bool) → (at' == place) ≡ b → home_place homes sub ≡ Some at'
-    → new.options ≡ s.options → waiting s s.state ≡ Some (sub, c) → waiting new new.state ≡ None → Stands t place homes s w
+    → new.options ≡ s.options → waiting s.state ≡ Some (sub, c) → waiting new.state ≡ None → Stands t place homes s w
     → Makes t place set homes (with_context_at s.options.method c homes (Some at')) new notes w
 wins_by t place set homes s new notes w sub c at' true here e options before after at =
     let same = same_number at' place here in record {
@@ -364,7 +350,7 @@ wins_by t place set homes s new notes w sub c at' false other e options before a
     (ap (waiting_at place (with_context_at s.options.method c homes (Some at'))) after) at
 
 wins_at : (t place : ℕ) (set : Setting) (homes : List HomeRow) (s new : ServerEnd) (notes : Notes) (w : Home) (sub : ℕ) (c : Context) (at' : Option ℕ) → home_place homes sub ≡ at'
-    → new.options ≡ s.options → waiting s s.state ≡ Some (sub, c) → waiting new new.state ≡ None → Stands t place homes s w
+    → new.options ≡ s.options → waiting s.state ≡ Some (sub, c) → waiting new.state ≡ None → Stands t place homes s w
     → Makes t place set homes (with_context_at s.options.method c homes at') new notes w
 wins_at t place set homes s new notes w sub c None e options before after at =
     lose t place set homes homes s new notes w options refl (ap (waiting_at place homes) after) at
@@ -372,21 +358,19 @@ wins_at t place set homes s new notes w sub c (Some at') e options before after 
     wins_by t place set homes s new notes w sub c at' (at' == place) refl e options before after at
 
 wins : (t place : ℕ) (set : Setting) (homes : List HomeRow) (s new : ServerEnd) (notes : Notes) (w : Home) (sub : ℕ) (c : Option Context) → new.options ≡ s.options
-    → waiting s s.state ≡ of_sub sub c → waiting new new.state ≡ None → Stands t place homes s w → Makes t place set homes (homes_kept s.options.method homes sub c) new notes w
+    → waiting s.state ≡ of_sub sub c → waiting new.state ≡ None → Stands t place homes s w → Makes t place set homes (homes_kept s.options.method homes sub c) new notes w
 wins t place set homes s new notes w sub None options before after at = lose t place set homes homes s new notes w options refl (ap (waiting_at place homes) after) at
 wins t place set homes s new notes w sub (Some c) options before after at = wins_at t place set homes s new notes w sub c (home_place homes sub) refl options before after at
 
-succeeded_makes : (t place : ℕ) (set : Setting) (homes : List HomeRow) (s : ServerEnd) (c : Option Challenged) (w : Home) → waiting s s.state ≡ left_first c → Stands t place homes s w
-    → Makes t place set homes (homes_won s.options.method homes c) (succeeded s c).0 (succeeded s c).1.notes w
-succeeded_makes t place set homes s None w e at = stay t place set homes homes s s (succeeded s None).1.notes w refl refl refl refl at
-succeeded_makes t place set homes s (Some sent) w e at =
-    wins t place set homes s (succeeded s (Some sent)).0 (succeeded s (Some sent)).1.notes w sent.sub (won_context sent) refl e refl at
+succeeded_makes : (t place : ℕ) (set : Setting) (homes : List HomeRow) (s : ServerEnd) (sent : Challenged) (before : Option Resumed) (w : Home) → s.state ≡ state.AwaitChallenge sent before
+    → Stands t place homes s w → Makes t place set homes (homes_won s.options.method homes sent) (succeeded s sent).0 (succeeded s sent).1.notes w
+succeeded_makes t place set homes s sent before w now at =
+    wins t place set homes s (succeeded s sent).0 (succeeded s sent).1.notes w sent.sub (won_context sent) refl (ap waiting now) refl at
 
-renewed_makes : (t place : ℕ) (set : Setting) (homes : List HomeRow) (s : ServerEnd) (c : Option Resumed) (w : Home) → waiting s s.state ≡ left_later c → Stands t place homes s w
-    → Makes t place set homes (homes_rewon s.options.method homes c) (reauthenticated s c).0 (reauthenticated s c).1.notes w
-renewed_makes t place set homes s None w e at = stay t place set homes homes s s (reauthenticated s None).1.notes w refl refl refl refl at
-renewed_makes t place set homes s (Some sent) w e at =
-    wins t place set homes s (reauthenticated s (Some sent)).0 (reauthenticated s (Some sent)).1.notes w sent.sub (context_after sent) refl e refl at
+renewed_makes : (t place : ℕ) (set : Setting) (homes : List HomeRow) (s : ServerEnd) (sent : Resumed) (w : Home) → s.state ≡ state.AwaitReauth sent → Stands t place homes s w
+    → Makes t place set homes (homes_rewon s.options.method homes sent) (reauthenticated s sent).0 (reauthenticated s sent).1.notes w
+renewed_makes t place set homes s sent w now at =
+    wins t place set homes s (reauthenticated s sent).0 (reauthenticated s sent).1.notes w sent.sub (context_after sent) refl (ap waiting now) refl at
 
 -- ---- a context that is taken up again
 
@@ -469,34 +453,8 @@ resumed_makes t place set homes s text packets sub (Some at') (Some c) w e f at 
 
 -- ---- the rows
 
--- before a challenge nothing is left
-nothing_waits : (s : ServerEnd) (now : ServerState) → awaits_identity now ≡ true → waiting s now ≡ None
-nothing_waits s state.AwaitIdentity e = refl
-nothing_waits s state.AwaitAny e = refl
-nothing_waits s state.AwaitFull e = refl
-nothing_waits s state.AwaitPermanent e = refl
-nothing_waits s state.AwaitChallenge e = absurd cc
-nothing_waits s state.AwaitReauth e = absurd cc
-nothing_waits s (state.Notifying why) e = refl
-nothing_waits s (state.Ended result) e = refl
-
-nothing_asked : (s : ServerEnd) (kind : IdentityRequest) → waiting s (awaiting kind) ≡ None
-nothing_asked s asks.Any = refl
-nothing_asked s asks.Fullauth = refl
-nothing_asked s asks.Permanent = refl
-
-identified_waits : (s : ServerEnd) (text : List ℕ) (packets : List (List ℕ)) (now : ServerState) → waiting (identified s text packets) now ≡ waiting s now
-identified_waits s text packets state.AwaitIdentity = refl
-identified_waits s text packets state.AwaitAny = refl
-identified_waits s text packets state.AwaitFull = refl
-identified_waits s text packets state.AwaitPermanent = refl
-identified_waits s text packets state.AwaitChallenge = refl
-identified_waits s text packets state.AwaitReauth = refl
-identified_waits s text packets (state.Notifying why) = refl
-identified_waits s text packets (state.Ended result) = refl
-
 -- a row that ends what the session would leave
-ends : (t place : ℕ) (set : Setting) (homes : List HomeRow) (s new : ServerEnd) (notes : Notes) (w : Home) → new.options ≡ s.options → waiting new new.state ≡ None → Stands t place homes s w
+ends : (t place : ℕ) (set : Setting) (homes : List HomeRow) (s new : ServerEnd) (notes : Notes) (w : Home) → new.options ≡ s.options → waiting new.state ≡ None → Stands t place homes s w
     → Makes t place set homes homes new notes w
 ends t place set homes s new notes w options left at = lose t place set homes homes s new notes w options refl (ap (waiting_at place homes) left) at
 
@@ -505,27 +463,27 @@ does_makes : (found : Option ℕ) (t place : ℕ) (set : Setting) (homes : List 
     → Makes t place set homes (homes_done homes s text r notes) (server_does set homes s text packets r notes).0 (server_does set homes s text packets r notes).1.notes w
 does_makes found t place set homes s seen text packets (row.Ignore cause) notes w says at = stay t place set homes homes s s (ignored s cause).1.notes w refl refl refl refl at
 does_makes found t place set homes s seen text packets (row.Ask kind) notes w says at =
-    ends t place set homes s (asked s text packets kind).0 (asked s text packets kind).1.notes w refl (nothing_asked (asked s text packets kind).0 kind) at
+    ends t place set homes s (asked s text packets kind).0 (asked s text packets kind).1.notes w refl refl at
 does_makes found t place set homes s seen text packets row.UnknownIdentity notes w says at =
     ends t place set homes s (unknown s text packets).0 (unknown s text packets).1.notes w refl refl at
 does_makes found t place set homes s seen text packets (row.Challenge sub) notes w says at =
-    challenged_makes t place set homes (identified s text packets) s sub false None notes.number w refl (identified_waits s text packets s.state) at
+    challenged_makes t place set homes (identified s text packets) s sub false None notes.number w refl refl at
 does_makes found t place set homes s seen text packets (row.Resume sub) notes w says at =
     resumed_makes t place set homes s text packets sub (home_place homes sub) (context_in s.options.method text homes sub) w refl refl at
 does_makes found t place set homes s seen text packets (row.TooSmall sub) notes w says at =
     challenged_makes t place set homes s s sub true None notes.number w refl refl at
 does_makes found t place set homes s seen text packets row.WrongCounter notes w says at =
     ends t place set homes s (notified s why.WrongCounter silent true).0 (notified s why.WrongCounter silent true).1.notes w refl refl at
-does_makes found t place set homes s seen text packets row.Reauthenticated notes w says at =
-    renewed_makes t place set homes s s.resumed w (ap (waiting s) says.waits) at
+does_makes found t place set homes s seen text packets (row.Reauthenticated sent) notes w says at =
+    renewed_makes t place set homes s sent w says.waits at
 does_makes found t place set homes s seen text packets row.WrongMac notes w says at =
     ends t place set homes s (notified s why.WrongMac silent false).0 (notified s why.WrongMac silent false).1.notes w refl refl at
 does_makes found t place set homes s seen text packets row.WrongRes notes w says at =
     ends t place set homes s (notified s why.WrongRes silent true).0 (notified s why.WrongRes silent true).1.notes w refl refl at
 does_makes found t place set homes s seen text packets row.WrongCheckcode notes w says at =
     ends t place set homes s (notified s why.WrongCheckcode silent true).0 (notified s why.WrongCheckcode silent true).1.notes w refl refl at
-does_makes found t place set homes s seen text packets row.Success notes w says at =
-    succeeded_makes t place set homes s s.challenged w (ap (waiting s) says.waits) at
+does_makes found t place set homes s seen text packets (row.Success sent) notes w says at =
+    succeeded_makes t place set homes s sent says.before w says.waits at
 does_makes found t place set homes s seen text packets row.SecondSync notes w says at =
     ends t place set homes s (notified s why.SecondSync silent false).0 (notified s why.SecondSync silent false).1.notes w refl refl at
 does_makes found t place set homes s seen text packets row.BadAuts notes w says at =

@@ -1,5 +1,5 @@
 -- What a turn does to the last challenge of a server.
-use Rattle.std.proofs.Common.{◌≡◌, ◌⊎◌, ℕ, Bool, true, false, List, Option, Some, None, refl, inl, inr}
+use Rattle.std.proofs.Common.{◌≡◌, ◌⊎◌, ℕ, Bool, true, false, List, Option, Some, None, refl, sym, inl, inr}
 use Rattle.auc_packet.specs.Received.{Seen}
 use Rattle.auc_vector.specs.Notes.{Asking}
 use Rattle.auc_vector.specs.declared.notes.Notes.{Notes}
@@ -13,7 +13,7 @@ use Rattle.auc_reauth.specs.declared.context.Context.{Context}
 use Rattle.auc_server.specs.Contexts.{context_in, homes_left}
 use Rattle.auc_server.specs.Laws.{EachTurnKeepsOrChallenges, Fits, KeepsChallenge, SendsChallenge, awaits_identity}
 use Rattle.auc_server.specs.Rows.{server_row, subscriber_in, text_in}
-use Rattle.auc_server.specs.Server.{ServerEnd}
+use Rattle.auc_server.specs.Server.{ServerEnd, challenged_of}
 use Rattle.auc_server.specs.Setting.{Setting}
 use Rattle.auc_server.specs.Steps.{asking}
 use Rattle.auc_server.specs.Table.{challenged, challenged_with, identified, names_given, next_given, noted, packets_after, reauthenticated, resumed_with, resynchronised, resynchronising, server_does, succeeded, vector_at}
@@ -25,7 +25,7 @@ use Rattle.auc_server.specs.declared.server.Resumed.{Resumed}
 use Rattle.auc_server.specs.declared.setting.HomeRow.{HomeRow}
 use Rattle.auc_server.specs.declared.why.ServerWhy.{ServerWhy}
 use Rattle.auc_server.proofs.FitsLemmas.{no_sent}
-use Rattle.auc_server.proofs.LawLemmas.{Says, says_row}
+use Rattle.auc_server.proofs.LawLemmas.{Says, none_challenged, says_row}
 
 abbrev Moves : Setting → Option Asking → ServerEnd → ServerEnd × Turn ServerWhy → Type 0
 Moves set asked s r = KeepsChallenge s r.0 ⊎ SendsChallenge set asked r.0 r.1
@@ -35,8 +35,8 @@ abbrev alike : (s : ServerEnd) → KeepsChallenge s s
 alike s = record { challenge = refl; identity = λ sent e. refl }
 
 -- another identity before the first challenge
-identified_keeps : (s : ServerEnd) (text : List ℕ) (packets : List (List ℕ)) → awaits_identity s.state ≡ true → Fits s → KeepsChallenge s (identified s text packets)
-identified_keeps s text packets e f = record { challenge = refl; identity = λ sent g. absurd (no_sent s.challenged sent (f.first e) g) }
+identified_keeps : (s : ServerEnd) (text : List ℕ) (packets : List (List ℕ)) → awaits_identity s.state ≡ true → KeepsChallenge s (identified s text packets)
+identified_keeps s text packets e = record { challenge = refl; identity = λ sent g. absurd (no_sent (challenged_of s) sent (none_challenged s e) g) }
 
 sent_moves : (set : Setting) (old s : ServerEnd) (asked : Asking) (checked : Bool) (resynced : Option ResyncNote) (n : ℕ) (v : Option Vector) (given : Option GivenNames) → vector_at set s.options asked.sub n ≡ v
     → KeepsChallenge old s → Moves set (Some asked) old (challenged_with set.realm s asked.sub n v given (noted resynced (Some (number.Drew n))) checked)
@@ -72,34 +72,32 @@ resynchronised_moves set homes s asked (Some (resync.Beyond seen seq)) drawn = i
 resynchronised_moves set homes s asked (Some (resync.InRange seen seq)) drawn = challenged_moves set homes s (resynchronising s) asked false (Some (resync.InRange seen seq)) drawn (synced_keeps s)
 resynchronised_moves set homes s asked (Some (resync.Moved seen seq)) drawn = challenged_moves set homes s (resynchronising s) asked false (Some (resync.Moved seen seq)) drawn (synced_keeps s)
 
-succeeded_moves : (set : Setting) (s : ServerEnd) (c : Option Challenged) → Moves set None s (succeeded s c)
-succeeded_moves set s None = inl (alike s)
-succeeded_moves set s (Some sent) = inl (record { challenge = refl; identity = λ sent e. refl })
+succeeded_moves : (set : Setting) (s : ServerEnd) (sent : Challenged) → Moves set None s (succeeded s sent)
+succeeded_moves set s sent = inl (record { challenge = refl; identity = λ sent e. refl })
 
-renewed_moves : (set : Setting) (s : ServerEnd) (c : Option Resumed) → Moves set None s (reauthenticated s c)
-renewed_moves set s None = inl (alike s)
-renewed_moves set s (Some sent) = inl (record { challenge = refl; identity = λ sent e. refl })
+renewed_moves : (set : Setting) (s : ServerEnd) (sent : Resumed) → Moves set None s (reauthenticated s sent)
+renewed_moves set s sent = inl (record { challenge = refl; identity = λ sent e. refl })
 
-resumed_moves : (set : Setting) (homes : List HomeRow) (s : ServerEnd) (text : List ℕ) (packets : List (List ℕ)) (sub : ℕ) (c : Option Context) → awaits_identity s.state ≡ true → Fits s
+resumed_moves : (set : Setting) (homes : List HomeRow) (s : ServerEnd) (text : List ℕ) (packets : List (List ℕ)) (sub : ℕ) (c : Option Context) → awaits_identity s.state ≡ true
     → Moves set None s (resumed_with set homes s text packets sub c)
-resumed_moves set homes s text packets sub None e f = inl (alike s)
-resumed_moves set homes s text packets sub (Some c) e f = inl (record { challenge = refl; identity = λ sent g. absurd (no_sent s.challenged sent (f.first e) g) })
+resumed_moves set homes s text packets sub None e = inl (alike s)
+resumed_moves set homes s text packets sub (Some c) e = inl (record { challenge = sym (none_challenged s e); identity = λ sent g. absurd (no_sent (challenged_of s) sent (none_challenged s e) g) })
 
 does_moves : (found : Option ℕ) (set : Setting) (homes : List HomeRow) (s : ServerEnd) (seen : Seen) (text : List ℕ) (packets : List (List ℕ)) (r : Row) (notes : Notes) → Says found s seen r → Fits s
     → Moves set (asking r) s (server_does set homes s text packets r notes)
 does_moves found set homes s seen text packets (row.Ignore cause) notes says f = inl (alike s)
 does_moves found set homes s seen text packets (row.Ask kind) notes says f =
-    let k = identified_keeps s text packets says f in inl (record { challenge = k.challenge; identity = k.identity })
+    let k = identified_keeps s text packets says in inl (record { challenge = sym (none_challenged s says); identity = k.identity })
 does_moves found set homes s seen text packets row.UnknownIdentity notes says f =
-    let k = identified_keeps s text packets says f in inl (record { challenge = k.challenge; identity = k.identity })
+    let k = identified_keeps s text packets says in inl (record { challenge = k.challenge; identity = k.identity })
 does_moves found set homes s seen text packets (row.Challenge sub) notes says f =
-    challenged_moves set homes s (identified s text packets) (record { sub = sub; reported = None }) false None notes.number (identified_keeps s text packets says.0 f)
+    challenged_moves set homes s (identified s text packets) (record { sub = sub; reported = None }) false None notes.number (identified_keeps s text packets says.0)
 does_moves found set homes s seen text packets (row.Resume sub) notes says f =
-    resumed_moves set (homes_left s.options.method text homes sub) s text packets sub (context_in s.options.method text homes sub) says f
+    resumed_moves set (homes_left s.options.method text homes sub) s text packets sub (context_in s.options.method text homes sub) says
 does_moves found set homes s seen text packets (row.TooSmall sub) notes says f =
     challenged_moves set homes s s (record { sub = sub; reported = None }) true None notes.number (alike s)
-does_moves found set homes s seen text packets row.Reauthenticated notes says f = renewed_moves set s s.resumed
-does_moves found set homes s seen text packets row.Success notes says f = succeeded_moves set s s.challenged
+does_moves found set homes s seen text packets (row.Reauthenticated sent) notes says f = renewed_moves set s sent
+does_moves found set homes s seen text packets (row.Success sent) notes says f = succeeded_moves set s sent
 does_moves found set homes s seen text packets (row.Resynchronise sub seq) notes says f =
     resynchronised_moves set homes s (record { sub = sub; reported = Some seq }) notes.resync notes.number
 does_moves found set homes s seen text packets other notes says f = inl (record { challenge = refl; identity = λ sent e. refl })

@@ -13,13 +13,11 @@ use Rattle.auc_server.specs.Laws.{OptionsStay}
 use Rattle.auc_server.specs.Rows.{server_row, text_in}
 use Rattle.auc_server.specs.Server.{ServerEnd}
 use Rattle.auc_server.specs.Setting.{Setting}
-use Rattle.auc_server.specs.Table.{challenged, challenged_with, gave_up, identified, names_given, noted, packets_after, reauthenticated, resumed_with, resynchronised, resynchronising, server_does, server_step, succeeded, vector_at}
+use Rattle.auc_server.specs.Table.{challenged, challenged_with, gave_up, identified, names_given, noted, packets_after, resumed_with, resynchronised, resynchronising, server_does, server_step, vector_at}
 use Rattle.auc_server.specs.declared.naming.GivenNames.{GivenNames}
 use Rattle.auc_server.specs.declared.reply.Reply.{Reply}
 use Rattle.auc_server.specs.declared.rows.Row.{Row}
 use Rattle.auc_server.specs.declared.rows.Row.TheVariants as row
-use Rattle.auc_server.specs.declared.server.Challenged.{Challenged}
-use Rattle.auc_server.specs.declared.server.Resumed.{Resumed}
 use Rattle.auc_server.specs.declared.server.ServerState.{ServerState}
 use Rattle.auc_server.specs.declared.server.ServerState.TheVariants as state
 use Rattle.auc_server.specs.declared.setting.HomeRow.{HomeRow}
@@ -49,21 +47,11 @@ resumed_keeps : (set : Setting) (homes : List HomeRow) (s : ServerEnd) (text : L
 resumed_keeps set homes s text packets sub None = refl
 resumed_keeps set homes s text packets sub (Some c) = refl
 
-renewed_keeps : (s : ServerEnd) (c : Option Resumed) → (reauthenticated s c).0.options ≡ s.options
-renewed_keeps s None = refl
-renewed_keeps s (Some sent) = refl
-
-succeeded_keeps : (s : ServerEnd) (c : Option Challenged) → (succeeded s c).0.options ≡ s.options
-succeeded_keeps s None = refl
-succeeded_keeps s (Some sent) = refl
-
 does_keeps : (set : Setting) (homes : List HomeRow) (s : ServerEnd) (text : List ℕ) (packets : List (List ℕ)) (r : Row) (notes : Notes) → (server_does set homes s text packets r notes).0.options ≡ s.options
 does_keeps set homes s text packets (row.Challenge sub) notes = challenged_keeps set homes (identified s text packets) sub false None notes.number
 does_keeps set homes s text packets (row.Resume sub) notes =
     resumed_keeps set (homes_left s.options.method text homes sub) s text packets sub (context_in s.options.method text homes sub)
 does_keeps set homes s text packets (row.TooSmall sub) notes = challenged_keeps set homes s sub true None notes.number
-does_keeps set homes s text packets row.Reauthenticated notes = renewed_keeps s s.resumed
-does_keeps set homes s text packets row.Success notes = succeeded_keeps s s.challenged
 does_keeps set homes s text packets (row.Resynchronise sub seq) notes = resynchronised_keeps set homes s sub notes.resync notes.number
 does_keeps set homes s text packets other notes = refl
 
@@ -74,13 +62,11 @@ turn_options set homes s seen said notes =
 
 gave_up_keeps : (s : ServerEnd) (now : ServerState) → (gave_up s now).0.options ≡ s.options
 gave_up_keeps s state.AwaitIdentity = refl
-gave_up_keeps s state.AwaitAny = refl
-gave_up_keeps s state.AwaitFull = refl
-gave_up_keeps s state.AwaitPermanent = refl
-gave_up_keeps s state.AwaitChallenge = refl
-gave_up_keeps s state.AwaitReauth = refl
-gave_up_keeps s (state.Notifying why) = refl
-gave_up_keeps s (state.Ended result) = refl
+gave_up_keeps s (state.Await kind) = refl
+gave_up_keeps s (state.AwaitChallenge sent before) = refl
+gave_up_keeps s (state.AwaitReauth sent) = refl
+gave_up_keeps s (state.Notifying why last) = refl
+gave_up_keeps s (state.Ended result last) = refl
 
 -- after the server gave up
 pub gave_up_options : (s : ServerEnd) → (gave_up s s.state).0.options ≡ s.options

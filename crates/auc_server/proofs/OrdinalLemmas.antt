@@ -92,14 +92,12 @@ kept_near by homes sub (Some c) other = at (home_place homes sub)
     at (Some place) =
         set_near homes place other (with_context by c (home_at homes place)) (record { sub = refl; more = 0; few = omega arith; ordinals = omega arith })
 
-won_rises : (by : Method) (homes : List HomeRow) (c : Option Challenged) (other : ℕ) → IsAfter (home_at homes other) (home_at (homes_won by homes c) other)
-won_rises by homes None other = same (home_at homes other)
-won_rises by homes (Some sent) other =
+won_rises : (by : Method) (homes : List HomeRow) (sent : Challenged) (other : ℕ) → IsAfter (home_at homes other) (home_at (homes_won by homes sent) other)
+won_rises by homes sent other =
     one_near (home_at homes other) (home_at (homes_kept by homes sent.sub (won_context sent)) other) (kept_near by homes sent.sub (won_context sent) other)
 
-rewon_rises : (by : Method) (homes : List HomeRow) (c : Option Resumed) (other : ℕ) → IsAfter (home_at homes other) (home_at (homes_rewon by homes c) other)
-rewon_rises by homes None other = same (home_at homes other)
-rewon_rises by homes (Some sent) other =
+rewon_rises : (by : Method) (homes : List HomeRow) (sent : Resumed) (other : ℕ) → IsAfter (home_at homes other) (home_at (homes_rewon by homes sent) other)
+rewon_rises by homes sent other =
     one_near (home_at homes other) (home_at (homes_kept by homes sent.sub (context_after sent)) other) (kept_near by homes sent.sub (context_after sent) other)
 
 resumed_rises : (options : ServerOptions) (text : List ℕ) (homes : List HomeRow) (sub : ℕ) (c : Option Context) (other : ℕ)
@@ -114,8 +112,8 @@ done_rises homes s text (row.Challenge sub) notes other = challenged_rises s.opt
 done_rises homes s text (row.TooSmall sub) notes other = challenged_rises s.options homes sub notes.number other
 done_rises homes s text (row.Resynchronise sub seq) notes other = challenged_rises s.options homes sub notes.number other
 done_rises homes s text (row.Resume sub) notes other = resumed_rises s.options text homes sub (context_in s.options.method text homes sub) other
-done_rises homes s text row.Success notes other = won_rises s.options.method homes s.challenged other
-done_rises homes s text row.Reauthenticated notes other = rewon_rises s.options.method homes s.resumed other
+done_rises homes s text (row.Success sent) notes other = won_rises s.options.method homes sent other
+done_rises homes s text (row.Reauthenticated sent) notes other = rewon_rises s.options.method homes sent other
 done_rises homes s text rest notes other = same (home_at homes other)
 
 pub ordinals_rise : OrdinalsRise

@@ -1,5 +1,5 @@
 -- What a turn does to the re-authentication of a server: a context that is taken up again leaves its home.
-use Rattle.std.proofs.Common.{◌≡◌, ◌⊎◌, inl, inr, ℕ, zero, suc, Bool, true, false, cond, List, [], ◌∷◌, slice_set, Option, Some, None, refl, ap, ◌∙◌}
+use Rattle.std.proofs.Common.{◌≡◌, ◌⊎◌, inl, inr, ℕ, zero, suc, Bool, true, false, cond, List, [], ◌∷◌, slice_set, Option, Some, None, refl, sym, ap, ◌∙◌}
 use Rattle.std.specs.Str.{bytes_eq}
 use Rattle.auc_hmac.specs.declared.method.Method.{Method}
 use Rattle.auc_hmac.specs.declared.method.Method.TheVariants as method
@@ -19,7 +19,7 @@ use Rattle.auc_server.specs.Contexts.{context_in, found_at, gives_next, homes_le
 use Rattle.auc_server.specs.Laws.{EachTurnKeepsOrResumes, Fits, KeepsResumption, Resumes, awaits_identity}
 use Rattle.auc_server.specs.Ordinals.{home_at, home_place, homes_given, homes_with, ordinal_after, with_next}
 use Rattle.auc_server.specs.Rows.{server_row, subscriber_in, text_in}
-use Rattle.auc_server.specs.Server.{ServerEnd}
+use Rattle.auc_server.specs.Server.{ServerEnd, resumed_of}
 use Rattle.auc_server.specs.Setting.{Setting}
 use Rattle.auc_server.specs.Table.{challenged, challenged_with, homes_done, identified, names_given, noted, packets_after, reauthenticated, resumed_with, resynchronised, resynchronising, server_does, succeeded, vector_at}
 use Rattle.auc_server.specs.declared.naming.GivenNames.{GivenNames}
@@ -31,7 +31,7 @@ use Rattle.auc_server.specs.declared.server.Resumed.{Resumed}
 use Rattle.auc_server.specs.declared.setting.HomeRow.{HomeRow}
 use Rattle.auc_server.specs.declared.why.ServerWhy.{ServerWhy}
 use Rattle.auc_server.proofs.FitsLemmas.{no_resumed}
-use Rattle.auc_server.proofs.LawLemmas.{Says, says_row}
+use Rattle.auc_server.proofs.LawLemmas.{Says, none_resumed, says_row}
 
 -- ---- a home after its context left
 
@@ -98,8 +98,8 @@ Keeps s t = KeepsResumption s t.0 × (t.1.notes.resumed ≡ None)
 abbrev alike : (s : ServerEnd) → KeepsResumption s s
 alike s = record { resumption = refl; identity = λ sent e. refl }
 
-identified_keeps : (s : ServerEnd) (text : List ℕ) (packets : List (List ℕ)) → awaits_identity s.state ≡ true → Fits s → KeepsResumption s (identified s text packets)
-identified_keeps s text packets e f = record { resumption = refl; identity = λ sent g. absurd (no_resumed s.resumed sent (f.before e) g) }
+identified_keeps : (s : ServerEnd) (text : List ℕ) (packets : List (List ℕ)) → awaits_identity s.state ≡ true → KeepsResumption s (identified s text packets)
+identified_keeps s text packets e = record { resumption = refl; identity = λ sent g. absurd (no_resumed (resumed_of s) sent (none_resumed s e) g) }
 
 with_keeps : (realm : List ℕ) (old s : ServerEnd) (sub n : ℕ) (v : Option Vector) (given : Option GivenNames) (resynced : Option ResyncNote) (drawn : Option NumberNote) (checked : Bool)
     → KeepsResumption old s → Keeps old (challenged_with realm s sub n v given (noted resynced drawn) checked)
@@ -124,13 +124,11 @@ resynchronised_keeps set homes s sub (Some (resync.Beyond seen seq)) drawn = (re
 resynchronised_keeps set homes s sub (Some (resync.InRange seen seq)) drawn = challenged_keeps set homes s (resynchronising s) sub false (Some (resync.InRange seen seq)) drawn (synced_keeps s)
 resynchronised_keeps set homes s sub (Some (resync.Moved seen seq)) drawn = challenged_keeps set homes s (resynchronising s) sub false (Some (resync.Moved seen seq)) drawn (synced_keeps s)
 
-succeeded_keeps : (s : ServerEnd) (c : Option Challenged) → Keeps s (succeeded s c)
-succeeded_keeps s None = (alike s, refl)
-succeeded_keeps s (Some sent) = (record { resumption = refl; identity = λ r e. refl }, refl)
+succeeded_keeps : (s : ServerEnd) (sent : Challenged) → Keeps s (succeeded s sent)
+succeeded_keeps s sent = (record { resumption = refl; identity = λ r e. refl }, refl)
 
-renewed_keeps : (s : ServerEnd) (c : Option Resumed) → Keeps s (reauthenticated s c)
-renewed_keeps s None = (alike s, refl)
-renewed_keeps s (Some sent) = (record { resumption = refl; identity = λ r e. refl }, refl)
+renewed_keeps : (s : ServerEnd) (sent : Resumed) → Keeps s (reauthenticated s sent)
+renewed_keeps s sent = (record { resumption = refl; identity = λ r e. refl }, refl)
 
 abbrev Renews : Setting → List HomeRow → ServerEnd → Seen → ServerEnd × Turn ServerWhy → List HomeRow → Type 0
 Renews set homes s seen t later = Keeps s t ⊎ Resumes set homes s seen t.0 t.1 later
@@ -157,16 +155,16 @@ does_renews : (found : Option ℕ) (set : Setting) (homes : List HomeRow) (s : S
     → Renews set homes s seen (server_does set homes s (text_in seen.reading) packets r notes) (homes_done homes s (text_in seen.reading) r notes)
 does_renews found set homes s seen packets (row.Ignore cause) notes says f = inl (alike s, refl)
 does_renews found set homes s seen packets (row.Ask kind) notes says f =
-    let k = identified_keeps s (text_in seen.reading) packets says f in inl (record { resumption = k.resumption; identity = k.identity }, refl)
+    let k = identified_keeps s (text_in seen.reading) packets says in inl (record { resumption = sym (none_resumed s says); identity = k.identity }, refl)
 does_renews found set homes s seen packets row.UnknownIdentity notes says f =
-    let k = identified_keeps s (text_in seen.reading) packets says f in inl (record { resumption = k.resumption; identity = k.identity }, refl)
+    let k = identified_keeps s (text_in seen.reading) packets says in inl (record { resumption = k.resumption; identity = k.identity }, refl)
 does_renews found set homes s seen packets (row.Challenge sub) notes says f =
-    inl (challenged_keeps set homes s (identified s (text_in seen.reading) packets) sub false None notes.number (identified_keeps s (text_in seen.reading) packets says.0 f))
+    inl (challenged_keeps set homes s (identified s (text_in seen.reading) packets) sub false None notes.number (identified_keeps s (text_in seen.reading) packets says.0))
 does_renews found set homes s seen packets (row.Resume sub) notes says f =
     resumed_renews set homes s seen packets sub (home_place homes sub) (context_in s.options.method (text_in seen.reading) homes sub) refl refl
 does_renews found set homes s seen packets (row.TooSmall sub) notes says f = inl (challenged_keeps set homes s s sub true None notes.number (alike s))
-does_renews found set homes s seen packets row.Reauthenticated notes says f = inl (renewed_keeps s s.resumed)
-does_renews found set homes s seen packets row.Success notes says f = inl (succeeded_keeps s s.challenged)
+does_renews found set homes s seen packets (row.Reauthenticated sent) notes says f = inl (renewed_keeps s sent)
+does_renews found set homes s seen packets (row.Success sent) notes says f = inl (succeeded_keeps s sent)
 does_renews found set homes s seen packets (row.Resynchronise sub seq) notes says f = inl (resynchronised_keeps set homes s sub notes.resync notes.number)
 does_renews found set homes s seen packets other notes says f = inl (record { resumption = refl; identity = λ sent e. refl }, refl)
 

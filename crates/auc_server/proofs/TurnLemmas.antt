@@ -27,21 +27,19 @@ use Rattle.auc_reauth.specs.declared.context.Context.{Context}
 use Rattle.auc_server.specs.Asked.{asked_after, sub_named, sub_of}
 use Rattle.auc_server.specs.Attributes.{first_of, identity_in, identity_of, text_or_none}
 use Rattle.auc_server.specs.Contexts.{context_in, homes_left}
-use Rattle.auc_server.specs.Laws.{Fits}
 use Rattle.auc_server.specs.Rows.{server_row, subscriber_in, text_in}
-use Rattle.auc_server.specs.Server.{ServerEnd}
+use Rattle.auc_server.specs.Server.{ServerEnd, challenged_of, resumed_of}
 use Rattle.auc_server.specs.Setting.{Setting}
 use Rattle.auc_server.specs.Steps.{AsksAsNeeded, asking, challenges_again}
-use Rattle.auc_server.specs.Table.{challenged, challenged_with, identified, names_given, noted, packets_after, reauthenticated, resumed_with, resynchronised, resynchronising, server_does, server_step, succeeded, vector_at}
+use Rattle.auc_server.specs.Table.{challenged, challenged_with, identified, names_given, noted, packets_after, resumed_with, resynchronised, resynchronising, server_does, server_step, vector_at}
 use Rattle.auc_server.specs.declared.naming.GivenNames.{GivenNames}
 use Rattle.auc_server.specs.declared.reply.Reply.{Reply}
 use Rattle.auc_server.specs.declared.rows.Row.{Row}
 use Rattle.auc_server.specs.declared.rows.Row.TheVariants as row
-use Rattle.auc_server.specs.declared.server.Challenged.{Challenged}
 use Rattle.auc_server.specs.declared.server.Resumed.{Resumed}
 use Rattle.auc_server.specs.declared.setting.HomeRow.{HomeRow}
 use Rattle.auc_server.specs.declared.why.ServerWhy.{ServerWhy}
-use Rattle.auc_server.proofs.LawLemmas.{IsLast, IsResumed, Says, says_row}
+use Rattle.auc_server.proofs.LawLemmas.{IsLast, IsResumed, Says, awaits_challenge, awaits_reauth, none_resumed, says_row}
 
 -- ---- the identity after a turn
 
@@ -65,18 +63,10 @@ resynchronised_keeps set homes s sub (Some (resync.Beyond seen seq)) drawn = ref
 resynchronised_keeps set homes s sub (Some (resync.InRange seen seq)) drawn = challenged_keeps set homes (resynchronising s) sub false (Some (resync.InRange seen seq)) drawn
 resynchronised_keeps set homes s sub (Some (resync.Moved seen seq)) drawn = challenged_keeps set homes (resynchronising s) sub false (Some (resync.Moved seen seq)) drawn
 
-renewed_keeps : (s : ServerEnd) (c : Option Resumed) → (reauthenticated s c).0.identity ≡ s.identity
-renewed_keeps s None = refl
-renewed_keeps s (Some sent) = refl
-
 resumed_identity : (set : Setting) (homes : List HomeRow) (s : ServerEnd) (text : List ℕ) (packets : List (List ℕ)) (sub : ℕ) (c : Option Context)
     → ((resumed_with set homes s text packets sub c).0.identity ≡ s.identity) ⊎ ((resumed_with set homes s text packets sub c).0.identity ≡ text)
 resumed_identity set homes s text packets sub None = inl refl
 resumed_identity set homes s text packets sub (Some c) = inr refl
-
-succeeded_keeps : (s : ServerEnd) (c : Option Challenged) → (succeeded s c).0.identity ≡ s.identity
-succeeded_keeps s None = refl
-succeeded_keeps s (Some sent) = refl
 
 does_identity : (set : Setting) (homes : List HomeRow) (s : ServerEnd) (text : List ℕ) (packets : List (List ℕ)) (r : Row) (notes : Notes)
     → ((server_does set homes s text packets r notes).0.identity ≡ s.identity) ⊎ ((server_does set homes s text packets r notes).0.identity ≡ text)
@@ -86,8 +76,6 @@ does_identity set homes s text packets (row.Challenge sub) notes = inr (challeng
 does_identity set homes s text packets (row.Resume sub) notes =
     resumed_identity set (homes_left s.options.method text homes sub) s text packets sub (context_in s.options.method text homes sub)
 does_identity set homes s text packets (row.TooSmall sub) notes = inl (challenged_keeps set homes s sub true None notes.number)
-does_identity set homes s text packets row.Reauthenticated notes = inl (renewed_keeps s s.resumed)
-does_identity set homes s text packets row.Success notes = inl (succeeded_keeps s s.challenged)
 does_identity set homes s text packets (row.Resynchronise sub seq) notes = inl (resynchronised_keeps set homes s sub notes.resync notes.number)
 does_identity set homes s text packets other notes = inl refl
 
@@ -110,7 +98,7 @@ AsksFor set homes sub t = asked_after set homes t.0 t.1.notes.resync t.1.notes.n
 
 -- an identity by which a subscriber is found, or a re-authentication of it
 abbrev Names : Setting → List HomeRow → ServerEnd → ℕ → Type 0
-Names set homes s sub = sub_named s.resumed (subscriber_in s.options.method set homes s.identity) ≡ Some sub
+Names set homes s sub = sub_named (resumed_of s) (subscriber_in s.options.method set homes s.identity) ≡ Some sub
 
 with_asks : (set : Setting) (homes : List HomeRow) (s : ServerEnd) (sub n : ℕ) (v : Option Vector) (given : Option GivenNames) (drawn : NumberNote) (checked : Bool)
     → Names set homes s sub → (challenged_with set.realm s sub n v given (noted None (Some drawn)) checked).1.notes.number ≡ Some drawn
@@ -131,22 +119,22 @@ named_first : (c : Option Resumed) (found : Option ℕ) (sub : ℕ) → c ≡ No
 named_first c found sub none is = ap (λ (r : Option Resumed). sub_named r found) none ∙ is
 
 -- the subscriber of the re-authentication
-resumed_is : (s : ServerEnd) (found : Option ℕ) (sub : ℕ) → IsResumed s sub → sub_named s.resumed found ≡ Some sub
-resumed_is s found sub last = ap (λ (r : Option Resumed). sub_named r found) last.1 ∙ ap (λ (n : ℕ). Some n) last.2
+resumed_is : (s : ServerEnd) (found : Option ℕ) (sub : ℕ) → IsResumed s sub → sub_named (resumed_of s) found ≡ Some sub
+resumed_is s found sub last = ap (λ (r : Option Resumed). sub_named r found) (awaits_reauth s last.0 last.1) ∙ ap (λ (n : ℕ). Some n) last.2
 
 -- the subscriber that was challenged last
-last_is : (s : ServerEnd) (sub : ℕ) → IsLast s sub → sub_of s.challenged ≡ Some sub
-last_is s sub last = ap sub_of last.1 ∙ ap (λ (n : ℕ). Some n) last.2
+last_is : (s : ServerEnd) (sub : ℕ) → IsLast s sub → sub_of (challenged_of s) ≡ Some sub
+last_is s sub last = ap sub_of (awaits_challenge s last.0 last.1 last.2) ∙ ap (λ (n : ℕ). Some n) last.3
 
 again_with : (set : Setting) (homes : List HomeRow) (s : ServerEnd) (sub n : ℕ) (r : ResyncNote) (v : Option Vector) (given : Option GivenNames) (drawn : NumberNote)
-    → ((t : ServerEnd) (d : Option NumberNote) → asked_after set homes t (Some r) d ≡ sub_of t.challenged)
+    → ((t : ServerEnd) (d : Option NumberNote) → asked_after set homes t (Some r) d ≡ sub_of (challenged_of t))
     → (challenged_with set.realm s sub n v given (noted (Some r) (Some drawn)) false).1.notes.number ≡ Some drawn
     → AsksFor set homes (Some sub) (challenged_with set.realm s sub n v given (noted (Some r) (Some drawn)) false)
 again_with set homes s sub n r None given drawn asks told = absurd cc
 again_with set homes s sub n r (Some v) given drawn asks told = asks (challenged_with set.realm s sub n (Some v) given (noted (Some r) (Some drawn)) false).0 (Some drawn)
 
-again_asks : (set : Setting) (homes : List HomeRow) (s : ServerEnd) (sub : ℕ) (r : ResyncNote) (drawn : Option NumberNote) → sub_of s.challenged ≡ Some sub
-    → ((t : ServerEnd) (d : Option NumberNote) → asked_after set homes t (Some r) d ≡ sub_of t.challenged)
+again_asks : (set : Setting) (homes : List HomeRow) (s : ServerEnd) (sub : ℕ) (r : ResyncNote) (drawn : Option NumberNote) → sub_of (challenged_of s) ≡ Some sub
+    → ((t : ServerEnd) (d : Option NumberNote) → asked_after set homes t (Some r) d ≡ sub_of (challenged_of t))
     → is_some drawn ≡ true → (challenged set homes s sub false (Some r) drawn).1.notes.number ≡ drawn → AsksFor set homes (Some sub) (challenged set homes s sub false (Some r) drawn)
 again_asks set homes s sub r None last asks there told = absurd cc
 again_asks set homes s sub r (Some (number.Drew n)) last asks there told =
@@ -155,7 +143,7 @@ again_asks set homes s sub r (Some (number.Exhausted w)) last asks there told = 
 again_asks set homes s sub r (Some (number.Withheld n stop)) last asks there told = asks s (Some (number.Withheld n stop)) ∙ last
 
 resynchronised_asks : (set : Setting) (homes : List HomeRow) (s : ServerEnd) (sub seq : ℕ) (k : Option ℕ) (r : Option ResyncNote) (drawn : Option NumberNote)
-    → sub_of s.challenged ≡ Some sub → AnswersReport k (Some seq) r → is_some drawn ≡ challenges_again r
+    → sub_of (challenged_of s) ≡ Some sub → AnswersReport k (Some seq) r → is_some drawn ≡ challenges_again r
     → (resynchronised set homes s sub r drawn).1.notes.number ≡ drawn → AsksFor set homes (Some sub) (resynchronised set homes s sub r drawn)
 resynchronised_asks set homes s sub seq k None drawn last answer need told = absurd answer
 resynchronised_asks set homes s sub seq k (Some resync.BadAuts) drawn last answer need told = absurd answer
@@ -165,18 +153,10 @@ resynchronised_asks set homes s sub seq k (Some (resync.InRange at' to)) drawn l
 resynchronised_asks set homes s sub seq k (Some (resync.Moved at' to)) drawn last answer need told =
     again_asks set homes (resynchronising s) sub (resync.Moved at' to) drawn last (λ t d. refl) need told
 
-renewed_asks : (set : Setting) (homes : List HomeRow) (s : ServerEnd) (c : Option Resumed) → AsksFor set homes None (reauthenticated s c)
-renewed_asks set homes s None = refl
-renewed_asks set homes s (Some sent) = refl
-
 resumed_asks : (set : Setting) (homes left : List HomeRow) (s : ServerEnd) (text : List ℕ) (packets : List (List ℕ)) (sub : ℕ) (c : Option Context)
     → AsksFor set homes None (resumed_with set left s text packets sub c)
 resumed_asks set homes left s text packets sub None = refl
 resumed_asks set homes left s text packets sub (Some c) = refl
-
-succeeded_asks : (set : Setting) (homes : List HomeRow) (s : ServerEnd) (c : Option Challenged) → AsksFor set homes None (succeeded s c)
-succeeded_asks set homes s None = refl
-succeeded_asks set homes s (Some sent) = refl
 
 -- a SEQ that a row reports was answered
 abbrev pub IsReported : Option Asking → Notes → Type 0
@@ -184,29 +164,27 @@ IsReported None notes = Unit {0}
 IsReported (Some request) notes = (kept : Option ℕ) × AnswersReport kept request.reported notes.resync
 
 does_asks : (set : Setting) (homes : List HomeRow) (s : ServerEnd) (seen : Seen) (text : List ℕ) (packets : List (List ℕ)) (r : Row) (notes : Notes) → Says (subscriber_in s.options.method set homes text) s seen r
-    → Fits s → AsksAsNeeded r notes → IsReported (asking r) notes → (server_does set homes s text packets r notes).1.notes ≡ notes
+    → AsksAsNeeded r notes → IsReported (asking r) notes → (server_does set homes s text packets r notes).1.notes ≡ notes
     → AsksFor set homes (sub_asked (asking r)) (server_does set homes s text packets r notes)
-does_asks set homes s seen text packets (row.Challenge sub) notes says f need report told =
+does_asks set homes s seen text packets (row.Challenge sub) notes says need report told =
     first_asks set homes (identified s text packets) sub false notes.number
-    (named_first s.resumed (subscriber_in s.options.method set homes text) sub (f.before says.0) says.1) need (ap (λ (n : Notes). n.number) told)
-does_asks set homes s seen text packets (row.Resume sub) notes says f need report told =
+    (named_first (resumed_of s) (subscriber_in s.options.method set homes text) sub (none_resumed s says.0) says.1) need (ap (λ (n : Notes). n.number) told)
+does_asks set homes s seen text packets (row.Resume sub) notes says need report told =
     resumed_asks set homes (homes_left s.options.method text homes sub) s text packets sub (context_in s.options.method text homes sub)
-does_asks set homes s seen text packets (row.TooSmall sub) notes says f need report told =
+does_asks set homes s seen text packets (row.TooSmall sub) notes says need report told =
     first_asks set homes s sub true notes.number (resumed_is s (subscriber_in s.options.method set homes s.identity) sub says) need (ap (λ (n : Notes). n.number) told)
-does_asks set homes s seen text packets row.Reauthenticated notes says f need report told = renewed_asks set homes s s.resumed
-does_asks set homes s seen text packets row.Success notes says f need report told = succeeded_asks set homes s s.challenged
-does_asks set homes s seen text packets (row.Resynchronise sub seq) notes says f need report told =
+does_asks set homes s seen text packets (row.Resynchronise sub seq) notes says need report told =
     resynchronised_asks set homes s sub seq report.0 notes.resync notes.number (last_is s sub says) report.1 need (ap (λ (n : Notes). n.number) told)
-does_asks set homes s seen text packets other notes says f need report told = refl
+does_asks set homes s seen text packets other notes says need report told = refl
 
 -- the server and its notes tell it
-pub asked_is : (set : Setting) (homes : List HomeRow) (s : ServerEnd) (seen : Seen) (said : Reply) (notes : Notes) → Fits s
+pub asked_is : (set : Setting) (homes : List HomeRow) (s : ServerEnd) (seen : Seen) (said : Reply) (notes : Notes)
     → AsksAsNeeded (server_row set homes s seen said) notes → IsReported (asking (server_row set homes s seen said)) notes → (server_step set homes s seen said notes).1.notes ≡ notes
     → asked_after set homes (server_step set homes s seen said notes).0 notes.resync notes.number ≡ sub_asked (asking (server_row set homes s seen said))
-asked_is set homes s seen said notes f need report told =
+asked_is set homes s seen said notes need report told =
     ap (λ (n : Notes). asked_after set homes (server_step set homes s seen said notes).0 n.resync n.number) (sym told)
     ∙ does_asks set homes s seen (text_in seen.reading) (packets_after s seen (server_row set homes s seen said)) (server_row set homes s seen said) notes
-    (says_row set homes s seen said) f need report told
+    (says_row set homes s seen said) need report told
 
 -- ---- the text that was received
 

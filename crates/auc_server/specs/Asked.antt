@@ -4,7 +4,7 @@ use Rattle.auc_vector.specs.declared.notes.NumberNote.{NumberNote}
 use Rattle.auc_vector.specs.declared.notes.ResyncNote.{ResyncNote}
 use Rattle.auc_vector.specs.declared.notes.ResyncNote.TheVariants as resync
 use Rattle.auc_server.specs.Rows.{subscriber_in}
-use Rattle.auc_server.specs.Server.{ServerEnd}
+use Rattle.auc_server.specs.Server.{ServerEnd, challenged_of, resumed_of}
 use Rattle.auc_server.specs.Setting.{Setting}
 use Rattle.auc_server.specs.declared.server.Challenged.{Challenged}
 use Rattle.auc_server.specs.declared.server.Resumed.{Resumed}
@@ -24,8 +24,8 @@ sub_named (Some r) found = Some r.sub
 -- resynchronisation for the one that was challenged
 abbrev pub asked_after : Setting → List HomeRow → ServerEnd → Option ResyncNote → Option NumberNote → Option ℕ
 asked_after set homes s None None = None
-asked_after set homes s None (Some drawn) = sub_named s.resumed (subscriber_in s.options.method set homes s.identity)
+asked_after set homes s None (Some drawn) = sub_named (resumed_of s) (subscriber_in s.options.method set homes s.identity)
 asked_after set homes s (Some resync.BadAuts) drawn = None
-asked_after set homes s (Some (resync.Moved seen seq)) drawn = sub_of s.challenged
-asked_after set homes s (Some (resync.InRange seen seq)) drawn = sub_of s.challenged
-asked_after set homes s (Some (resync.Beyond seen seq)) drawn = sub_of s.challenged
+asked_after set homes s (Some (resync.Moved seen seq)) drawn = sub_of (challenged_of s)
+asked_after set homes s (Some (resync.InRange seen seq)) drawn = sub_of (challenged_of s)
+asked_after set homes s (Some (resync.Beyond seen seq)) drawn = sub_of (challenged_of s)

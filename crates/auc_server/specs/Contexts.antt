@@ -76,15 +76,13 @@ gives_next options c = options.reauth && not (c.counter == 65535)
 
 -- ---- the homes after a turn
 
--- after the last challenge succeeded
-abbrev pub homes_won : Method → List HomeRow → Option Challenged → List HomeRow
-homes_won by homes None = homes
-homes_won by homes (Some sent) = homes_kept by homes sent.sub (won_context sent)
+-- after a challenge succeeded
+abbrev pub homes_won : Method → List HomeRow → Challenged → List HomeRow
+homes_won by homes sent = homes_kept by homes sent.sub (won_context sent)
 
--- after the re-authentication succeeded
-abbrev pub homes_rewon : Method → List HomeRow → Option Resumed → List HomeRow
-homes_rewon by homes None = homes
-homes_rewon by homes (Some r) = homes_kept by homes r.sub (context_after r)
+-- after a re-authentication succeeded
+abbrev pub homes_rewon : Method → List HomeRow → Resumed → List HomeRow
+homes_rewon by homes r = homes_kept by homes r.sub (context_after r)
 
 -- after a subscriber's context was taken out
 abbrev pub homes_taken : Method → List ℕ → List HomeRow → ℕ → Option Context → List HomeRow

@@ -5,6 +5,7 @@ use Rattle.auc_vector.specs.declared.notes.Notes.{Notes}
 use Rattle.auc_vector.specs.declared.turn.Reason.{Reason}
 use Rattle.auc_vector.specs.declared.turn.Step.TheVariants as step
 use Rattle.auc_vector.specs.declared.turn.Turn.{Turn}
+use Rattle.auc_request.specs.declared.identities.IdentityRequest.TheVariants as asks
 use Rattle.auc_server.specs.Server.{ServerEnd, started}
 use Rattle.auc_server.specs.Setting.{Setting}
 use Rattle.auc_server.specs.Table.{server_step}
@@ -15,19 +16,23 @@ use Rattle.auc_server.specs.declared.server.ServerState.TheVariants as state
 use Rattle.auc_server.specs.declared.setting.HomeRow.{HomeRow}
 use Rattle.auc_server.specs.declared.why.ServerWhy.{ServerWhy}
 
+-- how many packets may follow a challenge: a synchronisation failure leads to one more
+abbrev pub left_challenged : Bool → ℕ
+left_challenged false = 3
+left_challenged true = 2
+
 -- how many packets may follow in a state, by whether a synchronisation failure led to a new challenge: the packet that ends the
 -- session, a notification before it, the challenge after a synchronisation failure, the first challenge, a re-authentication, and the
 -- three requests for an identity (RFC 4187 §4.1.4, §5, §6 and TS 33.102 §6.3.5)
 abbrev pub packets_left_in : ServerState → Bool → ℕ
 packets_left_in state.AwaitIdentity synced = 7
-packets_left_in state.AwaitAny synced = 6
-packets_left_in state.AwaitFull synced = 5
-packets_left_in state.AwaitPermanent synced = 4
-packets_left_in state.AwaitReauth synced = 4
-packets_left_in state.AwaitChallenge false = 3
-packets_left_in state.AwaitChallenge true = 2
-packets_left_in (state.Notifying cause) synced = 1
-packets_left_in (state.Ended result) synced = 0
+packets_left_in (state.Await asks.Any) synced = 6
+packets_left_in (state.Await asks.Fullauth) synced = 5
+packets_left_in (state.Await asks.Permanent) synced = 4
+packets_left_in (state.AwaitReauth sent) synced = 4
+packets_left_in (state.AwaitChallenge sent before) synced = left_challenged synced
+packets_left_in (state.Notifying cause last) synced = 1
+packets_left_in (state.Ended result last) synced = 0
 
 -- how many packets a server sends at most in the turns that follow; a repetition isn't counted again
 abbrev pub packets_left : ServerEnd → ℕ

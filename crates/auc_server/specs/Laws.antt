@@ -16,12 +16,13 @@ use Rattle.auc_vector.specs.declared.turn.Turn.{Turn}
 use Rattle.auc_server.specs.Contexts.{homes_left}
 use Rattle.auc_server.specs.Ordinals.{home_at, home_place}
 use Rattle.auc_server.specs.Rows.{server_row, text_in}
-use Rattle.auc_server.specs.Server.{ServerEnd}
+use Rattle.auc_server.specs.Server.{ServerEnd, challenged_of, resumed_of}
 use Rattle.auc_server.specs.Setting.{Setting}
 use Rattle.auc_server.specs.Steps.{asking}
 use Rattle.auc_server.specs.Table.{challenge_of, gave_up, homes_after, resumed_keys, resumption, server_step, vector_at}
 use Rattle.auc_server.specs.declared.reply.Reply.{Reply}
 use Rattle.auc_server.specs.declared.server.Challenged.{Challenged}
+use Rattle.auc_server.specs.declared.server.Last.{Last}
 use Rattle.auc_server.specs.declared.server.Resumed.{Resumed}
 use Rattle.auc_server.specs.declared.server.ServerState.{ServerState}
 use Rattle.auc_server.specs.declared.server.ServerState.TheVariants as state
@@ -31,14 +32,14 @@ use Rattle.auc_server.specs.declared.why.ServerWhy.{ServerWhy}
 -- keys of the last challenge, under which received bytes have a right AT_MAC
 pub record AreProved (s : ServerEnd) (seen : Seen) (keys : KeySet) : Type 0 where
   pub sent : Challenged
-  pub last : s.challenged ≡ Some sent
+  pub last : challenged_of s ≡ Some sent
   pub keys_are : keys ≡ sent.keys
   pub right : is_sealed s.options.method keys.k_aut [] seen ≡ true
 
 -- keys of the re-authentication, under which received bytes and NONCE_S have a right AT_MAC
 pub record AreRenewed (s : ServerEnd) (seen : Seen) (keys : KeySet) : Type 0 where
   pub sent : Resumed
-  pub last : s.resumed ≡ Some sent
+  pub last : resumed_of s ≡ Some sent
   pub keys_are : keys ≡ resumed_keys s sent
   pub right : is_sealed s.options.method keys.k_aut sent.nonce seen ≡ true
 
@@ -54,25 +55,20 @@ Has challenged keys = (sent : Challenged) × (challenged ≡ Some sent) × (keys
 
 -- the re-authentication has these keys
 abbrev pub HasRenewed : ServerEnd → KeySet → Type 0
-HasRenewed s keys = (sent : Resumed) × (s.resumed ≡ Some sent) × (keys ≡ resumed_keys s sent)
+HasRenewed s keys = (sent : Resumed) × (resumed_of s ≡ Some sent) × (keys ≡ resumed_keys s sent)
 
 -- whether an identity is awaited
 abbrev pub awaits_identity : ServerState → Bool
 awaits_identity state.AwaitIdentity = true
-awaits_identity state.AwaitAny = true
-awaits_identity state.AwaitFull = true
-awaits_identity state.AwaitPermanent = true
+awaits_identity (state.Await kind) = true
 awaits_identity other = false
 
 -- the keys of the last challenge, and the master key for later re-authentications, are those of its vector under the identity
--- that was received last; there is neither a challenge nor a re-authentication while an identity is awaited; the keys of Success
--- are those of the last challenge or of the re-authentication
+-- that was received last; the keys of Success are those of the last challenge or of the re-authentication
 pub record Fits (s : ServerEnd) : Type 0 where
-  pub first : awaits_identity s.state ≡ true → s.challenged ≡ None
-  pub before : awaits_identity s.state ≡ true → s.resumed ≡ None
-  pub keys : (sent : Challenged) → s.challenged ≡ Some sent → sent.keys ≡ keys_of s.options.method s.identity sent.vector.ik sent.vector.ck
-  pub master : (sent : Challenged) → s.challenged ≡ Some sent → sent.master ≡ master_of s.options.method s.identity sent.vector.ik sent.vector.ck
-  pub success : (keys : KeySet) → s.state ≡ state.Ended (outcome.Success keys) → Has s.challenged keys ⊎ HasRenewed s keys
+  pub keys : (sent : Challenged) → challenged_of s ≡ Some sent → sent.keys ≡ keys_of s.options.method s.identity sent.vector.ik sent.vector.ck
+  pub master : (sent : Challenged) → challenged_of s ≡ Some sent → sent.master ≡ master_of s.options.method s.identity sent.vector.ik sent.vector.ck
+  pub success : (keys : KeySet) (last : Last) → s.state ≡ state.Ended (outcome.Success keys) last → Has (challenged_of s) keys ⊎ HasRenewed s keys
 
 -- no turn makes the keys others than those of their inputs
 abbrev pub EachTurnFits : Type 0
@@ -83,8 +79,8 @@ EachTurnFits = (set : Setting) (homes : List HomeRow) (s : ServerEnd) (seen : Se
 
 -- it stays, and so does the identity that its keys are made from
 pub record KeepsChallenge (s new : ServerEnd) : Type 0 where
-  pub challenge : new.challenged ≡ s.challenged
-  pub identity : (sent : Challenged) → s.challenged ≡ Some sent → new.identity ≡ s.identity
+  pub challenge : challenged_of new ≡ challenged_of s
+  pub identity : (sent : Challenged) → challenged_of s ≡ Some sent → new.identity ≡ s.identity
 
 -- a challenge is sent: the vector of a number that the centre gave for the subscriber that the turn asked it for
 pub record SendsChallenge (set : Setting) (asked : Option Asking) (new : ServerEnd) (turn : Turn ServerWhy) : Type 0 where
@@ -95,7 +91,7 @@ pub record SendsChallenge (set : Setting) (asked : Option Asking) (new : ServerE
   pub vector : Vector
   pub of_number : vector_at set new.options request.sub n ≡ Some vector
   pub next : Option (List ℕ)
-  pub challenge : new.challenged ≡ Some (challenge_of new request.sub n vector next)
+  pub challenge : challenged_of new ≡ Some (challenge_of new request.sub n vector next)
   pub sent : turn.step ≡ step.Sent new.last
 
 -- a turn keeps the last challenge, or sends a new one
@@ -108,8 +104,8 @@ EachTurnKeepsOrChallenges = (set : Setting) (homes : List HomeRow) (s : ServerEn
 
 -- it stays, and so does the identity that its keys are made from
 pub record KeepsResumption (s new : ServerEnd) : Type 0 where
-  pub resumption : new.resumed ≡ s.resumed
-  pub identity : (sent : Resumed) → s.resumed ≡ Some sent → new.identity ≡ s.identity
+  pub resumption : resumed_of new ≡ resumed_of s
+  pub identity : (sent : Resumed) → resumed_of s ≡ Some sent → new.identity ≡ s.identity
 
 -- the context that the received identity names is taken up again: its counter is noted, and it leaves its home
 pub record Resumes (set : Setting) (homes : List HomeRow) (s : ServerEnd) (seen : Seen) (new : ServerEnd) (turn : Turn ServerWhy) (later : List HomeRow) : Type 0 where
@@ -118,7 +114,7 @@ pub record Resumes (set : Setting) (homes : List HomeRow) (s : ServerEnd) (seen 
   pub place : ℕ
   pub home : home_place homes sub ≡ Some place
   pub named : entry_named s.options.method (text_in seen.reading) (home_at homes place).store ≡ Some context
-  pub resumption_is : new.resumed ≡ Some (resumption set (homes_left s.options.method (text_in seen.reading) homes sub) s sub context)
+  pub resumption_is : resumed_of new ≡ Some (resumption set (homes_left s.options.method (text_in seen.reading) homes sub) s sub context)
   pub noted : turn.notes.resumed ≡ Some context.counter
   pub sent : turn.step ≡ step.Sent new.last
   pub gone : entry s.options.method (home_at later place).store ≡ None

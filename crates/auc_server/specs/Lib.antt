@@ -17,5 +17,6 @@ pub mod Rounds
 pub mod Rows
 pub mod Server
 pub mod Setting
+pub mod State
 pub mod Steps
 pub mod Table

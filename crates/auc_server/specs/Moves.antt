@@ -15,8 +15,6 @@ use Rattle.auc_server.specs.Server.{ServerEnd}
 use Rattle.auc_server.specs.Setting.{Setting}
 use Rattle.auc_server.specs.Table.{homes_after, server_step}
 use Rattle.auc_server.specs.declared.reply.Reply.{Reply}
-use Rattle.auc_server.specs.declared.server.Challenged.{Challenged}
-use Rattle.auc_server.specs.declared.server.Resumed.{Resumed}
 use Rattle.auc_server.specs.declared.server.ServerState.{ServerState}
 use Rattle.auc_server.specs.declared.server.ServerState.TheVariants as state
 use Rattle.auc_server.specs.declared.setting.HomeRow.{HomeRow}
@@ -28,19 +26,11 @@ abbrev pub of_sub : ℕ → Option Context → Option (ℕ × Context)
 of_sub sub None = None
 of_sub sub (Some c) = Some (sub, c)
 
-abbrev pub left_first : Option Challenged → Option (ℕ × Context)
-left_first None = None
-left_first (Some sent) = of_sub sent.sub (won_context sent)
-
-abbrev pub left_later : Option Resumed → Option (ℕ × Context)
-left_later None = None
-left_later (Some sent) = of_sub sent.sub (context_after sent)
-
 -- the context that a session leaves if it succeeds now
-abbrev pub waiting : ServerEnd → ServerState → Option (ℕ × Context)
-waiting s state.AwaitChallenge = left_first s.challenged
-waiting s state.AwaitReauth = left_later s.resumed
-waiting s other = None
+abbrev pub waiting : ServerState → Option (ℕ × Context)
+waiting (state.AwaitChallenge sent before) = of_sub sent.sub (won_context sent)
+waiting (state.AwaitReauth sent) = of_sub sent.sub (context_after sent)
+waiting other = None
 
 abbrev pub is_at : ℕ → Option ℕ → Bool
 is_at place None = false
@@ -56,7 +46,7 @@ waiting_at place homes (Some c) = if is_at place (home_place homes c.0) then Som
 -- the places of a home: the store has the context of the session's method, and session t has what it would leave
 pub record Stands (t place : ℕ) (homes : List HomeRow) (s : ServerEnd) (w : Home) : Type 0 where
   pub store : w.place zero ≡ entry s.options.method (home_at homes place).store
-  pub session : w.place (suc t) ≡ waiting_at place homes (waiting s s.state)
+  pub session : w.place (suc t) ≡ waiting_at place homes (waiting s.state)
 
 -- an identity that a turn gives: the name of an ordinal above the home's last one before the turn, and at most the last one
 -- after it

@@ -11,6 +11,8 @@ use Rattle.auc_seal.specs.declared.refusal.SealRefusal.{SealRefusal}
 use Rattle.auc_server.specs.declared.reply.Reply.{Reply}
 use Rattle.auc_server.specs.declared.reply.Reply.TheVariants as reply
 use Rattle.auc_server.specs.declared.server.Resumed.{Resumed}
+use Rattle.auc_server.specs.declared.server.ServerState.{ServerState}
+use Rattle.auc_server.specs.declared.server.ServerState.TheVariants as state
 
 abbrev pub small_or_right : Option (List ℕ) → Reply
 small_or_right None = reply.Right
@@ -44,7 +46,7 @@ abbrev pub IsReplyIn : Resumed → Reading → Reply → Type 0
 IsReplyIn sent (reading.Read (packet.Aka request id m kind list)) r = IsReply sent.context.k_encr sent.context.counter list r
 IsReplyIn sent other r = r ≡ reply.Wrong
 
--- without a re-authentication nothing is decrypted
-abbrev pub Replies : Option Resumed → Reading → Reply → Type 0
-Replies None received r = r ≡ reply.Wrong
-Replies (Some sent) received r = IsReplyIn sent received r
+-- while no answer to a re-authentication is awaited, nothing is decrypted
+abbrev pub Replies : ServerState → Reading → Reply → Type 0
+Replies (state.AwaitReauth sent) received r = IsReplyIn sent received r
+Replies other received r = r ≡ reply.Wrong

@@ -32,6 +32,7 @@ use Rattle.auc_server.specs.Contexts.{context_in}
 use Rattle.auc_server.specs.Rounds.{checkcode}
 use Rattle.auc_server.specs.Server.{ServerEnd}
 use Rattle.auc_server.specs.Setting.{Setting}
+use Rattle.auc_request.specs.declared.identities.IdentityRequest.{IdentityRequest}
 use Rattle.auc_request.specs.declared.identities.IdentityRequest.TheVariants as asks
 use Rattle.auc_server.specs.declared.options.ServerOptions.{ServerOptions}
 use Rattle.auc_server.specs.declared.reply.Reply.{Reply}
@@ -117,6 +118,12 @@ on_full by set homes text = challenge_or (row.Ask asks.Permanent) (subscriber_in
 abbrev pub on_permanent : Method → Setting → List HomeRow → List ℕ → Row
 on_permanent by set homes text = challenge_or row.UnknownIdentity (permanent_subscriber by set homes text)
 
+-- an identity, by what was asked for
+abbrev pub on_requested : IdentityRequest → Method → Setting → List HomeRow → List ℕ → Row
+on_requested asks.Any = on_any
+on_requested asks.Fullauth = on_full
+on_requested asks.Permanent = on_permanent
+
 -- the identity of EAP's own Identity round: with the option, another is asked for at once, whatever it is
 abbrev pub on_first : ServerOptions → Setting → List HomeRow → List ℕ → Row
 on_first options set homes text = if options.any then row.Ask asks.Any else on_any options.method set homes text
@@ -146,7 +153,7 @@ on_response by packets sent seen list =
     else if not (is_sealed by sent.keys.k_aut [] seen) then row.WrongMac
     else if not (is_expected sent.vector.xres (first_of res_of list)) then row.WrongRes
     else if differs (checkcode by packets) (first_of checkcode_of list) then row.WrongCheckcode
-    else row.Success
+    else row.Success sent
 
 -- ---- the response to a re-authentication
 
@@ -168,7 +175,7 @@ on_reauth by packets sent seen said list =
     else if is_wrong said then row.WrongCounter
     else if says_small said then row.TooSmall sent.sub
     else if differs (checkcode by packets) (first_of checkcode_of list) then row.WrongCheckcode
-    else row.Reauthenticated
+    else row.Reauthenticated sent
 
 -- ---- a synchronisation failure
 
@@ -210,20 +217,10 @@ on_challenged set s sent seen subtype.AuthenticationReject list = row.Rejected
 on_challenged set s sent seen subtype.ClientError list = on_client_error list
 on_challenged set s sent seen other list = row.Ignore reason.Unexpected
 
--- a server that awaits the answer to a challenge has sent one
-abbrev pub if_challenged : Setting → ServerEnd → Option Challenged → Seen → Subtype → List Attr → Row
-if_challenged set s None seen kind list = row.Ignore reason.Unexpected
-if_challenged set s (Some sent) seen kind list = on_challenged set s sent seen kind list
-
 abbrev pub on_resumed : ServerEnd → Resumed → Seen → Reply → Subtype → List Attr → Row
 on_resumed s sent seen said subtype.Reauthentication list = on_reauth s.options.method s.packets sent seen said list
 on_resumed s sent seen said subtype.ClientError list = on_client_error list
 on_resumed s sent seen said other list = row.Ignore reason.Unexpected
-
--- a server that awaits the answer to a re-authentication has sent one
-abbrev pub if_resumed : ServerEnd → Option Resumed → Seen → Reply → Subtype → List Attr → Row
-if_resumed s None seen said kind list = row.Ignore reason.Unexpected
-if_resumed s (Some sent) seen said kind list = on_resumed s sent seen said kind list
 
 -- an AKA-Identity response, for which a row is taken, or an error of the peer
 abbrev pub on_identity : Row → Subtype → List Attr → Row
@@ -232,12 +229,10 @@ on_identity answered subtype.ClientError list = on_client_error list
 on_identity answered other list = row.Ignore reason.Unexpected
 
 abbrev pub on_message : Setting → List HomeRow → ServerEnd → ServerState → Seen → Reply → Subtype → List Attr → Row
-on_message set homes s state.AwaitAny seen said kind list = on_identity (on_any s.options.method set homes (identity_in list)) kind list
-on_message set homes s state.AwaitFull seen said kind list = on_identity (on_full s.options.method set homes (identity_in list)) kind list
-on_message set homes s state.AwaitPermanent seen said kind list = on_identity (on_permanent s.options.method set homes (identity_in list)) kind list
-on_message set homes s state.AwaitChallenge seen said kind list = if_challenged set s s.challenged seen kind list
-on_message set homes s state.AwaitReauth seen said kind list = if_resumed s s.resumed seen said kind list
-on_message set homes s (state.Notifying why) seen said subtype.Notification list = row.Notified why
+on_message set homes s (state.Await asked) seen said kind list = on_identity (on_requested asked s.options.method set homes (identity_in list)) kind list
+on_message set homes s (state.AwaitChallenge sent before) seen said kind list = on_challenged set s sent seen kind list
+on_message set homes s (state.AwaitReauth sent) seen said kind list = on_resumed s sent seen said kind list
+on_message set homes s (state.Notifying why last) seen said subtype.Notification list = row.Notified why
 on_message set homes s other seen said kind list = row.Ignore reason.Unexpected
 
 -- ---- the tests for every state
@@ -270,7 +265,7 @@ on_head set homes s seen said (Some head) =
     else on_reading set homes s s.state seen said seen.reading
 
 abbrev pub in_state : Setting → List HomeRow → ServerEnd → Seen → Reply → ServerState → Row
-in_state set homes s seen said (state.Ended outcome) = row.Ignore reason.Closed
+in_state set homes s seen said (state.Ended outcome last) = row.Ignore reason.Closed
 in_state set homes s seen said other = on_head set homes s seen said (head_at seen.bytes)
 
 abbrev pub server_row : Setting → List HomeRow → ServerEnd → Seen → Reply → Row

@@ -15,7 +15,7 @@ use Rattle.auc_vector.specs.declared.turn.Step.TheVariants as step
 use Rattle.auc_vector.specs.declared.turn.Turn.{Turn}
 use Rattle.auc_server.specs.Replies.{Replies}
 use Rattle.auc_server.specs.Rows.{is_held, server_row}
-use Rattle.auc_server.specs.Server.{ServerEnd}
+use Rattle.auc_server.specs.Server.{ServerEnd, challenged_of, resumed_of}
 use Rattle.auc_server.specs.Setting.{Setting}
 use Rattle.auc_server.specs.Table.{homes_after, server_step}
 use Rattle.auc_server.specs.declared.rows.Row.{Row}
@@ -45,8 +45,14 @@ IsHeldToo homes (Some r) = is_held homes r.sub ≡ true
 -- what a server needs of what it is served with
 pub record IsServed (all : List rows.Row) (subs : ℕ) (top : ℕ → ℕ) (homes : List HomeRow) (s : ServerEnd) : Type 0 where
   pub each : All (λ home. IsHome all subs top home.sub) homes
-  pub held : IsHeld homes s.challenged
-  pub resumed : IsHeldToo homes s.resumed
+  pub held : IsHeld homes (challenged_of s)
+  pub resumed : IsHeldToo homes (resumed_of s)
+
+-- a centre that was only asked: its subscribers, their greatest numbers and the borrow that it holds stay
+pub record OnlyAsks {S : Type 0} (subs : S → ℕ) (top : S → ℕ → ℕ) (name : S → ℕ) (old new : S) : Type 0 where
+  pub subs_stay : subs new ≡ subs old
+  pub tops_stay : (i : ℕ) → top new i ≡ top old i
+  pub name_stays : name new ≡ name old
 
 -- what a row asks the centre for
 abbrev pub asking : Row → Option Asking
@@ -87,7 +93,7 @@ pub record Steps {S : Type 0} (goes : S → ℕ → List Entry → List (ℕ × 
   pub received : IsReceived seen
   pub of : seen.bytes ≡ bytes
   pub reply : Reply
-  pub replies : Replies old.resumed seen.reading reply
+  pub replies : Replies old.state seen.reading reply
   pub same : (new, turn) ≡ server_step set homes old seen reply turn.notes
   pub homes_are : later ≡ homes_after set homes old seen reply turn.notes
   pub asked : Asked goes kept top (asking (server_row set homes old seen reply)) turn.notes before after

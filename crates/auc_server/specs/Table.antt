@@ -31,10 +31,10 @@ use Rattle.auc_server.specs.Ordinals.{homes_given, ordinal_given}
 use Rattle.auc_seal.specs.Checkcode.{counted}
 use Rattle.auc_server.specs.Rounds.{checkcode, heard}
 use Rattle.auc_server.specs.Rows.{server_row, text_in}
-use Rattle.auc_server.specs.Server.{ServerEnd}
+use Rattle.auc_server.specs.Server.{ServerEnd, resumed_of}
+use Rattle.auc_server.specs.State.{last_of}
 use Rattle.auc_server.specs.Setting.{Setting}
 use Rattle.auc_request.specs.declared.identities.IdentityRequest.{IdentityRequest}
-use Rattle.auc_request.specs.declared.identities.IdentityRequest.TheVariants as asks
 use Rattle.auc_server.specs.declared.naming.GivenNames.{GivenNames}
 use Rattle.auc_server.specs.declared.naming.NewNames.{NewNames}
 use Rattle.auc_server.specs.declared.naming.NewNames.TheVariants as names
@@ -81,12 +81,13 @@ requested s next bytes notes checked = (
 
 -- Notification of a failure, whose cause is kept until the peer has answered (RFC 4187 §6.3)
 abbrev pub notified : ServerEnd → ServerWhy → Notes → Bool → ServerEnd × Turn ServerWhy
-notified s cause notes checked = requested s (state.Notifying cause) (packet_text (notification s.options.method (next_id s.id))) notes checked
+notified s cause notes checked =
+    requested s (state.Notifying cause (last_of s.state)) (packet_text (notification s.options.method (next_id s.id))) notes checked
 
 -- the session ends, with the packet that is sent
 abbrev pub ended : ServerEnd → Outcome ServerWhy → List ℕ → Bool → ServerEnd × Turn ServerWhy
 ended s result bytes checked = (
-  record s { state = state.Ended result },
+  record s { state = state.Ended result (last_of s.state) },
   record { notes = silent; step = step.Ended result bytes; checked = checked },
 )
 
@@ -169,7 +170,7 @@ names_given set homes s sub = under (random_at set s s.next_iv) (both_of (pseudo
 
 abbrev pub sent_with : List ℕ → ServerEnd → Challenged → Option GivenNames → Notes → Bool → ServerEnd × Turn ServerWhy
 sent_with realm s sent given notes checked =
-    requested (record s { challenged = Some sent; next_iv = iv_after s.next_iv given }) state.AwaitChallenge
+    requested (record s { next_iv = iv_after s.next_iv given }) (state.AwaitChallenge sent (resumed_of s))
     (challenge_bytes s.options realm (next_id s.id) sent.vector sent.keys given (checkcode s.options.method s.packets)) notes checked
 
 abbrev pub challenged_with : List ℕ → ServerEnd → ℕ → ℕ → Option Vector → Option GivenNames → Notes → Bool → ServerEnd × Turn ServerWhy
@@ -209,7 +210,7 @@ resumption set homes s sub c = record {
 -- the request is sent; its initialisation vector comes before its NONCE_S among the random bytes
 abbrev pub resent : Setting → ServerEnd → Resumed → ServerEnd × Turn ServerWhy
 resent set s r =
-    requested (record s { resumed = Some r; next_iv = index_after (index_after s.next_iv) }) state.AwaitReauth
+    requested (record s { next_iv = index_after (index_after s.next_iv) }) (state.AwaitReauth r)
     (reauth_bytes s.options.method set.realm (next_id s.id) (random_at set s s.next_iv) r (checkcode s.options.method s.packets))
     (resuming r.context.counter) false
 
@@ -226,19 +227,13 @@ identified s text packets = record s { identity = text; packets = packets }
 abbrev pub unknown : ServerEnd → List ℕ → List (List ℕ) → ServerEnd × Turn ServerWhy
 unknown s text packets = notified (identified s text packets) why.UnknownIdentity silent false
 
--- what is awaited after an identity was asked for
-abbrev pub awaiting : IdentityRequest → ServerState
-awaiting asks.Any = state.AwaitAny
-awaiting asks.Fullauth = state.AwaitFull
-awaiting asks.Permanent = state.AwaitPermanent
-
 -- the AKA-Identity request that a server sends next
 abbrev pub identity_asked : ServerEnd → IdentityRequest → List ℕ
 identity_asked s kind = packet_text (aka_identity s.options.method (next_id s.id) kind)
 
 -- another identity is asked for (RFC 4187 §4.1.4)
 abbrev pub asked : ServerEnd → List ℕ → List (List ℕ) → IdentityRequest → ServerEnd × Turn ServerWhy
-asked s text packets kind = requested (identified s text packets) (awaiting kind) (identity_asked s kind) silent false
+asked s text packets kind = requested (identified s text packets) (state.Await kind) (identity_asked s kind) silent false
 
 abbrev pub first_challenge : Setting → List HomeRow → ServerEnd → List ℕ → List (List ℕ) → ℕ → Option NumberNote → ServerEnd × Turn ServerWhy
 first_challenge set homes s text packets sub drawn = challenged set homes (identified s text packets) sub false None drawn
@@ -264,15 +259,13 @@ resynchronised set homes s sub (Some (resync.Beyond seen seq)) drawn =
 resynchronised set homes s sub (Some (resync.InRange seen seq)) drawn = challenged set homes (resynchronising s) sub false (Some (resync.InRange seen seq)) drawn
 resynchronised set homes s sub (Some (resync.Moved seen seq)) drawn = challenged set homes (resynchronising s) sub false (Some (resync.Moved seen seq)) drawn
 
--- EAP-Success, under the keys of the last challenge; a response comes only after a challenge
-abbrev pub succeeded : ServerEnd → Option Challenged → ServerEnd × Turn ServerWhy
-succeeded s None = ignored s reason.Unexpected
-succeeded s (Some sent) = ended s (outcome.Success sent.keys) (packet_text (packet.Success s.id)) true
+-- EAP-Success, under the keys of the challenge
+abbrev pub succeeded : ServerEnd → Challenged → ServerEnd × Turn ServerWhy
+succeeded s sent = ended s (outcome.Success sent.keys) (packet_text (packet.Success s.id)) true
 
 -- the same under the keys of the re-authentication
-abbrev pub reauthenticated : ServerEnd → Option Resumed → ServerEnd × Turn ServerWhy
-reauthenticated s None = ignored s reason.Unexpected
-reauthenticated s (Some r) = ended s (outcome.Success (resumed_keys s r)) (packet_text (packet.Success s.id)) true
+abbrev pub reauthenticated : ServerEnd → Resumed → ServerEnd × Turn ServerWhy
+reauthenticated s r = ended s (outcome.Success (resumed_keys s r)) (packet_text (packet.Success s.id)) true
 
 -- a row, with the text of an identity, the AKA-Identity packets after this turn, and the notes of what the centre answered
 abbrev pub server_does : Setting → List HomeRow → ServerEnd → List ℕ → List (List ℕ) → Row → Notes → ServerEnd × Turn ServerWhy
@@ -283,11 +276,11 @@ server_does set homes s text packets (row.Challenge sub) notes = first_challenge
 server_does set homes s text packets (row.Resume sub) notes = resumed set homes s text packets sub
 server_does set homes s text packets row.WrongCounter notes = notified s why.WrongCounter silent true
 server_does set homes s text packets (row.TooSmall sub) notes = challenged set homes s sub true None notes.number
-server_does set homes s text packets row.Reauthenticated notes = reauthenticated s s.resumed
+server_does set homes s text packets (row.Reauthenticated sent) notes = reauthenticated s sent
 server_does set homes s text packets row.WrongMac notes = notified s why.WrongMac silent false
 server_does set homes s text packets row.WrongRes notes = notified s why.WrongRes silent true
 server_does set homes s text packets row.WrongCheckcode notes = notified s why.WrongCheckcode silent true
-server_does set homes s text packets row.Success notes = succeeded s s.challenged
+server_does set homes s text packets (row.Success sent) notes = succeeded s sent
 server_does set homes s text packets row.SecondSync notes = notified s why.SecondSync silent false
 server_does set homes s text packets row.BadAuts notes = notified s why.BadAuts (noted (Some resync.BadAuts) None) false
 server_does set homes s text packets (row.Resynchronise sub seq) notes = resynchronised set homes s sub notes.resync notes.number
@@ -311,8 +304,8 @@ homes_done homes s text (row.Challenge sub) notes = homes_challenged s.options h
 homes_done homes s text (row.Resume sub) notes = homes_resumed s.options text homes sub (context_in s.options.method text homes sub)
 homes_done homes s text (row.TooSmall sub) notes = homes_challenged s.options homes sub notes.number
 homes_done homes s text (row.Resynchronise sub seq) notes = homes_challenged s.options homes sub notes.number
-homes_done homes s text row.Success notes = homes_won s.options.method homes s.challenged
-homes_done homes s text row.Reauthenticated notes = homes_rewon s.options.method homes s.resumed
+homes_done homes s text (row.Success sent) notes = homes_won s.options.method homes sent
+homes_done homes s text (row.Reauthenticated sent) notes = homes_rewon s.options.method homes sent
 homes_done homes s text other notes = homes
 
 -- the homes after a turn: each name that is given uses an ordinal, a context that is taken up again leaves, and success keeps
@@ -324,10 +317,10 @@ homes_after set homes s seen said notes = homes_done homes s (text_in seen.readi
 
 -- the last request again (RFC 3748 §4.1)
 abbrev pub repeated : ServerEnd → ServerState → Step ServerWhy
-repeated s (state.Ended result) = step.Ignored reason.Closed
+repeated s (state.Ended result last) = step.Ignored reason.Closed
 repeated s other = step.Sent s.last
 
 -- the server gives up, and sends nothing
 abbrev pub gave_up : ServerEnd → ServerState → ServerEnd × Step ServerWhy
-gave_up s (state.Ended result) = (s, step.Ignored reason.Closed)
-gave_up s other = (record s { state = state.Ended (outcome.Failure why.GivenUp) }, step.Ended (outcome.Failure why.GivenUp) [])
+gave_up s (state.Ended result last) = (s, step.Ignored reason.Closed)
+gave_up s other = (record s { state = state.Ended (outcome.Failure why.GivenUp) (last_of s.state) }, step.Ended (outcome.Failure why.GivenUp) [])

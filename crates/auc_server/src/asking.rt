@@ -1,9 +1,10 @@
 //! What a turn asks the centre for.
 
-ghost use Rattle.std.specs.Prelude.{◌≡◌, ◌<◌, ◌≤◌, ℕ, None, Some};
+ghost use Rattle.std.specs.Prelude.{◌<◌, ◌≤◌, None, Some};
 ghost use Rattle.auc_vector.specs.Notes.{AskedOf};
 ghost use Rattle.auc_server.specs.InnerAsking.{IsRedrawn, redrawn_noted};
 ghost use Rattle.auc_server.specs.InnerServer.{IsNumbered};
+ghost use Rattle.auc_server.specs.Steps.{OnlyAsks};
 ghost use Rattle.auc_server.specs.Table.{noted};
 
 use auc_vector::{Centre, NumberNote, ResyncNote, ask, report};
@@ -24,10 +25,7 @@ pub(crate) fn draw<C: Centre, R: Wait>(rt: &R, centre: &mut C, sub: u32) -> Numb
 
     ensures asked { AskedOf C.goes C.kept C.top (record { sub = sub; reported = None }) (noted None (Some result)) centre.old centre.new }
     ensures number { IsNumbered (C.top centre.old sub) result }
-
-    ensures subs { C.subs centre.new ≡ C.subs centre.old }
-    ensures top { (i : ℕ) → C.top centre.new i ≡ C.top centre.old i }
-    ensures name { C.name centre.new ≡ C.name centre.old }
+    ensures only { OnlyAsks C.subs C.top C.name centre.old centre.new }
 {
     ask(rt, centre, sub)
 }
@@ -39,10 +37,7 @@ pub(crate) fn redraw<C: Centre, R: Wait>(rt: &R, centre: &mut C, sub: u32, seq: 
 
     ensures asked { AskedOf C.goes C.kept C.top (record { sub = sub; reported = Some seq }) (redrawn_noted result) centre.old centre.new }
     ensures own { IsRedrawn (C.top centre.old sub) result }
-
-    ensures subs { C.subs centre.new ≡ C.subs centre.old }
-    ensures top { (i : ℕ) → C.top centre.new i ≡ C.top centre.old i }
-    ensures name { C.name centre.new ≡ C.name centre.old }
+    ensures only { OnlyAsks C.subs C.top C.name centre.old centre.new }
 {
     let resynced = report(rt, centre, sub, seq);
     match resynced {

@@ -7,21 +7,21 @@ ghost use Rattle.auc_server.specs.InnerServer.{IsNumbered};
 ghost use Rattle.auc_server.specs.Steps.{bytes_of};
 ghost use Rattle.auc_reauth.specs.Store.{method_of};
 ghost use Rattle.auc_vector.specs.Keys.{master_of};
-ghost use Rattle.auc_server.specs.Table.{challenge_of, challenged, first_challenge, homes_challenged, noted, resynchronised, sent_with, vector_at};
+ghost use Rattle.auc_server.specs.Table.{challenge_of, challenged, homes_challenged, noted, resynchronised, sent_with, vector_at};
 
 use crate::asking::Redrawn;
-use crate::messages::challenge;
+use crate::messages::{ChallengeParts, Scene, challenge};
 use crate::naming::{GivenNames, iv_after, next_given};
 use crate::options::ServerOptions;
-use crate::receiving::Plan;
-use crate::rooms::{RequestRooms, Rooms};
+use crate::plan::Request;
+use crate::rooms::{ChallengeRooms, ReauthRooms, RequestRooms};
 use crate::rounds::checkcode;
 use crate::server::{Challenged, Server, ServerState};
 use crate::setting::{HomeRow, Setting};
-use crate::turns::noted;
+use crate::turns::{Told, noted};
 use crate::why::ServerWhy;
 use auc_hmac::{Master, Method};
-use auc_vector::{Notes, NumberNote, ResyncNote, Turn, Vector, keys_of, master_of, vector};
+use auc_vector::{NumberNote, ResyncNote, Turn, Vector, keys_of, master_of, vector};
 
 /// The vector of a subscriber's number, by a session's method and network name.
 fn vector_at(set: &Setting, options: &ServerOptions, sub: u32, n: u64) -> Vector
@@ -53,29 +53,35 @@ fn master_by(method: Method, identity: &[u8], ik: [u8; 16], ck: [u8; 16]) -> Mas
     master_of(method, identity, ik, ck)
 }
 
+/// What a challenge answers: the centre's number, after a resynchronisation if there was one, and whether AT_MAC was right.
+#[derive(Clone, Copy)]
+pub(crate) struct Drawn {
+    pub(crate) resync: Option<ResyncNote>,
+    pub(crate) number: NumberNote,
+    pub(crate) checked: bool,
+}
+
 impl Server {
     /// Sends a Challenge (RFC 4187 §9.3).
     fn send_challenge(
         &mut self,
-        realm: &[u8],
+        set: &Setting,
         sent: Challenged,
         given: Option<GivenNames>,
-        notes: Notes,
-        checked: bool,
-        rooms: Rooms,
+        told: Told,
+        rooms: ChallengeRooms,
     ) -> Turn<ServerWhy>
         requires named { rooms ≡ self.old.options.name }
-        requires realm { length realm.now ≤ 255 }
         requires own { method_of sent.master ≡ self.old.options.method }
-        ensures step { (self.new, result) ≡ sent_with realm.now self.old sent given notes checked }
+        ensures step { (self.new, result) ≡ sent_with set.now.realm self.old sent given told.notes told.checked }
         ensures small { length (bytes_of result.step) ≤ 728 }
     {
-        let Rooms {
-            request,
-            name,
+        let ChallengeRooms { name, text, rest } = rooms;
+        let ReauthRooms {
             check,
-            names,
-        } = rooms;
+            request,
+            hidden,
+        } = rest;
         let RequestRooms {
             message,
             kept,
@@ -83,21 +89,21 @@ impl Server {
         } = request;
         let id = self.id.wrapping_add(1);
         let check = checkcode(self.options.method, &self.packets, check);
-        let bytes = challenge(
-            &self.options,
-            realm,
+        let scene = Scene {
+            options: &self.options,
+            realm: set.realm,
             id,
-            &sent,
-            given,
+        };
+        let parts = ChallengeParts {
             name,
-            names,
-            check,
-            attrs,
-            message,
-        );
-        self.challenged = Some(sent);
+            text,
+            rooms: hidden,
+            places: attrs,
+        };
+        let bytes = challenge(&scene, &sent, given, parts, check, message);
+        let state = ServerState::AwaitChallenge(sent, self.state.last().resumed);
         self.next_iv = iv_after(self.next_iv, &given);
-        self.request(ServerState::AwaitChallenge, bytes, notes, checked, kept)
+        self.request(state, told, Request { bytes, kept })
     }
 
     /// The challenge of a number's vector.
@@ -130,67 +136,36 @@ impl Server {
         set: &Setting,
         homes: &mut [HomeRow],
         sub: u32,
-        checked: bool,
-        resynced: Option<ResyncNote>,
-        drawn: NumberNote,
-        rooms: Rooms,
+        drawn: Drawn,
+        rooms: ChallengeRooms,
     ) -> Turn<ServerWhy>
         requires listed { sub < length set.now.rows }
-        requires number { IsNumbered (top_at set.now.rows sub) drawn }
+        requires number { IsNumbered (top_at set.now.rows sub) drawn.number }
         requires named { rooms ≡ self.old.options.name }
-        requires realm { length set.now.realm ≤ 255 }
 
-        ensures step { (self.new, result) ≡ challenged set.now homes.old self.old sub checked resynced (Some drawn) }
-        ensures homes { homes.new ≡ homes_challenged self.old.options homes.old sub (Some drawn) }
+        ensures step { (self.new, result) ≡ challenged set.now homes.old self.old sub drawn.checked drawn.resync (Some drawn.number) }
+        ensures homes { homes.new ≡ homes_challenged self.old.options homes.old sub (Some drawn.number) }
         ensures small { length (bytes_of result.step) ≤ 728 }
-        ensures notes { result.notes ≡ noted resynced (Some drawn) }
+        ensures notes { result.notes ≡ noted drawn.resync (Some drawn.number) }
     {
-        match drawn {
+        let told = Told {
+            notes: noted(drawn.resync, Some(drawn.number)),
+            checked: drawn.checked,
+        };
+        match drawn.number {
             NumberNote::Drew(n) => {
                 let vector = vector_at(set, &self.options, sub, n);
                 let given = self.give_names(set, homes, sub);
                 let sent = self.challenged_by(sub, n, vector, next_given(&given));
-                let notes = noted(resynced, Some(NumberNote::Drew(n)));
-                self.send_challenge(set.realm, sent, given, notes, checked, rooms)
+                self.send_challenge(set, sent, given, told, rooms)
             }
             NumberNote::Exhausted(word) => {
-                let notes = noted(resynced, Some(NumberNote::Exhausted(word)));
-                self.notify(ServerWhy::Exhausted(word), notes, checked, rooms)
+                self.notify(ServerWhy::Exhausted(word), told, rooms.into_request())
             }
             NumberNote::Withheld(n, stop) => {
-                let notes = noted(resynced, Some(NumberNote::Withheld(n, stop)));
-                self.notify(ServerWhy::Stopped(n, stop), notes, checked, rooms)
+                self.notify(ServerWhy::Stopped(n, stop), told, rooms.into_request())
             }
         }
-    }
-
-    /// Challenges the subscriber of an identity.
-    pub(crate) fn challenge_first(
-        &mut self,
-        set: &Setting,
-        homes: &mut [HomeRow],
-        sub: u32,
-        drawn: NumberNote,
-        plan: Plan,
-    ) -> Turn<ServerWhy>
-        requires listed { sub < length set.now.rows }
-        requires number { IsNumbered (top_at set.now.rows sub) drawn }
-        requires named { plan.rooms ≡ self.old.options.name }
-        requires realm { length set.now.realm ≤ 255 }
-
-        ensures step { (self.new, result) ≡ first_challenge set.now homes.old self.old plan.text plan.packets sub (Some drawn) }
-        ensures homes { homes.new ≡ homes_challenged self.old.options homes.old sub (Some drawn) }
-        ensures small { length (bytes_of result.step) ≤ 728 }
-        ensures notes { result.notes ≡ noted None (Some drawn) }
-    {
-        let Plan {
-            text,
-            packets,
-            rooms,
-            ..
-        } = plan;
-        self.identify(text, packets);
-        self.challenge(set, homes, sub, false, None, drawn, rooms)
     }
 
     /// Challenges the subscriber of a USIM that reported a SEQ again, unless the number at the centre is too far above
@@ -201,12 +176,11 @@ impl Server {
         homes: &mut [HomeRow],
         sub: u32,
         answered: Redrawn,
-        rooms: Rooms,
+        rooms: ChallengeRooms,
     ) -> Turn<ServerWhy>
         requires listed { sub < length set.now.rows }
         requires own { IsRedrawn (top_at set.now.rows sub) answered }
         requires named { rooms ≡ self.old.options.name }
-        requires realm { length set.now.realm ≤ 255 }
 
         ensures step { (self.new, result) ≡ resynchronised set.now homes.old self.old sub (resync_noted answered) (number_noted answered) }
         ensures homes { homes.new ≡ homes_challenged self.old.options homes.old sub (number_noted answered) }
@@ -215,12 +189,20 @@ impl Server {
     {
         self.synced = true;
         match answered {
-            Redrawn::Again(resynced, drawn) => {
-                self.challenge(set, homes, sub, false, Some(resynced), drawn, rooms)
+            Redrawn::Again(resynced, number) => {
+                let drawn = Drawn {
+                    resync: Some(resynced),
+                    number,
+                    checked: false,
+                };
+                self.challenge(set, homes, sub, drawn, rooms)
             }
             Redrawn::Beyond(seen, at) => {
-                let notes = noted(Some(ResyncNote::Beyond(seen, at)), None);
-                self.notify(ServerWhy::Beyond(seen, at), notes, false, rooms)
+                let told = Told {
+                    notes: noted(Some(ResyncNote::Beyond(seen, at)), None),
+                    checked: false,
+                };
+                self.notify(ServerWhy::Beyond(seen, at), told, rooms.into_request())
             }
         }
     }

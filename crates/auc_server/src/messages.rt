@@ -1,26 +1,26 @@
 //! The messages of a server.
 
-ghost use Rattle.std.specs.Prelude.{◌≡◌, ◌+◌, ◌≤◌, [], ◌∷◌, ◌++◌, length};
-ghost use Rattle.auc_aes.specs.Bytes.{IsBlock};
-ghost use Rattle.auc_attr.specs.Laws.{AreBytes};
+ghost use Rattle.std.specs.Prelude.{◌≡◌, ◌+◌, ◌≤◌, [], ◌∷◌, ◌++◌, length, true};
 ghost use Rattle.auc_attr.specs.declared.attr.Attr.TheVariants as attr;
 ghost use Rattle.auc_packet.specs.Spelling.{MayBeWritten, packet_text};
 ghost use Rattle.auc_seal.specs.Checkcode.{IsHash};
 ghost use Rattle.auc_seal.specs.Encrypted.{HasNoneEncrypted};
-ghost use Rattle.auc_server.specs.InnerMessages.{AreEncryptable, AreNames, IsGiven, IsName, IsNamed, IsSmall};
 ghost use Rattle.auc_server.specs.InnerRooms.{HasInner, HasPlaces, IsFresh, IsFreshIdentity, IsFreshName};
 ghost use Rattle.auc_server.specs.Messages.{aka_identity, attrs_before, attrs_by, attrs_given, challenge_bytes, challenge_draft, id_req, names_in, notification, reauth_bytes, reauth_draft, reauth_in, with_realm};
 
 use crate::naming::{GivenNames, NewNames};
 use crate::options::ServerOptions;
-use crate::rooms::NameRooms;
+use crate::rooms::HiddenRooms;
 use crate::server::{Challenged, Resumed};
+use crate::sizes::{
+    are_blocks, given_is_small, names_may_be_encrypted, reauth_is_small, reauth_may_be_encrypted,
+};
 use auc_attr::{Attr, AttrList};
 use auc_edge::{Octets, Places, Room};
 use auc_hmac::{KeySet, Method};
 use auc_packet::{Draft, Packet, Subtype, put_packet, put_sealed};
 use auc_request::IdentityRequest;
-use auc_seal::{encrypted_attributes_may_be_written, put_encrypted};
+use auc_seal::put_encrypted;
 use auc_vector::Vector;
 
 /// A packet of at most 728 bytes.
@@ -144,6 +144,35 @@ fn none_before(options: &ServerOptions, rand: [u8; 16], autn: [u8; 16], places: 
     ensures { HasNoneEncrypted places.now.written }
 {}
 
+/// Who sends a request, and under which Identifier.
+#[derive(Drop)]
+pub(crate) struct Scene<'a> {
+    /// What the server was told of its session.
+    pub(crate) options: &'a ServerOptions,
+    /// The realm of the home network.
+    pub(crate) realm: &'a [u8],
+    /// The Identifier.
+    pub(crate) id: u8,
+}
+
+/// What a Challenge is made of, before its AT_CHECKCODE.
+#[derive(Drop)]
+pub(crate) struct ChallengeParts {
+    /// A copy of the network name.
+    pub(crate) name: Octets,
+    /// Memory for a pseudonym.
+    pub(crate) text: Room,
+    pub(crate) rooms: HiddenRooms,
+    pub(crate) places: Places<Attr>,
+}
+
+/// What a Reauthentication is made of, before its AT_CHECKCODE.
+#[derive(Drop)]
+pub(crate) struct ReauthParts {
+    pub(crate) rooms: HiddenRooms,
+    pub(crate) places: Places<Attr>,
+}
+
 /// Names that a Challenge gives, and the key under which they are encrypted.
 #[derive(Clone, Copy)]
 struct Hidden {
@@ -155,10 +184,12 @@ struct Hidden {
 fn put_attrs_given(
     realm: &[u8],
     hidden: Hidden,
-    names: NameRooms,
+    text: Room,
+    rooms: HiddenRooms,
     places: Places<Attr>,
 ) -> Places<Attr>
     requires realm { length realm.now ≤ 255 }
+    requires text { IsFreshName text }
     requires places { 2 ≤ places.left }
     requires none { HasNoneEncrypted places.written }
     ensures written { result.written ≡ places.written ++ attrs_given realm.now hidden.k_encr hidden.given }
@@ -167,12 +198,11 @@ fn put_attrs_given(
     match hidden.given {
         None => places,
         Some(given) => {
-            let NameRooms {
-                text,
+            let HiddenRooms {
                 identity,
                 inner,
                 encryption,
-            } = names;
+            } = rooms;
             let list = names_in(realm, given.names, text, identity, inner);
             names_may_be_encrypted(realm, given.names);
             let mut places = places;
@@ -184,178 +214,89 @@ fn put_attrs_given(
 
 /// The attributes of a Challenge before AT_CHECKCODE.
 fn attrs_before(
-    options: &ServerOptions,
-    realm: &[u8],
-    rand: [u8; 16],
-    autn: [u8; 16],
+    scene: &Scene,
+    vector: &Vector,
     hidden: Hidden,
-    name: Octets,
-    names: NameRooms,
-    places: Places<Attr>,
+    parts: ChallengeParts,
 ) -> Places<Attr>
-    requires named { name ≡ options.now.name }
-    requires realm { length realm.now ≤ 255 }
-    requires places { HasPlaces places }
-    ensures written { result.written ≡ attrs_before options.now realm.now rand autn hidden.k_encr hidden.given }
+    requires named { parts.name ≡ scene.now.options.now.name }
+    requires realm { length scene.now.realm.now ≤ 255 }
+    requires text { IsFreshName parts.text }
+    requires places { HasPlaces parts.places }
+    ensures written { result.written ≡ attrs_before scene.now.options.now scene.now.realm.now vector.now.rand vector.now.autn hidden.k_encr hidden.given }
     ensures left { 1 ≤ result.left }
 {
-    let mut places = places;
-    places.put(Attr::Rand(rand));
-    places.put(Attr::Autn(autn));
-    let places = put_attrs_by(options, name, places);
-    none_before(options, rand, autn, &places);
-    put_attrs_given(realm, hidden, names, places)
+    let ChallengeParts {
+        name,
+        text,
+        rooms,
+        mut places,
+    } = parts;
+    places.put(Attr::Rand(vector.rand));
+    places.put(Attr::Autn(vector.autn));
+    let places = put_attrs_by(scene.options, name, places);
+    none_before(scene.options, vector.rand, vector.autn, &places);
+    put_attrs_given(scene.realm, hidden, text, rooms, places)
 }
 
-/// A Challenge, but for its AT_MAC.
-fn challenge_draft(
-    options: &ServerOptions,
-    realm: &[u8],
-    id: u8,
-    rand: [u8; 16],
-    autn: [u8; 16],
-    hidden: Hidden,
-    name: Octets,
-    names: NameRooms,
-    check: Octets,
-    places: Places<Attr>,
-) -> Draft
-    requires named { name ≡ options.now.name }
-    requires realm { length realm.now ≤ 255 }
-    requires places { HasPlaces places }
-    ensures { result ≡ challenge_draft options.now realm.now id rand autn hidden.k_encr hidden.given check }
+/// A request with some attributes and AT_CHECKCODE, but for its AT_MAC.
+fn draft(scene: &Scene, subtype: Subtype, places: Places<Attr>, check: Octets) -> Draft
+    requires { 1 ≤ places.left }
+    ensures { result ≡ record { method = scene.now.options.now.method; request = true; id = scene.now.id; subtype = subtype; attrs = places.written ++ attr.Checkcode check ∷ [] } }
 {
-    let mut places = attrs_before(options, realm, rand, autn, hidden, name, names, places);
+    let mut places = places;
     places.put(Attr::Checkcode(check));
     Draft {
-        method: options.method,
+        method: scene.options.method,
         request: true,
-        id,
-        subtype: Subtype::Challenge,
+        id: scene.id,
+        subtype,
         attrs: AttrList::from_places(places),
     }
 }
 
-/// A key and an initialisation vector are 16 bytes each, and so are RAND and AUTN.
-fn are_blocks(k_encr: [u8; 16], iv: [u8; 16])
-    ensures key { IsBlock k_encr }
-    ensures iv { IsBlock iv }
-{}
-
-/// A name is 33 bytes.
-fn is_named(name: [u8; 33])
-    ensures { IsNamed name }
-{}
-
-/// A realm is bytes.
-fn are_bytes(realm: &[u8])
-    ensures { AreBytes realm.now }
-{}
-
-/// The names that a Challenge gives are 33 bytes each.
-fn are_names(names: NewNames)
-    ensures { AreNames names }
+/// A Challenge, but for its AT_MAC.
+fn challenge_draft(
+    scene: &Scene,
+    vector: &Vector,
+    hidden: Hidden,
+    parts: ChallengeParts,
+    check: Octets,
+) -> Draft
+    requires named { parts.name ≡ scene.now.options.now.name }
+    requires realm { length scene.now.realm.now ≤ 255 }
+    requires text { IsFreshName parts.text }
+    requires places { HasPlaces parts.places }
+    ensures { result ≡ challenge_draft scene.now.options.now scene.now.realm.now scene.now.id vector.now.rand vector.now.autn hidden.k_encr hidden.given check }
 {
-    match names {
-        NewNames::Pseudonym(name) => is_named(name),
-        NewNames::Identity(name) => is_named(name),
-        NewNames::Both(name, other) => {
-            is_named(name);
-            is_named(other);
-        }
-    }
-}
-
-/// The next identity, if there is one, is 33 bytes.
-fn is_name(next: Option<[u8; 33]>)
-    ensures { IsName next }
-{
-    match next {
-        None => {}
-        Some(name) => is_named(name),
-    }
-}
-
-/// The names that a Challenge gives may be encrypted.
-fn names_may_be_encrypted(realm: &[u8], names: NewNames)
-    requires { length realm.now ≤ 255 }
-    ensures { AreEncryptable (names_in realm.now names) }
-{
-    are_bytes(realm);
-    are_names(names);
-}
-
-/// The ciphertext of names has at most 336 bytes.
-fn names_are_small(realm: &[u8], k_encr: [u8; 16], iv: [u8; 16], names: NewNames)
-    requires { length realm.now ≤ 255 }
-    ensures { IsSmall k_encr iv (names_in realm.now names) }
-{
-    are_blocks(k_encr, iv);
-    names_may_be_encrypted(realm, names);
-    encrypted_attributes_may_be_written();
-}
-
-/// The ciphertext of names that are given has at most 336 bytes.
-fn given_is_small(realm: &[u8], k_encr: [u8; 16], given: Option<GivenNames>)
-    requires { length realm.now ≤ 255 }
-    ensures { IsGiven realm.now k_encr given }
-{
-    match given {
-        None => {}
-        Some(given) => names_are_small(realm, k_encr, given.iv, given.names),
-    }
-}
-
-/// What a Reauthentication request encrypts may be encrypted.
-fn reauth_may_be_encrypted(realm: &[u8], sent: &Resumed)
-    requires { length realm.now ≤ 255 }
-    ensures { AreEncryptable (reauth_in realm.now sent.now) }
-{
-    are_bytes(realm);
-    are_blocks(sent.nonce, sent.nonce);
-    is_name(sent.next);
-}
-
-/// The ciphertext of what a Reauthentication request encrypts has at most 336 bytes.
-fn reauth_is_small(realm: &[u8], iv: [u8; 16], sent: &Resumed)
-    requires { length realm.now ≤ 255 }
-    ensures { IsSmall sent.now.context.k_encr iv (reauth_in realm.now sent.now) }
-{
-    are_blocks(sent.context.k_encr, iv);
-    reauth_may_be_encrypted(realm, sent);
-    encrypted_attributes_may_be_written();
+    let places = attrs_before(scene, vector, hidden, parts);
+    draft(scene, Subtype::Challenge, places, check)
 }
 
 /// A Challenge, with AT_MAC under K_aut (RFC 4187 §9.3, RFC 9048 §3).
 pub(crate) fn challenge(
-    options: &ServerOptions,
-    realm: &[u8],
-    id: u8,
+    scene: &Scene,
     sent: &Challenged,
     given: Option<GivenNames>,
-    name: Octets,
-    names: NameRooms,
+    parts: ChallengeParts,
     check: Octets,
-    places: Places<Attr>,
     room: Room,
 ) -> Octets
-    requires short { length options.now.name ≤ 255 }
-    requires named { name ≡ options.now.name }
-    requires realm { length realm.now ≤ 255 }
+    requires short { length scene.now.options.now.name ≤ 255 }
+    requires named { parts.name ≡ scene.now.options.now.name }
+    requires realm { length scene.now.realm.now ≤ 255 }
+    requires text { IsFreshName parts.text }
+    requires places { HasPlaces parts.places }
     requires check { IsHash check }
-    requires places { HasPlaces places }
     requires fresh { IsFresh room }
-    ensures bytes { result ≡ challenge_bytes options.now realm.now id sent.now.vector sent.now.keys given check }
+    ensures bytes { result ≡ challenge_bytes scene.now.options.now scene.now.realm.now scene.now.id sent.now.vector sent.now.keys given check }
     ensures size { length result ≤ 728 }
 {
-    let Vector { rand, autn, .. } = sent.vector;
     let KeySet { k_encr, k_aut, .. } = sent.keys;
-    are_blocks(rand, autn);
-    given_is_small(realm, k_encr, given);
+    are_blocks(sent.vector.rand, sent.vector.autn);
+    given_is_small(scene.realm, k_encr, given);
     let hidden = Hidden { k_encr, given };
-    let draft = challenge_draft(
-        options, realm, id, rand, autn, hidden, name, names, check, places,
-    );
+    let draft = challenge_draft(scene, &sent.vector, hidden, parts, check);
     let mut room = room;
     put_sealed(&draft, &k_aut, &[], &mut room);
     room.into_octets()
@@ -363,60 +304,46 @@ pub(crate) fn challenge(
 
 /// A Reauthentication request, but for its AT_MAC.
 fn reauth_draft(
-    method: Method,
-    realm: &[u8],
-    id: u8,
+    scene: &Scene,
     iv: [u8; 16],
     sent: &Resumed,
-    names: NameRooms,
+    parts: ReauthParts,
     check: Octets,
-    places: Places<Attr>,
 ) -> Draft
-    requires realm { length realm.now ≤ 255 }
-    requires places { HasPlaces places }
-    ensures { result ≡ reauth_draft method realm.now id iv sent.now check }
+    requires realm { length scene.now.realm.now ≤ 255 }
+    requires places { HasPlaces parts.places }
+    ensures { result ≡ reauth_draft scene.now.options.now.method scene.now.realm.now scene.now.id iv sent.now check }
 {
-    let NameRooms {
+    let ReauthParts { rooms, mut places } = parts;
+    let HiddenRooms {
         identity,
         inner,
         encryption,
-        ..
-    } = names;
-    let list = reauth_in(realm, sent, identity, inner);
-    reauth_may_be_encrypted(realm, sent);
-    let mut places = places;
+    } = rooms;
+    let list = reauth_in(scene.realm, sent, identity, inner);
+    reauth_may_be_encrypted(scene.realm, sent);
     put_encrypted(sent.context.k_encr, iv, &list, encryption, &mut places);
-    places.put(Attr::Checkcode(check));
-    Draft {
-        method,
-        request: true,
-        id,
-        subtype: Subtype::Reauthentication,
-        attrs: AttrList::from_places(places),
-    }
+    draft(scene, Subtype::Reauthentication, places, check)
 }
 
 /// A Reauthentication request, with AT_MAC under K_aut (RFC 4187 §9.7).
 pub(crate) fn reauthentication(
-    method: Method,
-    realm: &[u8],
-    id: u8,
+    scene: &Scene,
     iv: [u8; 16],
     sent: &Resumed,
-    names: NameRooms,
+    parts: ReauthParts,
     check: Octets,
-    places: Places<Attr>,
     room: Room,
 ) -> Octets
-    requires realm { length realm.now ≤ 255 }
+    requires realm { length scene.now.realm.now ≤ 255 }
+    requires places { HasPlaces parts.places }
     requires check { IsHash check }
-    requires places { HasPlaces places }
     requires fresh { IsFresh room }
-    ensures bytes { result ≡ reauth_bytes method realm.now id iv sent.now check }
+    ensures bytes { result ≡ reauth_bytes scene.now.options.now.method scene.now.realm.now scene.now.id iv sent.now check }
     ensures size { length result ≤ 728 }
 {
-    reauth_is_small(realm, iv, sent);
-    let draft = reauth_draft(method, realm, id, iv, sent, names, check, places);
+    reauth_is_small(scene.realm, iv, sent);
+    let draft = reauth_draft(scene, iv, sent, parts, check);
     let mut room = room;
     put_sealed(&draft, &sent.context.k_aut, &[], &mut room);
     room.into_octets()

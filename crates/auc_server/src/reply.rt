@@ -1,14 +1,14 @@
 //! What the response to a fast re-authentication has encrypted (RFC 4187 §9.8).
 
-ghost use Rattle.std.specs.Prelude.{◌≡◌, ◌≤◌, [], length, Some};
+ghost use Rattle.std.specs.Prelude.{◌≡◌, ◌≤◌, [], length, IfOk};
 ghost use Rattle.std.specs.Option.{option_copied};
 ghost use Rattle.auc_seal.specs.Encrypted.{ciphertext_of};
 ghost use Rattle.auc_server.specs.Attributes.{attrs_in};
-ghost use Rattle.auc_server.specs.Replies.{Counts, IsReply, Replies, reply_of, small_or_right};
+ghost use Rattle.auc_server.specs.Replies.{Counts, IsReply, IsReplyIn, Replies, reply_of, small_or_right};
 
-use crate::server::{Resumed, Server};
+use crate::server::{Resumed, Server, ServerState};
 use auc_attr::{AttrList, value_in};
-use auc_edge::Room;
+use auc_edge::{NoMemory, Room};
 use auc_packet::{Packet, Reading};
 use auc_request::counter_in;
 use auc_seal::{ciphertext_size, open_attrs};
@@ -69,7 +69,7 @@ fn reply_under(k_encr: [u8; 16], counter: u16, list: &AttrList, plain: Room) -> 
 }
 
 /// How many bytes a message has encrypted.
-pub(crate) fn ciphertext_in(reading: &Reading) -> usize
+fn ciphertext_in(reading: &Reading) -> usize
     ensures { result ≡ length (ciphertext_of (attrs_in reading.now)) }
 {
     match reading {
@@ -82,7 +82,7 @@ pub(crate) fn ciphertext_in(reading: &Reading) -> usize
 fn reply_to(sent: &Resumed, reading: &Reading, plain: Room) -> Reply
     requires empty { plain.written ≡ [] }
     requires room { length (ciphertext_of (attrs_in reading.now)) ≤ plain.left }
-    ensures { Replies (Some sent.now) reading.now result }
+    ensures { IsReplyIn sent.now reading.now result }
 {
     match reading {
         Reading::Read(Packet::Aka { attrs, .. }) => {
@@ -93,15 +93,17 @@ fn reply_to(sent: &Resumed, reading: &Reading, plain: Room) -> Reply
 }
 
 impl Server {
-    /// The reply of a message to the re-authentication.
-    pub(crate) fn reply_in(&self, reading: &Reading, plain: Room) -> Reply
-        requires empty { plain.written ≡ [] }
-        requires room { length (ciphertext_of (attrs_in reading.now)) ≤ plain.left }
-        ensures { Replies self.now.resumed reading.now result }
+    /// The reply of a message, if the answer to a re-authentication is awaited. Else nothing is decrypted, and it takes no
+    /// memory.
+    pub(crate) fn reply_in(&self, reading: &Reading) -> Result<Reply, NoMemory>
+        ensures { IfOk result (λ reply. Replies self.now.state reading.now reply) }
     {
-        match &self.resumed {
-            None => Reply::Wrong,
-            Some(sent) => reply_to(sent, reading, plain),
+        match &self.state {
+            ServerState::AwaitReauth(sent) => {
+                let plain = Room::new(self.alloc, ciphertext_in(reading))?;
+                Ok(reply_to(sent, reading, plain))
+            }
+            _ => Ok(Reply::Wrong),
         }
     }
 }

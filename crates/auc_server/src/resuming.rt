@@ -9,13 +9,14 @@ ghost use Rattle.auc_server.specs.Steps.{bytes_of};
 ghost use Rattle.auc_server.specs.Table.{reauthenticated, resent, resumed, resumed_keys, resuming, resumption};
 
 use crate::contexts::{context_after, gives_next, keep_context, take_context};
-use crate::messages::{message, reauthentication};
+use crate::messages::{ReauthParts, Scene, message, reauthentication};
 use crate::naming::index_after;
-use crate::receiving::{Plan, let_go};
-use crate::rooms::{RequestRooms, Rooms};
+use crate::plan::{Heard, Request};
+use crate::rooms::{MessageRoom, ReauthRooms, RequestRooms};
 use crate::rounds::checkcode;
 use crate::server::{Resumed, Server, ServerState};
 use crate::setting::{HomeRow, Setting};
+use crate::turns::Told;
 use crate::why::ServerWhy;
 use auc_hmac::KeySet;
 use auc_ident::NameKind;
@@ -36,6 +37,9 @@ fn resuming(counter: u16) -> Notes
     }
 }
 
+/// Gives the memory of a turn back.
+fn give_back(_said: Heard, _rooms: ReauthRooms) {}
+
 impl Server {
     /// The re-authentication of a subscriber with a context. The ordinal of the next identity is used.
     fn resumption(&self, set: &Setting, homes: &mut [HomeRow], sub: u32, c: Context) -> Resumed
@@ -55,18 +59,16 @@ impl Server {
     }
 
     /// Sends a Reauthentication (RFC 4187 §9.7).
-    fn send_reauth(&mut self, set: &Setting, sent: Resumed, rooms: Rooms) -> Turn<ServerWhy>
-        requires realm { length set.now.realm ≤ 255 }
+    fn send_reauth(&mut self, set: &Setting, sent: Resumed, rooms: ReauthRooms) -> Turn<ServerWhy>
         requires own { method_of sent.context.master ≡ self.old.options.method }
         requires next { HasNext sent }
         ensures step { (self.new, result) ≡ resent set.now self.old sent }
         ensures small { length (bytes_of result.step) ≤ 728 }
     {
-        let Rooms {
-            request,
+        let ReauthRooms {
             check,
-            names,
-            ..
+            request,
+            hidden,
         } = rooms;
         let RequestRooms {
             message,
@@ -75,19 +77,26 @@ impl Server {
         } = request;
         let id = self.id.wrapping_add(1);
         let iv = self.random_at(set, self.next_iv);
-        let method = self.options.method;
-        let check = checkcode(method, &self.packets, check);
-        let bytes = reauthentication(
-            method, set.realm, id, iv, &sent, names, check, attrs, message,
-        );
-        self.resumed = Some(sent);
+        let check = checkcode(self.options.method, &self.packets, check);
+        let scene = Scene {
+            options: &self.options,
+            realm: set.realm,
+            id,
+        };
+        let parts = ReauthParts {
+            rooms: hidden,
+            places: attrs,
+        };
+        let bytes = reauthentication(&scene, iv, &sent, parts, check, message);
+        let told = Told {
+            notes: resuming(sent.context.counter),
+            checked: false,
+        };
         self.next_iv = index_after(index_after(self.next_iv));
         self.request(
-            ServerState::AwaitReauth,
-            bytes,
-            resuming(sent.context.counter),
-            false,
-            kept,
+            ServerState::AwaitReauth(sent),
+            told,
+            Request { bytes, kept },
         )
     }
 
@@ -97,28 +106,22 @@ impl Server {
         set: &Setting,
         homes: &mut [HomeRow],
         sub: u32,
-        plan: Plan,
+        said: Heard,
+        rooms: ReauthRooms,
     ) -> Turn<ServerWhy>
-        requires realm { length set.now.realm ≤ 255 }
-        ensures step { (self.new, result) ≡ resumed set.now homes.old self.old plan.text plan.packets sub }
+        ensures step { (self.new, result) ≡ resumed set.now homes.old self.old said.text said.packets sub }
         ensures homes { homes.new
-            ≡ homes_resumed self.old.options plan.text homes.old sub (context_in self.old.options.method plan.text homes.old sub) }
+            ≡ homes_resumed self.old.options said.text homes.old sub (context_in self.old.options.method said.text homes.old sub) }
         ensures small { length (bytes_of result.step) ≤ 728 }
     {
-        match take_context(self.options.method, plan.text.as_slice(), homes, sub) {
+        match take_context(self.options.method, said.text.as_slice(), homes, sub) {
             None => {
-                let_go(plan);
+                give_back(said, rooms);
                 self.ignore(Reason::Unexpected)
             }
             Some(c) => {
                 let sent = self.resumption(set, homes, sub, c);
-                let Plan {
-                    text,
-                    packets,
-                    rooms,
-                    ..
-                } = plan;
-                self.identify(text, packets);
+                self.identify(said);
                 self.send_reauth(set, sent, rooms)
             }
         }
@@ -140,20 +143,21 @@ impl Server {
     }
 
     /// Ends the session with EAP-Success under the keys of the re-authentication, and keeps the new context.
-    pub(crate) fn succeed_again(&mut self, homes: &mut [HomeRow], rooms: Rooms) -> Turn<ServerWhy>
-        ensures step { (self.new, result) ≡ reauthenticated self.old self.old.resumed }
-        ensures homes { homes.new ≡ homes_rewon self.old.options.method homes.old self.old.resumed }
+    pub(crate) fn succeed_again(
+        &mut self,
+        homes: &mut [HomeRow],
+        sent: Resumed,
+        room: MessageRoom,
+    ) -> Turn<ServerWhy>
+        requires own { method_of sent.context.master ≡ self.old.options.method }
+        requires next { HasNext sent }
+        ensures step { (self.new, result) ≡ reauthenticated self.old sent }
+        ensures homes { homes.new ≡ homes_rewon self.old.options.method homes.old sent }
         ensures small { length (bytes_of result.step) ≤ 728 }
     {
-        let room = rooms.into_message();
-        match self.resumed {
-            None => self.ignore(Reason::Unexpected),
-            Some(sent) => {
-                let bytes = message(&Packet::Success(self.id), room);
-                let keys = self.resumed_keys(&sent);
-                keep_context(self.options.method, homes, sent.sub, context_after(&sent));
-                self.end(Outcome::Success(keys), bytes, true)
-            }
-        }
+        let bytes = message(&Packet::Success(self.id), room.into_room());
+        let keys = self.resumed_keys(&sent);
+        keep_context(self.options.method, homes, sent.sub, context_after(&sent));
+        self.end(Outcome::Success(keys), bytes, true)
     }
 }

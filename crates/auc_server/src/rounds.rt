@@ -6,11 +6,11 @@ ghost use Rattle.auc_packet.specs.Received.{IsReceived, seen_of};
 ghost use Rattle.auc_seal.specs.Checkcode.{IsHash};
 ghost use Rattle.auc_server.specs.InnerRooms.{IsFreshCheck};
 ghost use Rattle.auc_server.specs.Rounds.{checkcode, heard, packet_in};
-ghost use Rattle.auc_server.specs.Table.{identity_asked, packets_after};
+ghost use Rattle.auc_server.specs.Table.{identity_asked};
 
 use crate::messages::aka_identity;
-use crate::rooms::{attr_places, message_room};
-use crate::rows::Row;
+use crate::plan::Request;
+use crate::rooms::RequestRooms;
 use crate::server::Server;
 use auc_attr::length_of;
 use auc_edge::{NoMemory, Octets, Room};
@@ -57,7 +57,11 @@ fn packet_in(bytes: &[u8]) -> &[u8]
 }
 
 /// Counts what was received, if it is an AKA-Identity message.
-fn hear(alloc: Global, packets: &mut IdentityPackets, received: &Received) -> Result<(), NoMemory>
+pub(crate) fn hear(
+    alloc: Global,
+    packets: &mut IdentityPackets,
+    received: &Received,
+) -> Result<(), NoMemory>
     requires { IsReceived (seen_of received.now) }
     ensures { OnOk result (packets.new ≡ heard packets.old received.now.bytes.now received.now.reading) }
 {
@@ -74,34 +78,18 @@ fn hear(alloc: Global, packets: &mut IdentityPackets, received: &Received) -> Re
 
 impl Server {
     /// The AKA-Identity request that is sent next.
-    fn identity_asked(&self, alloc: Global, kind: IdentityRequest) -> Result<Octets, NoMemory>
+    pub(crate) fn identity_asked(&self, kind: IdentityRequest) -> Result<Request, NoMemory>
         ensures { IfOk result (λ request. request ≡ identity_asked self.now kind) }
     {
-        let attrs = attr_places(alloc)?;
-        let message = message_room(alloc)?;
+        let RequestRooms {
+            message,
+            kept,
+            attrs,
+        } = RequestRooms::new(self.alloc)?;
         let id = self.id.wrapping_add(1);
-        Ok(aka_identity(self.options.method, id, kind, attrs, message))
-    }
-
-    /// The AKA-Identity packets after a turn with this row.
-    pub(crate) fn packets_after(
-        &self,
-        alloc: Global,
-        received: &Received,
-        row: Row,
-    ) -> Result<IdentityPackets, NoMemory>
-        requires { IsReceived (seen_of received.now) }
-        ensures { IfOk result (λ packets. packets ≡ packets_after self.now (seen_of received.now) row) }
-    {
-        let mut packets = self.packets.copy(alloc)?;
-        hear(alloc, &mut packets, received)?;
-        match row {
-            Row::Ask(kind) => {
-                let request = self.identity_asked(alloc, kind)?;
-                packets.add(alloc, request.as_slice())?;
-                Ok(packets)
-            }
-            _ => Ok(packets),
-        }
+        Ok(Request {
+            bytes: aka_identity(self.options.method, id, kind, attrs, message),
+            kept,
+        })
     }
 }

@@ -1,21 +1,23 @@
 //! The rows of a server's table: which of them received bytes fall into.
 
-ghost use Rattle.std.specs.Prelude.{◌≡◌, ◌<◌, ℕ, List, length, true, Some, IfSome};
+ghost use Rattle.std.specs.Prelude.{◌≡◌, ◌<◌, ℕ, List, length, true, IfSome};
 ghost use Rattle.std.specs.Option.{option_copied};
 ghost use Rattle.auc_packet.specs.Packet.{method_type};
 ghost use Rattle.auc_packet.specs.Received.{IsReceived, seen_of};
-ghost use Rattle.auc_server.specs.Asked.{asked_after};
 ghost use Rattle.auc_server.specs.Attributes.{res_of, checkcode_of, first_of, identity_in};
 ghost use Rattle.auc_server.specs.Rounds.{checkcode};
-ghost use Rattle.auc_server.specs.Rows.{by_auts, challenge_or, context_subscriber, differs, held_place, if_challenged, if_held, if_resumed, in_state, on_any, on_first, on_full, on_identity, on_permanent, named_place, permanent_subscriber, pseudonym_subscriber, is_expected, is_held, is_type, on_auts, on_challenged, on_client_error, on_error_code, on_head, on_message, on_method, on_reading, on_reauth, on_response, on_resumed, on_sync_failure, reauth_subscriber, server_row, subscriber_in, text_in, type_awaited};
+ghost use Rattle.auc_server.specs.Rows.{by_auts, differs, is_expected, is_held, is_type, on_challenged, on_client_error, on_identity, on_message, on_method, on_reading, on_reauth, on_requested, on_response, on_resumed, on_sync_failure, server_row, text_in, type_awaited};
 ghost use Rattle.auc_server.specs.Steps.{IsHeld, IsHeldToo};
 ghost use Rattle.auc_server.specs.declared.setting.HomeRow.{HomeRow};
 ghost use Rattle.auc_subs.specs.declared.row.Row as rows;
-ghost use Rattle.auc_server.specs.InnerRows.{IsHeldRow, IsOwnRow, IsRowOf, IsRowToo};
+ghost use Rattle.auc_server.specs.InnerRows.{IsHeldRow};
+ghost use Rattle.auc_server.specs.InnerServer.{HasNext};
+ghost use Rattle.auc_server.specs.Server.{challenged_of, resumed_of};
+ghost use Rattle.auc_reauth.specs.Store.{method_of};
+ghost use Rattle.auc_hmac.specs.declared.method.Method.{Method};
 
 use crate::attributes::{auts_in, checkcode_in, error_code_in, identity_in, res_in};
-use crate::contexts::has_context;
-use crate::options::ServerOptions;
+use crate::identities::{on_first, on_requested};
 use crate::reply::Reply;
 use crate::rounds::is_checkcode;
 use crate::server::{Challenged, Resumed, Server, ServerState};
@@ -24,13 +26,12 @@ use crate::why::ServerWhy;
 use auc_attr::AttrList;
 use auc_edge::Octets;
 use auc_hmac::Method;
-use auc_ident::{NameKind, permanent_in, username};
 use auc_packet::{
     Head, Packet, Reading, Received, Subtype, head, is_malformed, is_missing, is_sealed,
 };
 use auc_request::IdentityRequest;
 use auc_seal::IdentityPackets;
-use auc_vector::{Auts, Notes, Reason, ResyncNote, read_auts};
+use auc_vector::{Auts, Reason, read_auts};
 
 /// A row of a server's table.
 #[derive(Clone, Copy)]
@@ -49,16 +50,16 @@ pub enum Row {
     WrongCounter,
     /// The counter is too small for the peer, and the subscriber at this place is challenged (RFC 4187 §5.5).
     TooSmall(u32),
-    /// The peer is authenticated again (RFC 4187 §5.4).
-    Reauthenticated,
+    /// The peer is authenticated again, by this re-authentication (RFC 4187 §5.4).
+    Reauthenticated(Resumed),
     /// AT_MAC isn't right (RFC 4187 §6.3.2).
     WrongMac,
     /// RES isn't XRES (RFC 4187 §6.3.2).
     WrongRes,
     /// The checkcode isn't that of the session (RFC 4187 §10.13).
     WrongCheckcode,
-    /// The peer is authenticated (RFC 4187 §3).
-    Success,
+    /// The peer is authenticated, by this challenge (RFC 4187 §3).
+    Success(Challenged),
     /// A second synchronisation failure came (RFC 4187 §6.3.2).
     SecondSync,
     /// MAC-S isn't right (TS 33.102 §6.3.5).
@@ -71,145 +72,6 @@ pub enum Row {
     ClientError(u16),
     /// The peer has answered the notification of this failure (RFC 4187 §6.3.3 and §9.11).
     Notified(ServerWhy),
-}
-
-/// Whether a subscriber is one of the homes.
-fn is_held(homes: &[HomeRow], sub: u32) -> bool
-    ensures { result ≡ is_held homes.now sub }
-{
-    homes.iter().any(|home| home.sub == sub)
-}
-
-/// A subscriber, if it is one of the homes.
-fn if_held(homes: &[HomeRow], sub: u32) -> Option<u32>
-    ensures value { result ≡ if_held homes.now (Some sub) }
-    ensures held { IfSome result (λ sub. is_held homes.now sub ≡ true) }
-{
-    if is_held(homes, sub) { Some(sub) } else { None }
-}
-
-/// The held subscriber whose permanent identity of a method a text is, up to its realm (RFC 4187 §4.1.1.6, RFC 9048 §3).
-fn permanent_subscriber(
-    method: Method,
-    set: &Setting,
-    homes: &[HomeRow],
-    text: &[u8],
-) -> Option<u32>
-    ensures value { result ≡ permanent_subscriber method set.now homes.now text.now }
-    ensures held { IfSome result (λ sub. is_held homes.now sub ≡ true) }
-{
-    let imsi = permanent_in(method, username(text))?;
-    let sub = set.subs.find(imsi)?;
-    if_held(homes, sub)
-}
-
-/// The held subscriber whose pseudonym of a method a text is, up to its realm (RFC 4187 §4.1.1.7).
-fn pseudonym_subscriber(
-    method: Method,
-    set: &Setting,
-    homes: &[HomeRow],
-    text: &[u8],
-) -> Option<u32>
-    ensures value { result ≡ pseudonym_subscriber method set.now homes.now text.now }
-    ensures held { IfSome result (λ sub. is_held homes.now sub ≡ true) }
-{
-    let of = set.names.resolve(NameKind::Pseudonym, method, text)?;
-    if_held(homes, of.0)
-}
-
-/// The held subscriber whose permanent identity or pseudonym of a method a text is.
-fn subscriber_in(method: Method, set: &Setting, homes: &[HomeRow], text: &[u8]) -> Option<u32>
-    ensures value { result ≡ subscriber_in method set.now homes.now text.now }
-    ensures held { IfSome result (λ sub. is_held homes.now sub ≡ true) }
-{
-    match permanent_subscriber(method, set, homes, text) {
-        Some(sub) => Some(sub),
-        None => pseudonym_subscriber(method, set, homes, text),
-    }
-}
-
-/// The held subscriber whose re-authentication identity of a method a text is, up to its realm (RFC 4187 §4.1.1.8).
-fn reauth_subscriber(method: Method, set: &Setting, homes: &[HomeRow], text: &[u8]) -> Option<u32>
-    ensures value { result ≡ reauth_subscriber method set.now homes.now text.now }
-    ensures held { IfSome result (λ sub. is_held homes.now sub ≡ true) }
-{
-    let of = set.names.resolve(NameKind::Reauth, method, text)?;
-    if_held(homes, of.0)
-}
-
-/// The held subscriber whose context of a method has a text as its identity.
-fn context_subscriber(method: Method, set: &Setting, homes: &[HomeRow], text: &[u8]) -> Option<u32>
-    ensures value { result ≡ context_subscriber method set.now homes.now text.now }
-    ensures held { IfSome result (λ sub. is_held homes.now sub ≡ true) }
-{
-    let sub = reauth_subscriber(method, set, homes, text)?;
-    if !has_context(method, text, homes, sub) {
-        return None;
-    }
-    Some(sub)
-}
-
-/// An identity that may be a re-authentication identity or a pseudonym.
-fn on_any(method: Method, set: &Setting, homes: &[HomeRow], text: &[u8]) -> Row
-    ensures row { result ≡ on_any method set.now homes.now text.now }
-    ensures held { IsHeldRow set.now.rows homes.now result }
-{
-    if let Some(sub) = context_subscriber(method, set, homes, text) {
-        return Row::Resume(sub);
-    }
-    match subscriber_in(method, set, homes, text) {
-        None => Row::Ask(IdentityRequest::Fullauth),
-        Some(sub) => Row::Challenge(sub),
-    }
-}
-
-/// A pseudonym or a permanent identity, where one for full authentication was asked for.
-fn on_full(method: Method, set: &Setting, homes: &[HomeRow], text: &[u8]) -> Row
-    ensures row { result ≡ on_full method set.now homes.now text.now }
-    ensures held { IsHeldRow set.now.rows homes.now result }
-{
-    match subscriber_in(method, set, homes, text) {
-        None => Row::Ask(IdentityRequest::Permanent),
-        Some(sub) => Row::Challenge(sub),
-    }
-}
-
-/// An identity that must be a permanent one.
-fn on_permanent(method: Method, set: &Setting, homes: &[HomeRow], text: &[u8]) -> Row
-    ensures row { result ≡ on_permanent method set.now homes.now text.now }
-    ensures held { IsHeldRow set.now.rows homes.now result }
-{
-    match permanent_subscriber(method, set, homes, text) {
-        None => Row::UnknownIdentity,
-        Some(sub) => Row::Challenge(sub),
-    }
-}
-
-/// The identity of EAP's own Identity round.
-fn on_first(options: &ServerOptions, set: &Setting, homes: &[HomeRow], text: &[u8]) -> Row
-    ensures row { result ≡ on_first options.now set.now homes.now text.now }
-    ensures held { IsHeldRow set.now.rows homes.now result }
-{
-    if options.any {
-        return Row::Ask(IdentityRequest::Any);
-    }
-    on_any(options.method, set, homes, text)
-}
-
-impl Server {
-    /// For whom the server asked the centre in the turn after which it stands so, by the turn's notes; `None` if it didn't.
-    pub fn asked(&self, set: &Setting, homes: &[HomeRow], notes: Notes) -> Option<u32>
-        ensures { result ≡ asked_after set.now homes.now self.now notes.resync notes.number }
-    {
-        match (notes.resync, notes.number) {
-            (None, None) | (Some(ResyncNote::BadAuts), _) => None,
-            (None, Some(_)) => match &self.resumed {
-                Some(sent) => Some(sent.sub),
-                None => subscriber_in(self.options.method, set, homes, self.identity.as_slice()),
-            },
-            (Some(_), _) => Some(self.challenged?.sub),
-        }
-    }
 }
 
 /// The text of an Identity response or of an AKA-Identity response, or an empty one.
@@ -251,9 +113,10 @@ fn on_response(
     received: &Received,
     attrs: &AttrList,
 ) -> Row
-    requires { IsReceived (seen_of received.now) }
+    requires received { IsReceived (seen_of received.now) }
+    requires own { method_of sent.now.master ≡ method }
     ensures row { result ≡ on_response method packets.now sent.now (seen_of received.now) attrs.now }
-    ensures own { (all : List rows.Row) → IsOwnRow all sent.now.sub result }
+    ensures held { (all : List rows.Row) (homes : List HomeRow) → IsHeldRow method all homes result }
 {
     if is_missing(Subtype::Challenge, false, attrs) {
         return Row::Ignore(Reason::Missing);
@@ -267,7 +130,7 @@ fn on_response(
     if differs(method, packets, checkcode_in(attrs)) {
         return Row::WrongCheckcode;
     }
-    Row::Success
+    Row::Success(*sent)
 }
 
 /// A Reauthentication response.
@@ -279,9 +142,12 @@ fn on_reauth(
     reply: Reply,
     attrs: &AttrList,
 ) -> Row
-    requires { IsReceived (seen_of received.now) }
+    requires received { IsReceived (seen_of received.now) }
+    requires own { method_of sent.now.context.master ≡ method }
+    requires next { HasNext sent.now }
     ensures row { result ≡ on_reauth method packets.now sent.now (seen_of received.now) reply attrs.now }
-    ensures own { (all : List rows.Row) → IsOwnRow all sent.now.sub result }
+    ensures held { (all : List rows.Row) (homes : List HomeRow) → is_held homes sent.now.sub ≡ true
+        → IsHeldRow method all homes result }
 {
     if is_missing(Subtype::Reauthentication, false, attrs) {
         return Row::Ignore(Reason::Missing);
@@ -296,7 +162,7 @@ fn on_reauth(
             if differs(method, packets, checkcode_in(attrs)) {
                 return Row::WrongCheckcode;
             }
-            Row::Reauthenticated
+            Row::Reauthenticated(*sent)
         }
     }
 }
@@ -315,7 +181,8 @@ fn by_auts(sub: u32, auts: Auts) -> Row
 fn on_sync_failure(set: &Setting, synced: bool, sent: &Challenged, attrs: &AttrList) -> Row
     requires { sent.now.sub < length set.now.rows }
     ensures row { result ≡ on_sync_failure set.now synced sent.now attrs.now }
-    ensures own { IsOwnRow set.now.rows sent.now.sub result }
+    ensures held { (by : Method) (homes : List HomeRow) → is_held homes sent.now.sub ≡ true
+        → IsHeldRow by set.now.rows homes result }
 {
     if is_missing(Subtype::SynchronizationFailure, false, attrs) {
         return Row::Ignore(Reason::Missing);
@@ -336,8 +203,7 @@ fn on_sync_failure(set: &Setting, synced: bool, sent: &Challenged, attrs: &AttrL
 /// A Client-Error.
 fn on_client_error(attrs: &AttrList) -> Row
     ensures row { result ≡ on_client_error attrs.now }
-    ensures own { (all : List rows.Row) (own : ℕ) → IsOwnRow all own result }
-    ensures held { (all : List rows.Row) (homes : List HomeRow) → IsHeldRow all homes result }
+    ensures held { (by : Method) (all : List rows.Row) (homes : List HomeRow) → IsHeldRow by all homes result }
 {
     if is_missing(Subtype::ClientError, false, attrs) {
         return Row::Ignore(Reason::Missing);
@@ -351,7 +217,7 @@ fn on_client_error(attrs: &AttrList) -> Row
 /// An AKA-Identity response, for which a row is taken, or an error of the peer.
 fn on_identity(answered: Row, homes: &[HomeRow], subtype: Subtype, attrs: &AttrList) -> Row
     ensures row { result ≡ on_identity answered subtype attrs.now }
-    ensures held { (all : List rows.Row) → IsHeldRow all homes.now answered → IsHeldRow all homes.now result }
+    ensures held { (by : Method) (all : List rows.Row) → IsHeldRow by all homes.now answered → IsHeldRow by all homes.now result }
 {
     match subtype {
         Subtype::Identity => {
@@ -365,48 +231,19 @@ fn on_identity(answered: Row, homes: &[HomeRow], subtype: Subtype, attrs: &AttrL
     }
 }
 
-/// A message after any identity was asked for.
-fn in_any(
+/// A message after an identity was asked for.
+fn in_requested(
+    asked: IdentityRequest,
     method: Method,
     set: &Setting,
     homes: &[HomeRow],
     subtype: Subtype,
     attrs: &AttrList,
 ) -> Row
-    ensures row { result ≡ on_identity (on_any method set.now homes.now (identity_in attrs.now)) subtype attrs.now }
-    ensures held { IsHeldRow set.now.rows homes.now result }
+    ensures row { result ≡ on_identity (on_requested asked method set.now homes.now (identity_in attrs.now)) subtype attrs.now }
+    ensures held { IsHeldRow method set.now.rows homes.now result }
 {
-    let answered = on_any(method, set, homes, identity_in(attrs));
-    on_identity(answered, homes, subtype, attrs)
-}
-
-/// A message after an identity for full authentication was asked for.
-fn in_full(
-    method: Method,
-    set: &Setting,
-    homes: &[HomeRow],
-    subtype: Subtype,
-    attrs: &AttrList,
-) -> Row
-    ensures row { result ≡ on_identity (on_full method set.now homes.now (identity_in attrs.now)) subtype attrs.now }
-    ensures held { IsHeldRow set.now.rows homes.now result }
-{
-    let answered = on_full(method, set, homes, identity_in(attrs));
-    on_identity(answered, homes, subtype, attrs)
-}
-
-/// A message after the permanent identity was asked for.
-fn in_permanent(
-    method: Method,
-    set: &Setting,
-    homes: &[HomeRow],
-    subtype: Subtype,
-    attrs: &AttrList,
-) -> Row
-    ensures row { result ≡ on_identity (on_permanent method set.now homes.now (identity_in attrs.now)) subtype attrs.now }
-    ensures held { IsHeldRow set.now.rows homes.now result }
-{
-    let answered = on_permanent(method, set, homes, identity_in(attrs));
+    let answered = on_requested(asked, method, set, homes, identity_in(attrs));
     on_identity(answered, homes, subtype, attrs)
 }
 
@@ -438,126 +275,87 @@ fn is_type(wanted: u8, kind: Option<u8>) -> bool
     }
 }
 
+/// A message of the method, with the reply to a re-authentication.
+#[derive(Drop)]
+struct Message<'a> {
+    received: &'a Received<'a>,
+    subtype: Subtype,
+    attrs: &'a AttrList,
+    reply: Reply,
+}
+
 impl Server {
     /// The answer to a challenge.
-    fn on_challenged(
-        &self,
-        set: &Setting,
-        sent: &Challenged,
-        received: &Received,
-        subtype: Subtype,
-        attrs: &AttrList,
-    ) -> Row
-        requires received { IsReceived (seen_of received.now) }
+    fn on_challenged(&self, set: &Setting, sent: &Challenged, message: &Message) -> Row
+        requires received { IsReceived (seen_of message.now.received.now) }
         requires listed { sent.now.sub < length set.now.rows }
-        ensures row { result ≡ on_challenged set.now self.now sent.now (seen_of received.now) subtype attrs.now }
-        ensures own { IsOwnRow set.now.rows sent.now.sub result }
+        requires own { method_of sent.now.master ≡ self.now.options.method }
+        ensures row { result ≡ on_challenged set.now self.now sent.now (seen_of message.now.received.now) message.now.subtype message.now.attrs.now }
+        ensures held { (homes : List HomeRow) → is_held homes sent.now.sub ≡ true
+            → IsHeldRow self.now.options.method set.now.rows homes result }
     {
-        match subtype {
+        match message.subtype {
             Subtype::Challenge => on_response(
                 self.options.method,
                 &self.packets,
                 sent,
-                received,
-                attrs,
+                message.received,
+                message.attrs,
             ),
-            Subtype::SynchronizationFailure => on_sync_failure(set, self.synced, sent, attrs),
+            Subtype::SynchronizationFailure => {
+                on_sync_failure(set, self.synced, sent, message.attrs)
+            }
             Subtype::AuthenticationReject => Row::Rejected,
-            Subtype::ClientError => on_client_error(attrs),
+            Subtype::ClientError => on_client_error(message.attrs),
             _ => Row::Ignore(Reason::Unexpected),
-        }
-    }
-
-    /// The answer to the last challenge, if there is one.
-    fn if_challenged(
-        &self,
-        set: &Setting,
-        received: &Received,
-        subtype: Subtype,
-        attrs: &AttrList,
-    ) -> Row
-        requires received { IsReceived (seen_of received.now) }
-        requires listed { IfSome self.now.challenged (λ sent. sent.sub < length set.now.rows) }
-        ensures row { result ≡ if_challenged set.now self.now self.now.challenged (seen_of received.now) subtype attrs.now }
-        ensures own { IsRowOf set.now.rows self.now.challenged result }
-    {
-        match &self.challenged {
-            None => Row::Ignore(Reason::Unexpected),
-            Some(sent) => self.on_challenged(set, sent, received, subtype, attrs),
         }
     }
 
     /// The answer to a re-authentication.
-    fn on_resumed(
-        &self,
-        sent: &Resumed,
-        received: &Received,
-        reply: Reply,
-        subtype: Subtype,
-        attrs: &AttrList,
-    ) -> Row
-        requires { IsReceived (seen_of received.now) }
-        ensures row { result ≡ on_resumed self.now sent.now (seen_of received.now) reply subtype attrs.now }
-        ensures own { (all : List rows.Row) → IsOwnRow all sent.now.sub result }
+    fn on_resumed(&self, sent: &Resumed, message: &Message) -> Row
+        requires received { IsReceived (seen_of message.now.received.now) }
+        requires own { method_of sent.now.context.master ≡ self.now.options.method }
+        requires next { HasNext sent.now }
+        ensures row { result ≡ on_resumed self.now sent.now (seen_of message.now.received.now) message.now.reply message.now.subtype message.now.attrs.now }
+        ensures held { (all : List rows.Row) (homes : List HomeRow) → is_held homes sent.now.sub ≡ true
+            → IsHeldRow self.now.options.method all homes result }
     {
-        match subtype {
+        match message.subtype {
             Subtype::Reauthentication => on_reauth(
                 self.options.method,
                 &self.packets,
                 sent,
-                received,
-                reply,
-                attrs,
+                message.received,
+                message.reply,
+                message.attrs,
             ),
-            Subtype::ClientError => on_client_error(attrs),
+            Subtype::ClientError => on_client_error(message.attrs),
             _ => Row::Ignore(Reason::Unexpected),
         }
     }
 
-    /// The answer to the re-authentication, if there is one.
-    fn if_resumed(
-        &self,
-        received: &Received,
-        reply: Reply,
-        subtype: Subtype,
-        attrs: &AttrList,
-    ) -> Row
-        requires { IsReceived (seen_of received.now) }
-        ensures row { result ≡ if_resumed self.now self.now.resumed (seen_of received.now) reply subtype attrs.now }
-        ensures own { (all : List rows.Row) → IsRowToo all self.now.resumed result }
-    {
-        match &self.resumed {
-            None => Row::Ignore(Reason::Unexpected),
-            Some(sent) => self.on_resumed(sent, received, reply, subtype, attrs),
-        }
-    }
-
     /// A message that isn't malformed.
-    fn on_message(
-        &self,
-        set: &Setting,
-        homes: &[HomeRow],
-        received: &Received,
-        reply: Reply,
-        subtype: Subtype,
-        attrs: &AttrList,
-    ) -> Row
-        requires received { IsReceived (seen_of received.now) }
-        requires listed { IfSome self.now.challenged (λ sent. sent.sub < length set.now.rows) }
-        requires held { IsHeld homes.now self.now.challenged }
-        requires resumed { IsHeldToo homes.now self.now.resumed }
-        ensures row { result ≡ on_message set.now homes.now self.now self.now.state (seen_of received.now) reply subtype attrs.now }
-        ensures held { IsHeldRow set.now.rows homes.now result }
+    fn on_message(&self, set: &Setting, homes: &[HomeRow], message: &Message) -> Row
+        requires received { IsReceived (seen_of message.now.received.now) }
+        requires listed { IfSome (challenged_of self.now) (λ sent. sent.sub < length set.now.rows) }
+        requires held { IsHeld homes.now (challenged_of self.now) }
+        requires resumed { IsHeldToo homes.now (resumed_of self.now) }
+        ensures row { result ≡ on_message set.now homes.now self.now self.now.state (seen_of message.now.received.now) message.now.reply message.now.subtype message.now.attrs.now }
+        ensures held { IsHeldRow self.now.options.method set.now.rows homes.now result }
     {
-        let method = self.options.method;
-        match self.state {
-            ServerState::AwaitAny => in_any(method, set, homes, subtype, attrs),
-            ServerState::AwaitFull => in_full(method, set, homes, subtype, attrs),
-            ServerState::AwaitPermanent => in_permanent(method, set, homes, subtype, attrs),
-            ServerState::AwaitChallenge => self.if_challenged(set, received, subtype, attrs),
-            ServerState::AwaitReauth => self.if_resumed(received, reply, subtype, attrs),
-            ServerState::Notifying(why) => match subtype {
-                Subtype::Notification => Row::Notified(why),
+        match &self.state {
+            ServerState::Await(asked) => in_requested(
+                *asked,
+                self.options.method,
+                set,
+                homes,
+                message.subtype,
+                message.attrs,
+            ),
+            ServerState::AwaitChallenge(sent, _) => self.on_challenged(set, sent, message),
+            ServerState::AwaitReauth(sent) => self.on_resumed(sent, message),
+            ServerState::Notifying(why, _) => match message.subtype {
+                Subtype::Notification => Row::Notified(*why),
                 _ => Row::Ignore(Reason::Unexpected),
             },
             _ => Row::Ignore(Reason::Unexpected),
@@ -567,11 +365,11 @@ impl Server {
     /// A response of the method.
     fn on_method(&self, set: &Setting, homes: &[HomeRow], received: &Received, reply: Reply) -> Row
         requires received { IsReceived (seen_of received.now) }
-        requires listed { IfSome self.now.challenged (λ sent. sent.sub < length set.now.rows) }
-        requires held { IsHeld homes.now self.now.challenged }
-        requires resumed { IsHeldToo homes.now self.now.resumed }
+        requires listed { IfSome (challenged_of self.now) (λ sent. sent.sub < length set.now.rows) }
+        requires held { IsHeld homes.now (challenged_of self.now) }
+        requires resumed { IsHeldToo homes.now (resumed_of self.now) }
         ensures row { result ≡ on_method set.now homes.now self.now self.now.state (seen_of received.now) reply received.now.reading }
-        ensures held { IsHeldRow set.now.rows homes.now result }
+        ensures held { IsHeldRow self.now.options.method set.now.rows homes.now result }
     {
         let Reading::Read(Packet::Aka { subtype, attrs, .. }) = &received.reading else {
             return Row::Ignore(Reason::Malformed);
@@ -579,17 +377,23 @@ impl Server {
         if is_malformed(*subtype, false, self.options.method, attrs) {
             return Row::Ignore(Reason::Malformed);
         }
-        self.on_message(set, homes, received, reply, *subtype, attrs)
+        let message = Message {
+            received,
+            subtype: *subtype,
+            attrs,
+            reply,
+        };
+        self.on_message(set, homes, &message)
     }
 
     /// A response of the type that the state expects.
     fn on_reading(&self, set: &Setting, homes: &[HomeRow], received: &Received, reply: Reply) -> Row
         requires received { IsReceived (seen_of received.now) }
-        requires listed { IfSome self.now.challenged (λ sent. sent.sub < length set.now.rows) }
-        requires held { IsHeld homes.now self.now.challenged }
-        requires resumed { IsHeldToo homes.now self.now.resumed }
+        requires listed { IfSome (challenged_of self.now) (λ sent. sent.sub < length set.now.rows) }
+        requires held { IsHeld homes.now (challenged_of self.now) }
+        requires resumed { IsHeldToo homes.now (resumed_of self.now) }
         ensures row { result ≡ on_reading set.now homes.now self.now self.now.state (seen_of received.now) reply received.now.reading }
-        ensures held { IsHeldRow set.now.rows homes.now result }
+        ensures held { IsHeldRow self.now.options.method set.now.rows homes.now result }
     {
         if let ServerState::AwaitIdentity = self.state {
             return on_first(&self.options, set, homes, text_in(&received.reading));
@@ -606,13 +410,13 @@ impl Server {
         reply: Reply,
     ) -> Row
         requires received { IsReceived (seen_of received.now) }
-        requires listed { IfSome self.now.challenged (λ sent. sent.sub < length set.now.rows) }
-        requires held { IsHeld homes.now self.now.challenged }
-        requires resumed { IsHeldToo homes.now self.now.resumed }
+        requires listed { IfSome (challenged_of self.now) (λ sent. sent.sub < length set.now.rows) }
+        requires held { IsHeld homes.now (challenged_of self.now) }
+        requires resumed { IsHeldToo homes.now (resumed_of self.now) }
         ensures row { result ≡ server_row set.now homes.now self.now (seen_of received.now) reply }
-        ensures held { IsHeldRow set.now.rows homes.now result }
+        ensures held { IsHeldRow self.now.options.method set.now.rows homes.now result }
     {
-        if let ServerState::Ended(_) = self.state {
+        if let ServerState::Ended(_, _) = self.state {
             return Row::Ignore(Reason::Closed);
         }
         let Some(head) = head(received.bytes) else {

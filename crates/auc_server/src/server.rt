@@ -1,12 +1,17 @@
 //! The server of a session.
 
+ghost use Rattle.std.specs.Prelude.{◌≡◌};
+ghost use Rattle.auc_server.specs.State.{last_of};
+
 use crate::options::ServerOptions;
 use crate::why::ServerWhy;
 use auc_edge::Octets;
 use auc_hmac::{KeySet, Master};
 use auc_reauth::Context;
+use auc_request::IdentityRequest;
 use auc_seal::IdentityPackets;
 use auc_vector::{Outcome, Vector};
+use std::alloc::Global;
 use std::marker::Model;
 
 /// A challenge that a server sent.
@@ -39,30 +44,60 @@ pub struct Resumed {
     pub next: Option<[u8; 33]>,
 }
 
+/// What a server sent last of each kind.
+#[derive(Clone, Copy)]
+pub struct Last {
+    /// The last challenge, if one was sent.
+    pub challenged: Option<Challenged>,
+    /// The re-authentication, if one was asked for.
+    pub resumed: Option<Resumed>,
+}
+
 /// What a server waits for.
 #[derive(Clone, Copy)]
 pub enum ServerState {
     /// The peer's identity (RFC 3748 §5.1).
     AwaitIdentity,
-    /// Any identity (RFC 4187 §9.2 and §10.3).
-    AwaitAny,
-    /// An identity for full authentication (RFC 4187 §9.2 and §10.4).
-    AwaitFull,
-    /// The permanent identity (RFC 4187 §9.2 and §10.2).
-    AwaitPermanent,
-    /// The answer to a challenge (RFC 4187 §9.4).
-    AwaitChallenge,
-    /// The answer to a re-authentication (RFC 4187 §9.8).
-    AwaitReauth,
-    /// The answer to a notification of this failure (RFC 4187 §9.11).
-    Notifying(ServerWhy),
-    /// Nothing: the session has ended so.
-    Ended(Outcome<ServerWhy>),
+    /// Another identity (RFC 4187 §9.2 and §10.2 to §10.4).
+    Await(IdentityRequest),
+    /// The answer to this challenge (RFC 4187 §9.4). It follows this re-authentication if the counter was too small there.
+    AwaitChallenge(Challenged, Option<Resumed>),
+    /// The answer to this re-authentication (RFC 4187 §9.8).
+    AwaitReauth(Resumed),
+    /// The answer to a notification of this failure (RFC 4187 §9.11), after what was sent last.
+    Notifying(ServerWhy, Last),
+    /// Nothing: the session has ended so, after what was sent last.
+    Ended(Outcome<ServerWhy>, Last),
 }
 
-/// The server of a session of EAP-AKA or EAP-AKA'. Contracts see its `ServerEnd`.
+impl ServerState {
+    /// What was sent last, also after the session has ended.
+    pub(crate) fn last(&self) -> Last
+        ensures { result ≡ last_of self.now }
+    {
+        match *self {
+            ServerState::AwaitIdentity | ServerState::Await(_) => Last {
+                challenged: None,
+                resumed: None,
+            },
+            ServerState::AwaitChallenge(sent, before) => Last {
+                challenged: Some(sent),
+                resumed: before,
+            },
+            ServerState::AwaitReauth(sent) => Last {
+                challenged: None,
+                resumed: Some(sent),
+            },
+            ServerState::Notifying(_, last) | ServerState::Ended(_, last) => last,
+        }
+    }
+}
+
+/// The server of a session of EAP-AKA or EAP-AKA', which takes its memory of the allocator that it was started with.
+/// Contracts see its `ServerEnd`.
 #[derive(Drop)]
 pub struct Server {
+    pub(crate) alloc: Global,
     /// What the server was told of its session.
     pub(crate) options: ServerOptions,
     pub(crate) state: ServerState,
@@ -72,10 +107,6 @@ pub struct Server {
     pub(crate) last: Octets,
     /// The identity that was received last, empty before the first.
     pub(crate) identity: Octets,
-    /// The last challenge.
-    pub(crate) challenged: Option<Challenged>,
-    /// The re-authentication.
-    pub(crate) resumed: Option<Resumed>,
     /// Whether a synchronisation failure led to a new challenge.
     pub(crate) synced: bool,
     /// The AKA-Identity packets that were sent, or received and not ignored, each once.
@@ -86,12 +117,12 @@ pub struct Server {
 
 impl Model for Server {
     ghost use Rattle.std.specs.Prelude.{◌≤◌, length};
-    ghost use Rattle.auc_server.specs.InnerServer.{HasNextCounter, IsOwnChallenge, IsOwnContext};
+    ghost use Rattle.auc_server.specs.InnerServer.{IsOwnState};
     ghost use Rattle.auc_server.specs.Server.{ServerEnd};
 
     ghost Value = { ServerEnd };
 
-    ghost view = { λ s. record { options = s.options; state = s.state; id = s.id; last = s.last; identity = s.identity; challenged = s.challenged; resumed = s.resumed; synced = s.synced; packets = s.packets; next_iv = s.next_iv } };
+    ghost view = { λ s. record { options = s.options; state = s.state; id = s.id; last = s.last; identity = s.identity; synced = s.synced; packets = s.packets; next_iv = s.next_iv } };
 
-    ghost invariant = { λ s. (length s.options.name ≤ 255) × IsOwnChallenge s.options.method s.challenged × IsOwnContext s.options.method s.resumed × HasNextCounter s.resumed };
+    ghost invariant = { λ s. (length s.options.name ≤ 255) × IsOwnState s.options.method s.state };
 }

@@ -23,11 +23,14 @@ pub struct Setting<'a> {
 }
 
 impl<'a> Model for Setting<'a> {
+    ghost use Rattle.std.specs.Prelude.{◌≤◌, length};
     ghost use Rattle.auc_server.specs.Setting as specs;
 
     ghost Value = { specs.Setting };
 
     ghost view = { λ set. record { key = set.rands.now; names = set.names.now; rows = set.subs.now; realm = set.realm.now } };
+
+    ghost invariant = { λ set. length set.realm.now ≤ 255 };
 }
 
 /// A subscriber that sessions may be held with.

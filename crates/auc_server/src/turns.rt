@@ -1,22 +1,24 @@
 //! What the rows of a server's table do, but for the challenge.
 
-ghost use Rattle.std.specs.Prelude.{◌≡◌, ◌≤◌, [], length, None, IfOk};
-ghost use Rattle.auc_packet.specs.Spelling.{packet_text};
+ghost use Rattle.std.specs.Prelude.{◌≡◌, ◌≤◌, length, false, IfOk};
 ghost use Rattle.auc_server.specs.Contexts.{homes_won};
-ghost use Rattle.auc_server.specs.InnerRooms.{IsFresh};
+ghost use Rattle.auc_server.specs.InnerServer.{IsOwnState};
 ghost use Rattle.auc_server.specs.Server.{started};
 ghost use Rattle.auc_server.specs.Steps.{bytes_of};
-ghost use Rattle.auc_server.specs.Table.{asked, awaiting, ended, failed, gave_up, identified, ignored, noted, notified, repeated, requested, silent, succeeded, unknown};
+ghost use Rattle.auc_server.specs.Table.{ended, failed, gave_up, identified, ignored, noted, notified, repeated, requested, silent, succeeded, unknown};
+ghost use Rattle.auc_server.specs.declared.server.ServerState.TheVariants as state;
+ghost use Rattle.auc_server.specs.Server.{challenged_of, resumed_of};
+ghost use Rattle.auc_reauth.specs.Store.{method_of};
 
 use crate::contexts::{keep_context, won_context};
-use crate::messages::{aka_identity, message, notification};
+use crate::messages::{message, notification};
 use crate::options::ServerOptions;
-use crate::receiving::Plan;
-use crate::rooms::{RequestRooms, Rooms, message_room};
+use crate::plan::{Heard, Request};
+use crate::rooms::{MessageRoom, RequestRooms, message_room};
 use crate::server::{Challenged, Resumed, Server, ServerState};
 use crate::setting::HomeRow;
 use crate::why::ServerWhy;
-use auc_edge::{NoMemory, Octets, Room};
+use auc_edge::{NoMemory, Octets};
 use auc_packet::Packet;
 use auc_request::IdentityRequest;
 use auc_seal::IdentityPackets;
@@ -36,21 +38,20 @@ pub(crate) fn noted(resync: Option<ResyncNote>, number: Option<NumberNote>) -> N
     }
 }
 
-/// Nothing is noted.
-pub(crate) fn silent() -> Notes
-    ensures { result ≡ silent }
-{
-    noted(None, None)
+/// What a turn tells beside its step: its notes, and whether AT_MAC was right.
+#[derive(Clone, Copy)]
+pub(crate) struct Told {
+    pub(crate) notes: Notes,
+    pub(crate) checked: bool,
 }
 
-/// What is awaited after an identity was asked for.
-fn awaiting(kind: IdentityRequest) -> ServerState
-    ensures { result ≡ awaiting kind }
+/// Nothing is told.
+fn nothing() -> Told
+    ensures { result ≡ record { notes = silent; checked = false } }
 {
-    match kind {
-        IdentityRequest::Any => ServerState::AwaitAny,
-        IdentityRequest::Fullauth => ServerState::AwaitFull,
-        IdentityRequest::Permanent => ServerState::AwaitPermanent,
+    Told {
+        notes: noted(None, None),
+        checked: false,
     }
 }
 
@@ -60,10 +61,11 @@ impl Server {
         ensures step { (self.now, result) ≡ ignored self.now why }
         ensures small { length (bytes_of result.step) ≤ 728 }
     {
+        let Told { notes, checked } = nothing();
         Turn {
-            notes: silent(),
+            notes,
             step: Step::Ignored(why),
-            checked: false,
+            checked,
         }
     }
 
@@ -71,25 +73,22 @@ impl Server {
     pub(crate) fn request(
         &mut self,
         state: ServerState,
-        bytes: Octets,
-        notes: Notes,
-        checked: bool,
-        kept: Room,
+        told: Told,
+        request: Request,
     ) -> Turn<ServerWhy>
-        requires small { length bytes ≤ 728 }
-        requires fresh { IsFresh kept }
-        ensures step { (self.new, result) ≡ requested self.old state bytes notes checked }
+        requires { IsOwnState self.old.options.method state }
+        ensures step { (self.new, result) ≡ requested self.old state request told.notes told.checked }
         ensures small { length (bytes_of result.step) ≤ 728 }
     {
-        let mut kept = kept;
+        let Request { bytes, mut kept } = request;
         kept.put(bytes.as_slice());
         self.state = state;
         self.id = self.id.wrapping_add(1);
         self.last = kept.into_octets();
         Turn {
-            notes,
+            notes: told.notes,
             step: Step::Sent(bytes),
-            checked,
+            checked: told.checked,
         }
     }
 
@@ -97,20 +96,20 @@ impl Server {
     pub(crate) fn notify(
         &mut self,
         why: ServerWhy,
-        notes: Notes,
-        checked: bool,
-        rooms: Rooms,
+        told: Told,
+        rooms: RequestRooms,
     ) -> Turn<ServerWhy>
-        ensures step { (self.new, result) ≡ notified self.old why notes checked }
+        ensures step { (self.new, result) ≡ notified self.old why told.notes told.checked }
         ensures small { length (bytes_of result.step) ≤ 728 }
     {
         let RequestRooms {
             message,
             kept,
             attrs,
-        } = rooms.into_request();
+        } = rooms;
         let bytes = notification(self.options.method, self.id.wrapping_add(1), attrs, message);
-        self.request(ServerState::Notifying(why), bytes, notes, checked, kept)
+        let state = ServerState::Notifying(why, self.state.last());
+        self.request(state, told, Request { bytes, kept })
     }
 
     /// Ends the session.
@@ -124,83 +123,71 @@ impl Server {
         ensures step { (self.new, result) ≡ ended self.old outcome bytes checked }
         ensures small { length (bytes_of result.step) ≤ 728 }
     {
-        self.state = ServerState::Ended(outcome);
+        self.state = ServerState::Ended(outcome, self.state.last());
         Turn {
-            notes: silent(),
+            notes: noted(None, None),
             step: Step::Ended(outcome, bytes),
             checked,
         }
     }
 
     /// Ends the session with EAP-Failure (RFC 3748 §4.2).
-    pub(crate) fn fail(&mut self, why: ServerWhy, rooms: Rooms) -> Turn<ServerWhy>
+    pub(crate) fn fail(&mut self, why: ServerWhy, room: MessageRoom) -> Turn<ServerWhy>
         ensures step { (self.new, result) ≡ failed self.old why }
         ensures small { length (bytes_of result.step) ≤ 728 }
     {
-        let bytes = message(&Packet::Failure(self.id), rooms.into_message());
+        let bytes = message(&Packet::Failure(self.id), room.into_room());
         self.end(Outcome::Failure(why), bytes, false)
     }
 
     /// Ends the session with EAP-Success (RFC 3748 §4.2), and keeps the new context.
-    pub(crate) fn succeed(&mut self, homes: &mut [HomeRow], rooms: Rooms) -> Turn<ServerWhy>
-        ensures step { (self.new, result) ≡ succeeded self.old self.old.challenged }
-        ensures homes { homes.new ≡ homes_won self.old.options.method homes.old self.old.challenged }
+    pub(crate) fn succeed(
+        &mut self,
+        homes: &mut [HomeRow],
+        sent: Challenged,
+        room: MessageRoom,
+    ) -> Turn<ServerWhy>
+        requires own { method_of sent.master ≡ self.old.options.method }
+        ensures step { (self.new, result) ≡ succeeded self.old sent }
+        ensures homes { homes.new ≡ homes_won self.old.options.method homes.old sent }
         ensures small { length (bytes_of result.step) ≤ 728 }
     {
-        let room = rooms.into_message();
-        match self.challenged {
-            None => self.ignore(Reason::Unexpected),
-            Some(sent) => {
-                let bytes = message(&Packet::Success(self.id), room);
-                keep_context(self.options.method, homes, sent.sub, won_context(&sent));
-                self.end(Outcome::Success(sent.keys), bytes, true)
-            }
-        }
+        let bytes = message(&Packet::Success(self.id), room.into_room());
+        keep_context(self.options.method, homes, sent.sub, won_context(&sent));
+        self.end(Outcome::Success(sent.keys), bytes, true)
     }
 
     /// Keeps the identity that was received, and the AKA-Identity packets after this turn.
-    pub(crate) fn identify(&mut self, text: Octets, packets: IdentityPackets)
-        ensures { self.new ≡ identified self.old text packets }
+    pub(crate) fn identify(&mut self, said: Heard)
+        ensures { self.new ≡ identified self.old said.text said.packets }
     {
+        let Heard { text, packets } = said;
         self.identity = text;
         self.packets = packets;
     }
 
     /// Asks for another identity (RFC 4187 §4.1.4).
-    pub(crate) fn ask(&mut self, kind: IdentityRequest, plan: Plan) -> Turn<ServerWhy>
-        ensures step { (self.new, result) ≡ asked self.old plan.text plan.packets kind }
+    pub(crate) fn ask(
+        &mut self,
+        kind: IdentityRequest,
+        said: Heard,
+        request: Request,
+    ) -> Turn<ServerWhy>
+        ensures step { (self.new, result)
+            ≡ requested (identified self.old said.text said.packets) (state.Await kind) request silent false }
         ensures small { length (bytes_of result.step) ≤ 728 }
     {
-        let Plan {
-            text,
-            packets,
-            rooms,
-            ..
-        } = plan;
-        let RequestRooms {
-            message,
-            kept,
-            attrs,
-        } = rooms.into_request();
-        let id = self.id.wrapping_add(1);
-        let bytes = aka_identity(self.options.method, id, kind, attrs, message);
-        self.identify(text, packets);
-        self.request(awaiting(kind), bytes, silent(), false, kept)
+        self.identify(said);
+        self.request(ServerState::Await(kind), nothing(), request)
     }
 
     /// Notifies the peer that its identity is unknown.
-    pub(crate) fn refuse_identity(&mut self, plan: Plan) -> Turn<ServerWhy>
-        ensures step { (self.new, result) ≡ unknown self.old plan.text plan.packets }
+    pub(crate) fn refuse_identity(&mut self, said: Heard, rooms: RequestRooms) -> Turn<ServerWhy>
+        ensures step { (self.new, result) ≡ unknown self.old said.text said.packets }
         ensures small { length (bytes_of result.step) ≤ 728 }
     {
-        let Plan {
-            text,
-            packets,
-            rooms,
-            ..
-        } = plan;
-        self.identify(text, packets);
-        self.notify(ServerWhy::UnknownIdentity, silent(), false, rooms)
+        self.identify(said);
+        self.notify(ServerWhy::UnknownIdentity, nothing(), rooms)
     }
 }
 
@@ -220,13 +207,12 @@ impl Server {
         let bytes = message(&packet, room);
         let last = Octets::copied_from(alloc, bytes.as_slice())?;
         let server = Server {
+            alloc,
             options,
             state: ServerState::AwaitIdentity,
             id: 1,
             last,
             identity: Octets::new(alloc),
-            challenged: None,
-            resumed: None,
             synced: false,
             packets: IdentityPackets::new(alloc),
             next_iv: 0,
@@ -235,26 +221,26 @@ impl Server {
     }
 
     /// Sends the last request again (RFC 3748 §4.1), unless the session has ended.
-    pub fn repeat(&self, alloc: Global) -> Result<Step<ServerWhy>, NoMemory>
+    pub fn repeat(&self) -> Result<Step<ServerWhy>, NoMemory>
         ensures { IfOk result (λ step. step ≡ repeated self.now self.now.state) }
     {
-        if let ServerState::Ended(_) = self.state {
+        if let ServerState::Ended(_, _) = self.state {
             return Ok(Step::Ignored(Reason::Closed));
         }
-        Ok(Step::Sent(Octets::copied_from(alloc, self.last.as_slice())?))
+        Ok(Step::Sent(Octets::copied_from(self.alloc, self.last.as_slice())?))
     }
 
     /// Ends the session in Failure, and sends nothing. If the session has ended before, nothing changes. It takes no
     /// memory.
-    pub fn give_up(&mut self, alloc: Global) -> Step<ServerWhy>
+    pub fn give_up(&mut self) -> Step<ServerWhy>
         ensures { (self.new, result) ≡ gave_up self.old self.old.state }
     {
-        if let ServerState::Ended(_) = self.state {
+        if let ServerState::Ended(_, _) = self.state {
             return Step::Ignored(Reason::Closed);
         }
         let outcome = Outcome::Failure(ServerWhy::GivenUp);
-        self.state = ServerState::Ended(outcome);
-        Step::Ended(outcome, Octets::new(alloc))
+        self.state = ServerState::Ended(outcome, self.state.last());
+        Step::Ended(outcome, Octets::new(self.alloc))
     }
 
     /// What the server was told of its session.
@@ -281,15 +267,15 @@ impl Server {
 
     /// The last challenge, also after the session has ended, or `None` before the first.
     pub fn challenged(&self) -> Option<Challenged>
-        ensures { result ≡ self.now.challenged }
+        ensures { result ≡ challenged_of self.now }
     {
-        self.challenged
+        self.state.last().challenged
     }
 
     /// The re-authentication, also after the session has ended, or `None` if there was none.
     pub fn resumed(&self) -> Option<Resumed>
-        ensures { result ≡ self.now.resumed }
+        ensures { result ≡ resumed_of self.now }
     {
-        self.resumed
+        self.state.last().resumed
     }
 }

@@ -8,39 +8,38 @@ use Rattle.auc_hmac.specs.declared.keys.KeySet.{KeySet}
 use Rattle.auc_lines.specs.declared.part.End.{End}
 use Rattle.auc_lines.specs.declared.part.End.TheVariants as end
 use Rattle.auc_lines.specs.declared.sim.SimDelivery.{SimDelivery}
-use Rattle.auc_sim.specs.Attributes.{first_value, is_value, nonce_of, rands_of, versions_of}
-use Rattle.auc_sim.specs.Keys.{rand_in, sim_key_set}
-use Rattle.auc_sim.specs.Messages.{challenge_request, challenge_response, client_error, start_request, start_response, version_one}
-use Rattle.auc_sim.specs.Packet.{has_values}
 use Rattle.auc_sim.specs.Peer.{SimPeerState, cards, peer_turn, rands_in}
-use Rattle.auc_sim.specs.Received.{IsSimReceived, SimSeen}
-use Rattle.auc_sim.specs.Sealed.{MayBeSealedSim, sealed_packet, sim_sealed}
 use Rattle.auc_sim.specs.Server.{SimServerState, challenged, server_turn}
 use Rattle.auc_sim.specs.Session.{Becomes, DeliversAll, EndsWith, SimInputs, SimNet, Starts, packet_numbered, peer_keys, sent_in, server_keys, with_sent}
 use Rattle.auc_sim.specs.SessionLaws.{AreMatched, EachSessionAgrees}
-use Rattle.auc_sim.specs.Spelling.{MayBeWrittenSim, sim_text}
-use Rattle.auc_sim.specs.declared.attr.SimAttr.{SimAttr}
 use Rattle.auc_sim.specs.declared.note.SimBecame.{SimBecame}
 use Rattle.auc_sim.specs.declared.note.SimNote.{SimNote}
 use Rattle.auc_sim.specs.declared.note.SimNote.TheVariants as note
-use Rattle.auc_sim.specs.declared.packet.SimPacket.{SimPacket}
-use Rattle.auc_sim.specs.declared.packet.SimPacket.TheVariants as packet
 use Rattle.auc_sim.specs.declared.peer.SimLast.{SimLast}
 use Rattle.auc_sim.specs.declared.peer.SimWait.{SimWait}
 use Rattle.auc_sim.specs.declared.peer.SimWait.TheVariants as wait
-use Rattle.auc_sim.specs.declared.sealing.SimDraft.{SimDraft}
 use Rattle.auc_sim.specs.declared.server.SimAwait.{SimAwait}
 use Rattle.auc_sim.specs.declared.server.SimAwait.TheVariants as await
 use Rattle.auc_sim.specs.declared.why.SimWhy.{SimWhy}
+use Rattle.auc_sim_packet.specs.Attributes.{first_value, is_value, nonce_of, rands_of, versions_of}
+use Rattle.auc_sim_packet.specs.Keys.{rand_in, sim_key_set}
+use Rattle.auc_sim_packet.specs.Messages.{challenge_request, challenge_response, client_error, start_request, start_response, version_one}
+use Rattle.auc_sim_packet.specs.Packet.{has_values}
+use Rattle.auc_sim_packet.specs.Received.{IsSimReceived, SimSeen}
+use Rattle.auc_sim_packet.specs.Sealed.{MayBeSealedSim, sealed_packet, sim_sealed}
+use Rattle.auc_sim_packet.specs.Spelling.{MayBeWrittenSim, sim_text}
+use Rattle.auc_sim_packet.specs.declared.attr.SimAttr.{SimAttr}
+use Rattle.auc_sim_packet.specs.declared.packet.SimPacket.{SimPacket}
+use Rattle.auc_sim_packet.specs.declared.packet.SimPacket.TheVariants as packet
+use Rattle.auc_sim_packet.specs.declared.sealing.SimDraft.{SimDraft}
 use Rattle.auc_vector.specs.declared.turn.Outcome.{Outcome}
 use Rattle.auc_vector.specs.declared.turn.Outcome.TheVariants as outcome
 use Rattle.auc_vector.specs.declared.turn.Step.{Step}
 use Rattle.auc_vector.specs.declared.turn.Step.TheVariants as step
 use Rattle.auc_sim.proofs.CardLemmas.{cards_are}
 use Rattle.auc_sim.proofs.CaseLemmas.{peer_case, server_case}
-use Rattle.auc_sim.proofs.ReceivedLemmas.{written_is_received}
-use Rattle.auc_sim.proofs.SealedLemmas.{sealed_is_read}
 use Rattle.auc_sim.proofs.SentLemmas.{success_may, failure_may, start_request_may, start_response_may, client_error_may, challenge_request_may, challenge_response_may}
+use Rattle.auc_sim_packet.proofs.Facts.{sealed_is_read, written_is_received}
 
 -- ---- packets of the session
 

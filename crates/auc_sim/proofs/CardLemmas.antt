@@ -4,12 +4,12 @@ use Rattle.std.proofs.lemmas.List.{take_at, drop_at}
 use Rattle.std.proofs.lemmas.List.Elements.{All-head, All-tail}
 use Rattle.auc_hmac.specs.Piece.{piece}
 use Rattle.auc_milenage.specs.declared.secret.Secret.{Secret}
-use Rattle.auc_sim.specs.Keys.{rand_in}
 use Rattle.auc_sim.specs.Peer.{cards, rands_in}
 use Rattle.auc_sim.specs.Session.{SimInputs}
 use Rattle.auc_sim.specs.SessionLaws.{AreMatched}
 use Rattle.auc_sim.specs.Triplets.{card_of}
-use Rattle.auc_sim.specs.declared.parts.Triplet.{Triplet}
+use Rattle.auc_sim_packet.specs.Keys.{rand_in}
+use Rattle.auc_sim_packet.specs.declared.parts.Triplet.{Triplet}
 
 abbrev HasRand : Triplet → Type 0
 HasRand t = length t.rand ≡ 16

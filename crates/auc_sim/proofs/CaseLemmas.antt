@@ -2,18 +2,10 @@
 use Rattle.std.proofs.Common.{◌≡◌, ℕ, ◌<◌, Bool, true, false, not, nat_lt, if◌then◌else◌, ◌==◌, List, Option, Some, None, arith, refl}
 use Rattle.std.specs.Str.{bytes_eq}
 use Rattle.auc_hmac.specs.declared.keys.KeySet.{KeySet}
-use Rattle.auc_sim.specs.Attributes.{code_of, first_value, has, identity_of, nonce_of, rands_of, selected_of, versions_of}
-use Rattle.auc_sim.specs.Keys.{all_sres, sim_key_set}
-use Rattle.auc_sim.specs.Messages.{CHALLENGE, CLIENT_ERROR, START, response_bytes, start_response}
 use Rattle.auc_sim.specs.Peer as peer
 use Rattle.auc_sim.specs.Peer.{SimPeerState, peer_turn}
-use Rattle.auc_sim.specs.Received.{SimSeen, is_sim_sealed}
 use Rattle.auc_sim.specs.Server as server
 use Rattle.auc_sim.specs.Server.{SimServerState, left_of, server_turn}
-use Rattle.auc_sim.specs.Spelling.{sim_text}
-use Rattle.auc_sim.specs.declared.attr.SimAttr.{SimAttr}
-use Rattle.auc_sim.specs.declared.packet.SimPacket.{SimPacket}
-use Rattle.auc_sim.specs.declared.packet.SimPacket.TheVariants as packet
 use Rattle.auc_sim.specs.declared.peer.SimLast.{SimLast}
 use Rattle.auc_sim.specs.declared.peer.SimWait.{SimWait}
 use Rattle.auc_sim.specs.declared.peer.SimWait.TheVariants as wait
@@ -21,6 +13,14 @@ use Rattle.auc_sim.specs.declared.server.SimAwait.{SimAwait}
 use Rattle.auc_sim.specs.declared.server.SimAwait.TheVariants as await
 use Rattle.auc_sim.specs.declared.why.SimWhy.{SimWhy}
 use Rattle.auc_sim.specs.declared.why.SimWhy.TheVariants as why
+use Rattle.auc_sim_packet.specs.Attributes.{code_of, first_value, has, identity_of, nonce_of, rands_of, selected_of, versions_of}
+use Rattle.auc_sim_packet.specs.Keys.{all_sres, sim_key_set}
+use Rattle.auc_sim_packet.specs.Messages.{CHALLENGE, CLIENT_ERROR, START, response_bytes, start_response}
+use Rattle.auc_sim_packet.specs.Received.{SimSeen, is_sim_sealed}
+use Rattle.auc_sim_packet.specs.Spelling.{sim_text}
+use Rattle.auc_sim_packet.specs.declared.attr.SimAttr.{SimAttr}
+use Rattle.auc_sim_packet.specs.declared.packet.SimPacket.{SimPacket}
+use Rattle.auc_sim_packet.specs.declared.packet.SimPacket.TheVariants as packet
 use Rattle.auc_vector.specs.declared.turn.Outcome.TheVariants as outcome
 use Rattle.auc_vector.specs.declared.turn.Reason.{Reason}
 use Rattle.auc_vector.specs.declared.turn.Reason.TheVariants as reason

@@ -9,34 +9,33 @@ use Rattle.auc_lines.specs.declared.part.End.{End}
 use Rattle.auc_lines.specs.declared.part.End.TheVariants as end
 use Rattle.auc_lines.specs.declared.sim.SimDelivery.{SimDelivery}
 use Rattle.auc_lines.specs.declared.sim.SimSchedule.TheVariants.{Plain}
-use Rattle.auc_sim.specs.Keys.{all_sres, rand_in}
-use Rattle.auc_sim.specs.Messages.{challenge_request, challenge_response, request_bytes, response_bytes, start_request, start_response, version_one}
 use Rattle.auc_sim.specs.Peer as peer
 use Rattle.auc_sim.specs.Peer.{SimPeerState, cards, has_equal, new_peer, peer_turn, rands_in}
-use Rattle.auc_sim.specs.Received.{IsSimReceived, SimSeen, is_sim_sealed}
-use Rattle.auc_sim.specs.Sealed.{sealed_packet}
 use Rattle.auc_sim.specs.Server as server
 use Rattle.auc_sim.specs.Server.{SimServerState, new_server, server_turn}
 use Rattle.auc_sim.specs.Session.{Alternates, Becomes, Delivers, DeliversAll, EndsWith, Receives, SimInputs, SimNet, SimRuns, Starts, made_in, number_sent, other, packet_numbered, peer_keys, sent_in, server_keys, with_sent}
 use Rattle.auc_sim.specs.SessionLaws.{AreMatched, EachPlainSessionSucceeds, Succeeds}
-use Rattle.auc_sim.specs.Spelling.{sim_text}
 use Rattle.auc_sim.specs.declared.note.SimBecame.{SimBecame}
 use Rattle.auc_sim.specs.declared.note.SimBecame.TheVariants.{Did}
 use Rattle.auc_sim.specs.declared.note.SimNote.{SimNote}
 use Rattle.auc_sim.specs.declared.note.SimNote.TheVariants as note
-use Rattle.auc_sim.specs.declared.packet.SimPacket.TheVariants as packet
 use Rattle.auc_sim.specs.declared.peer.SimWait.TheVariants as wait
 use Rattle.auc_sim.specs.declared.server.SimAwait.TheVariants as await
 use Rattle.auc_sim.specs.declared.why.SimWhy.{SimWhy}
 use Rattle.auc_sim.specs.declared.why.SimWhy.TheVariants as why
+use Rattle.auc_sim_packet.specs.Keys.{all_sres, rand_in}
+use Rattle.auc_sim_packet.specs.Messages.{challenge_request, challenge_response, request_bytes, response_bytes, start_request, start_response, version_one}
+use Rattle.auc_sim_packet.specs.Received.{IsSimReceived, SimSeen, is_sim_sealed}
+use Rattle.auc_sim_packet.specs.Sealed.{sealed_packet}
+use Rattle.auc_sim_packet.specs.Spelling.{sim_text}
+use Rattle.auc_sim_packet.specs.declared.packet.SimPacket.TheVariants as packet
 use Rattle.auc_vector.specs.declared.turn.Outcome.TheVariants as outcome
 use Rattle.auc_vector.specs.declared.turn.Step.{Step}
 use Rattle.auc_vector.specs.declared.turn.Step.TheVariants as step
 use Rattle.auc_sim.proofs.AgreementLemmas.{session_keys}
 use Rattle.auc_sim.proofs.CardLemmas.{cards_of_rands, rands_are}
-use Rattle.auc_sim.proofs.ReceivedLemmas.{written_is_received}
-use Rattle.auc_sim.proofs.SealedLemmas.{sealed_is_read, sealed_is_right}
 use Rattle.auc_sim.proofs.SentLemmas.{success_may, start_request_may, start_response_may, challenge_request_may, challenge_response_may}
+use Rattle.auc_sim_packet.proofs.Facts.{sealed_is_read, sealed_is_right, written_is_received}
 
 -- ---- RANDs that differ
 

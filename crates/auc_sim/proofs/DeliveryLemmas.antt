@@ -7,7 +7,6 @@ use Rattle.auc_lines.specs.declared.part.End.TheVariants as end
 use Rattle.auc_lines.specs.declared.sim.SimDelivery.{SimDelivery}
 use Rattle.auc_lines.specs.declared.sim.SimSchedule.TheVariants.{Plain, Steps}
 use Rattle.auc_sim.specs.EndLaws.{sends}
-use Rattle.auc_sim.specs.Received.{SimSeen}
 use Rattle.auc_sim.specs.Server.{SimServerState, left_of, server_turn}
 use Rattle.auc_sim.specs.Session.{Alternates, Becomes, Delivers, DeliversAll, EndTurns, SimNet, made_in, number_sent, other, packet_numbered, sent_in, with_sent}
 use Rattle.auc_sim.specs.SessionParts.{Follows, Tells}
@@ -17,6 +16,7 @@ use Rattle.auc_sim.specs.declared.note.SimNote.TheVariants as note
 use Rattle.auc_sim.specs.declared.server.SimAwait.{SimAwait}
 use Rattle.auc_sim.specs.declared.server.SimAwait.TheVariants as await
 use Rattle.auc_sim.specs.declared.why.SimWhy.{SimWhy}
+use Rattle.auc_sim_packet.specs.Received.{SimSeen}
 use Rattle.auc_vector.specs.declared.turn.Step.{Step}
 use Rattle.auc_vector.specs.declared.turn.Step.TheVariants as step
 use Rattle.auc_sim.proofs.FewerLemmas.{turn_fewer}

@@ -1,19 +1,19 @@
 -- A server that sends bytes may send fewer packets from then on.
 use Rattle.std.proofs.Common.{◌≡◌, ℕ, ◌==◌, ◌<◌, Bool, true, false, cond, not, List, Option, Some, None, refl, subst, arith}
 use Rattle.auc_hmac.specs.declared.keys.KeySet.{KeySet}
-use Rattle.auc_sim.specs.Attributes.{code_of, first_value, has, identity_of, nonce_of, selected_of}
 use Rattle.auc_sim.specs.EndLaws.{sends}
-use Rattle.auc_sim.specs.Keys.{all_sres, sim_key_set}
-use Rattle.auc_sim.specs.Messages.{CHALLENGE, CLIENT_ERROR, START, version_one}
-use Rattle.auc_sim.specs.Received.{SimSeen, is_sim_sealed}
 use Rattle.auc_sim.specs.Server.{SimServerState, challenging, current_id, ended, ignored, left_of, on_awaited, on_challenge, on_code, on_packet, on_parts, on_response, server_turn, turn_at}
-use Rattle.auc_sim.specs.declared.attr.SimAttr.{SimAttr}
-use Rattle.auc_sim.specs.declared.packet.SimPacket.{SimPacket}
-use Rattle.auc_sim.specs.declared.packet.SimPacket.TheVariants as packet
 use Rattle.auc_sim.specs.declared.server.SimAwait.{SimAwait}
 use Rattle.auc_sim.specs.declared.server.SimAwait.TheVariants as await
 use Rattle.auc_sim.specs.declared.why.SimWhy.{SimWhy}
 use Rattle.auc_sim.specs.declared.why.SimWhy.TheVariants as why
+use Rattle.auc_sim_packet.specs.Attributes.{code_of, first_value, has, identity_of, nonce_of, selected_of}
+use Rattle.auc_sim_packet.specs.Keys.{all_sres, sim_key_set}
+use Rattle.auc_sim_packet.specs.Messages.{CHALLENGE, CLIENT_ERROR, START, version_one}
+use Rattle.auc_sim_packet.specs.Received.{SimSeen, is_sim_sealed}
+use Rattle.auc_sim_packet.specs.declared.attr.SimAttr.{SimAttr}
+use Rattle.auc_sim_packet.specs.declared.packet.SimPacket.{SimPacket}
+use Rattle.auc_sim_packet.specs.declared.packet.SimPacket.TheVariants as packet
 use Rattle.auc_vector.specs.declared.turn.Outcome.{Outcome}
 use Rattle.auc_vector.specs.declared.turn.Outcome.TheVariants as outcome
 use Rattle.auc_vector.specs.declared.turn.Reason.{Reason}

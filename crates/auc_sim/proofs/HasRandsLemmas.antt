@@ -1,12 +1,12 @@
 -- The RANDs of a packet that is read are two or more.
 use Rattle.std.proofs.Common.{◌≡◌, ℕ, ◌≤◌, List, length, Option, Some, None, IfSome, inl, inr, refl, subst, arith}
-use Rattle.auc_sim.proofs.FoundLemmas.{AreRands, rands_read}
-use Rattle.auc_sim.specs.Attributes.{first_value, rands_of}
 use Rattle.auc_sim.specs.InnerPeer.{HasRands}
-use Rattle.auc_sim.specs.Packet.{ReadsSim}
-use Rattle.auc_sim.specs.Received.{IsSimReading, IsSimReceived, SimSeen}
-use Rattle.auc_sim.specs.declared.packet.SimPacket.{SimPacket}
-use Rattle.auc_sim.specs.declared.packet.SimPacket.TheVariants as packet
+use Rattle.auc_sim_packet.specs.Attributes.{first_value, rands_of}
+use Rattle.auc_sim_packet.specs.Packet.{ReadsSim}
+use Rattle.auc_sim_packet.specs.Received.{IsSimReading, IsSimReceived, SimSeen}
+use Rattle.auc_sim_packet.specs.declared.packet.SimPacket.{SimPacket}
+use Rattle.auc_sim_packet.specs.declared.packet.SimPacket.TheVariants as packet
+use Rattle.auc_sim_packet.proofs.Facts.{AreRands, rands_read}
 
 long : (v : List ℕ) → AreRands v → 32 ≤ length v
 long v (inl e) = omega (arith, e)

@@ -16,7 +16,7 @@ use Rattle.auc_sim.specs.declared.note.SimNote.{SimNote}
 use Rattle.auc_sim.specs.declared.note.SimNote.TheVariants as note
 use Rattle.auc_sim.specs.declared.why.SimWhy.{SimWhy}
 use Rattle.auc_vector.specs.declared.turn.Step.{Step}
-use Rattle.auc_sim.proofs.ReceivedLemmas.{one_received}
+use Rattle.auc_sim_packet.proofs.Facts.{one_received}
 
 -- ---- a turn
 

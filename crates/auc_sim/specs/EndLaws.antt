@@ -1,8 +1,8 @@
 -- What holds of every server, over all that it receives.
 use Rattle.std.specs.Prelude.{◌≡◌, ◌<◌, Bool, true, false}
-use Rattle.auc_sim.specs.Received.{SimSeen}
 use Rattle.auc_sim.specs.Server.{SimServerState, left_of, server_turn}
 use Rattle.auc_sim.specs.declared.why.SimWhy.{SimWhy}
+use Rattle.auc_sim_packet.specs.Received.{SimSeen}
 use Rattle.auc_vector.specs.declared.turn.Step.{Step}
 use Rattle.auc_vector.specs.declared.turn.Step.TheVariants as step
 

@@ -1,22 +1,22 @@
 -- Inner facts: what only private contracts of this crate cite. What each row of a peer does.
 use Rattle.std.specs.Prelude.{◌≤◌, ℕ, List, length, Some, IfSome}
 use Rattle.auc_hmac.specs.declared.keys.KeySet.{KeySet}
-use Rattle.auc_sim.specs.Attributes.{first_value, rands_of}
 use Rattle.auc_sim.specs.InnerSeveral.{listed}
-use Rattle.auc_sim.specs.Messages.{response_bytes, start_response}
 use Rattle.auc_sim.specs.Peer.{SimPeerState, answered, ended, ignored, refused}
-use Rattle.auc_sim.specs.Received.{SimSeen}
-use Rattle.auc_sim.specs.Spelling.{sim_text}
-use Rattle.auc_sim.specs.declared.attr.SimAttr.{SimAttr}
-use Rattle.auc_sim.specs.declared.packet.SimPacket.{SimPacket}
-use Rattle.auc_sim.specs.declared.packet.SimPacket.TheVariants as packet
-use Rattle.auc_sim.specs.declared.parts.Triplet.{Triplet}
 use Rattle.auc_sim.specs.declared.peer.SimLast.{SimLast}
 use Rattle.auc_sim.specs.declared.peer.SimWait.{SimWait}
 use Rattle.auc_sim.specs.declared.peer.SimWait.TheVariants as wait
 use Rattle.auc_sim.specs.declared.rows.Row.{Row}
 use Rattle.auc_sim.specs.declared.rows.Row.TheVariants as row
 use Rattle.auc_sim.specs.declared.why.SimWhy.{SimWhy}
+use Rattle.auc_sim_packet.specs.Attributes.{first_value, rands_of}
+use Rattle.auc_sim_packet.specs.Messages.{response_bytes, start_response}
+use Rattle.auc_sim_packet.specs.Received.{SimSeen}
+use Rattle.auc_sim_packet.specs.Spelling.{sim_text}
+use Rattle.auc_sim_packet.specs.declared.attr.SimAttr.{SimAttr}
+use Rattle.auc_sim_packet.specs.declared.packet.SimPacket.{SimPacket}
+use Rattle.auc_sim_packet.specs.declared.packet.SimPacket.TheVariants as packet
+use Rattle.auc_sim_packet.specs.declared.parts.Triplet.{Triplet}
 use Rattle.auc_vector.specs.declared.turn.Reason.TheVariants as reason
 use Rattle.auc_vector.specs.declared.turn.Step.{Step}
 use Rattle.auc_vector.specs.declared.turn.Step.TheVariants as step

@@ -5,21 +5,21 @@ use Rattle.std.specs.Str.{bytes_eq}
 use Rattle.auc_hmac.specs.Piece.{piece}
 use Rattle.auc_hmac.specs.declared.keys.KeySet.{KeySet}
 use Rattle.auc_milenage.specs.declared.secret.Secret.{Secret}
-use Rattle.auc_sim.specs.Attributes.{first_value, has, rands_of, versions_of}
-use Rattle.auc_sim.specs.Keys.{sim_key_set}
-use Rattle.auc_sim.specs.Messages.{CHALLENGE, START, client_error, response_bytes, start_response}
-use Rattle.auc_sim.specs.Received.{IsSimReceived, SimSeen, is_sim_sealed}
-use Rattle.auc_sim.specs.Spelling.{sim_text}
 use Rattle.auc_sim.specs.Triplets.{card_of}
-use Rattle.auc_sim.specs.declared.attr.SimAttr.{SimAttr}
-use Rattle.auc_sim.specs.declared.packet.SimPacket.{SimPacket}
-use Rattle.auc_sim.specs.declared.packet.SimPacket.TheVariants as packet
 use Rattle.auc_sim.specs.declared.peer.SimLast.{SimLast}
 use Rattle.auc_sim.specs.declared.peer.SimWait.{SimWait}
 use Rattle.auc_sim.specs.declared.peer.SimWait.TheVariants as wait
-use Rattle.auc_sim.specs.declared.parts.Triplet.{Triplet}
 use Rattle.auc_sim.specs.declared.why.SimWhy.{SimWhy}
 use Rattle.auc_sim.specs.declared.why.SimWhy.TheVariants as why
+use Rattle.auc_sim_packet.specs.Attributes.{first_value, has, rands_of, versions_of}
+use Rattle.auc_sim_packet.specs.Keys.{sim_key_set}
+use Rattle.auc_sim_packet.specs.Messages.{CHALLENGE, START, client_error, response_bytes, start_response}
+use Rattle.auc_sim_packet.specs.Received.{IsSimReceived, SimSeen, is_sim_sealed}
+use Rattle.auc_sim_packet.specs.Spelling.{sim_text}
+use Rattle.auc_sim_packet.specs.declared.attr.SimAttr.{SimAttr}
+use Rattle.auc_sim_packet.specs.declared.packet.SimPacket.{SimPacket}
+use Rattle.auc_sim_packet.specs.declared.packet.SimPacket.TheVariants as packet
+use Rattle.auc_sim_packet.specs.declared.parts.Triplet.{Triplet}
 use Rattle.auc_vector.specs.declared.turn.Outcome.{Outcome}
 use Rattle.auc_vector.specs.declared.turn.Outcome.TheVariants as outcome
 use Rattle.auc_vector.specs.declared.turn.Reason.{Reason}

@@ -1,19 +1,19 @@
 -- The server of a session (RFC 4186 §3 and §4): its states, and what it does with what it receives.
 use Rattle.std.specs.Prelude.{◌≡◌, ℕ, ◌==◌, false, not, if◌then◌else◌, List, Option, Some, None}
 use Rattle.auc_hmac.specs.declared.keys.KeySet.{KeySet}
-use Rattle.auc_sim.specs.Attributes.{code_of, first_value, has, identity_of, nonce_of, selected_of}
-use Rattle.auc_sim.specs.Keys.{all_sres, sim_key_set}
-use Rattle.auc_sim.specs.Messages.{CHALLENGE, CLIENT_ERROR, START, request_bytes, version_one}
-use Rattle.auc_sim.specs.Received.{IsSimReceived, SimSeen, is_sim_sealed}
-use Rattle.auc_sim.specs.Spelling.{sim_text}
-use Rattle.auc_sim.specs.declared.attr.SimAttr.{SimAttr}
-use Rattle.auc_sim.specs.declared.packet.SimPacket.{SimPacket}
-use Rattle.auc_sim.specs.declared.packet.SimPacket.TheVariants as packet
 use Rattle.auc_sim.specs.declared.server.SimAwait.{SimAwait}
 use Rattle.auc_sim.specs.declared.server.SimAwait.TheVariants as await
-use Rattle.auc_sim.specs.declared.parts.Triplet.{Triplet}
 use Rattle.auc_sim.specs.declared.why.SimWhy.{SimWhy}
 use Rattle.auc_sim.specs.declared.why.SimWhy.TheVariants as why
+use Rattle.auc_sim_packet.specs.Attributes.{code_of, first_value, has, identity_of, nonce_of, selected_of}
+use Rattle.auc_sim_packet.specs.Keys.{all_sres, sim_key_set}
+use Rattle.auc_sim_packet.specs.Messages.{CHALLENGE, CLIENT_ERROR, START, request_bytes, version_one}
+use Rattle.auc_sim_packet.specs.Received.{IsSimReceived, SimSeen, is_sim_sealed}
+use Rattle.auc_sim_packet.specs.Spelling.{sim_text}
+use Rattle.auc_sim_packet.specs.declared.attr.SimAttr.{SimAttr}
+use Rattle.auc_sim_packet.specs.declared.packet.SimPacket.{SimPacket}
+use Rattle.auc_sim_packet.specs.declared.packet.SimPacket.TheVariants as packet
+use Rattle.auc_sim_packet.specs.declared.parts.Triplet.{Triplet}
 use Rattle.auc_vector.specs.declared.turn.Outcome.{Outcome}
 use Rattle.auc_vector.specs.declared.turn.Outcome.TheVariants as outcome
 use Rattle.auc_vector.specs.declared.turn.Reason.{Reason}

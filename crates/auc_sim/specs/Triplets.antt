@@ -5,7 +5,7 @@ use Rattle.auc_hmac.specs.Piece.{piece}
 use Rattle.auc_milenage.specs.Milenage.{f2, f3, f4}
 use Rattle.auc_milenage.specs.declared.secret.Secret.{Secret}
 use Rattle.auc_vector.specs.declared.parts.Vector.{Vector}
-use Rattle.auc_sim.specs.declared.parts.Triplet.{Triplet}
+use Rattle.auc_sim_packet.specs.declared.parts.Triplet.{Triplet}
 
 -- the exclusive or of the halves of 16 bytes
 abbrev pub halves : List ℕ → List ℕ

@@ -4,7 +4,6 @@ ghost use Rattle.std.specs.Prelude.{◌≡◌, ◌<◌, ◌≤◌, ◌+◌, ◌^
 ghost use Rattle.auc_sim.specs.Session.{number_sent, packet_numbered, sent_in, with_sent};
 
 use crate::note::SimBecame;
-use crate::parts::Triplet;
 use crate::peer::{SimPeer, SimWait};
 use crate::server::{SimAwait, SimServer};
 use crate::why::SimWhy;
@@ -12,6 +11,7 @@ use auc_edge::{Items, NoMemory, Octets};
 use auc_hmac::KeySet;
 use auc_lines::{End, SimDelivery};
 use auc_milenage::Secret;
+use auc_sim_packet::Triplet;
 use auc_vector::{Outcome, Step};
 use std::alloc::Global;
 use std::marker::Model;

@@ -4,17 +4,17 @@ ghost use Rattle.std.specs.Prelude.{◌≡◌, ◌≤◌, length, IfOk, OnErr};
 ghost use Rattle.auc_sim.specs.InnerPeer.{HasRands, kept_with, responded, row_does, started};
 ghost use Rattle.auc_sim.specs.InnerSeveral.{listed};
 ghost use Rattle.auc_sim.specs.Peer.{PeerTurns, ended, last_of, new_peer, peer_turn, refused, unless_repeated};
-ghost use Rattle.auc_sim.specs.Received.{IsSimReceived, sim_seen_of};
+ghost use Rattle.auc_sim_packet.specs.Received.{IsSimReceived, sim_seen_of};
 
-use crate::messages::{challenge_response, client_error, start_response};
-use crate::packet::SimPacket;
-use crate::received::{SimReceived, receive_sim};
 use crate::rows::{Row, row_of};
 use crate::several::Several;
 use crate::why::SimWhy;
 use auc_edge::{NoMemory, Octets};
 use auc_hmac::KeySet;
 use auc_milenage::Secret;
+use auc_sim_packet::{
+    SimPacket, SimReceived, challenge_response, client_error, receive_sim, start_response,
+};
 use auc_vector::{Outcome, Reason, Step};
 use std::alloc::Global;
 use std::marker::Model;

@@ -4,18 +4,15 @@ ghost use Rattle.std.specs.Prelude.{◌≡◌, ◌≤◌, length};
 ghost use Rattle.std.specs.Option.{option_copied};
 ghost use Rattle.auc_sim.specs.InnerPeer.{HasRands, HasRandsIn, row_does};
 ghost use Rattle.auc_sim.specs.Peer.{SimPeerState, is_last, offers_one, on_challenge, on_failure, on_packet, on_rands, on_request, on_success, on_versions, rands_in};
-ghost use Rattle.auc_sim.specs.Received.{IsSimReceived, SimSeen, sim_seen_of};
+ghost use Rattle.auc_sim_packet.specs.Received.{IsSimReceived, SimSeen, sim_seen_of};
 
-use crate::attr_list::SimList;
-use crate::keys::sim_keys;
-use crate::mac::has_mac;
-use crate::packet::SimPacket;
 use crate::peer::{SimLast, SimPeer, SimWait};
-use crate::received::{SimReceived, is_sim_sealed};
 use crate::several::{Several, cards, has_equal};
-use crate::values::{rands_in, versions_in};
 use crate::why::SimWhy;
 use auc_hmac::KeySet;
+use auc_sim_packet::{
+    SimList, SimPacket, SimReceived, has_mac, is_sim_sealed, rands_in, sim_keys, versions_in,
+};
 use auc_vector::Outcome;
 
 /// What a packet that isn't repeated comes to.

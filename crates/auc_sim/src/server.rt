@@ -2,23 +2,20 @@
 
 ghost use Rattle.std.specs.Prelude.{◌≡◌, ◌≤◌, length, IfOk, OnErr};
 ghost use Rattle.std.specs.Option.{option_copied};
-ghost use Rattle.auc_sim.specs.Messages.{start_request};
-ghost use Rattle.auc_sim.specs.Received.{IsSimReceived, sim_seen_of};
 ghost use Rattle.auc_sim.specs.Server.{ServerTurns, challenged, current_id, ended, new_server, on_challenge, on_code, on_parts, on_response, server_turn};
-ghost use Rattle.auc_sim.specs.Spelling.{sim_text};
+ghost use Rattle.auc_sim_packet.specs.Messages.{start_request};
+ghost use Rattle.auc_sim_packet.specs.Received.{IsSimReceived, sim_seen_of};
+ghost use Rattle.auc_sim_packet.specs.Spelling.{sim_text};
 
-use crate::attr_list::SimList;
-use crate::keys::sim_keys;
-use crate::mac::has_mac;
-use crate::messages::{challenge_request, start_request, written};
-use crate::packet::SimPacket;
-use crate::parts::Triplet;
-use crate::received::{SimReceived, is_sim_sealed, receive_sim};
-use crate::several::{Several, all_sres};
-use crate::values::{code_in, identity_in, nonce_in, selected_in};
+use crate::several::Several;
 use crate::why::SimWhy;
 use auc_edge::{NoMemory, Octets};
 use auc_hmac::KeySet;
+use auc_sim_packet::{
+    SimList, SimPacket, SimReceived, Triplet, all_sres, challenge_request, code_in, has_mac,
+    identity_in, is_sim_sealed, nonce_in, receive_sim, selected_in, sim_keys, start_request,
+    write_sim,
+};
 use auc_vector::{Outcome, Reason, Step};
 use std::alloc::Global;
 use std::marker::Model;
@@ -229,7 +226,8 @@ impl SimServer {
             Outcome::Success(_) => SimPacket::Success(self.current_id()),
             Outcome::Failure(_) => SimPacket::Failure(self.current_id()),
         };
-        let bytes = written(alloc, &packet)?;
+        let mut bytes = Octets::new(alloc);
+        write_sim(&packet, &mut bytes)?;
         self.at = SimAwait::Ended(outcome);
         Ok(Step::Ended(outcome, bytes))
     }

@@ -1,14 +1,13 @@
 //! The triplets of a Challenge, and the RANDs that a peer makes them of.
 
-ghost use Rattle.std.specs.Prelude.{◌≡◌, ◌≤◌, ◌*◌, length, flat_map, take};
+ghost use Rattle.std.specs.Prelude.{◌≡◌, ◌≤◌, length};
 ghost use Rattle.auc_sim.specs.InnerSeveral.{listed};
-ghost use Rattle.auc_sim.specs.Keys.{rand_in, sres_in};
 ghost use Rattle.auc_sim.specs.Peer.{cards, has_equal, rands_in};
 
-use crate::parts::Triplet;
 use crate::triplets::card;
 use auc_hmac::piece_of;
 use auc_milenage::Secret;
+use auc_sim_packet::Triplet;
 
 /// Two or three triplets.
 #[derive(Clone, Copy)]
@@ -75,29 +74,4 @@ pub(crate) fn has_equal(rands: &[u8]) -> bool
         return second == first || third == first || third == second;
     }
     second == first
-}
-
-/// The RANDs of two or three triplets, one after another: 16 bytes of each, and then bytes that don't count.
-pub(crate) fn all_rands(triplets: &[Triplet]) -> [u8; 48]
-    requires { length triplets.now ≤ 3 }
-    ensures rands { take (16 * length triplets.now) result ≡ flat_map rand_in triplets.now }
-    ensures size { length (flat_map rand_in triplets.now) ≡ 16 * length triplets.now }
-{
-    let mut out = [0; 48];
-    for i in 0..triplets.len() {
-        out[16 * i..16 * i + 16].copy_from_slice(&triplets[i].rand);
-    }
-    out
-}
-
-/// The SRES values of two or three triplets, one after another: 4 bytes of each, and then bytes that don't count.
-pub(crate) fn all_sres(triplets: &[Triplet]) -> [u8; 12]
-    requires { length triplets.now ≤ 3 }
-    ensures { take (4 * length triplets.now) result ≡ flat_map sres_in triplets.now }
-{
-    let mut out = [0; 12];
-    for i in 0..triplets.len() {
-        out[4 * i..4 * i + 4].copy_from_slice(&triplets[i].sres);
-    }
-    out
 }

@@ -4,10 +4,10 @@ ghost use Rattle.std.specs.Prelude.{◌≡◌};
 ghost use Rattle.auc_milenage.specs.Milenage.{f2, f3, f4};
 ghost use Rattle.auc_sim.specs.Triplets.{halves, of_vector, triplet_of};
 
-use crate::parts::Triplet;
 use auc_aes::xor;
 use auc_hmac::piece_of;
 use auc_milenage::{Four, Secret, f2345};
+use auc_sim_packet::Triplet;
 use auc_vector::Vector;
 
 /// The triplet of an authentication vector (TS 33.102 §6.8.1.2).

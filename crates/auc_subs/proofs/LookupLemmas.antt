@@ -1,5 +1,5 @@
 -- How the map of the rows follows their list, for `Subscribers`.
-use Rattle.std.proofs.Common.{◌≡◌, ◌<◌, ◌==◌, ◌&&◌, Bool, false, List, [], ◌∷◌, ◌++◌, length, map, Option, Some, None, is_some, refl, sym, ap, ◌∙◌, arith}
+use Rattle.std.proofs.Common.{◌≡◌, ◌<◌, false, List, [], ◌∷◌, ◌++◌, length, map, Option, Some, None, is_some, refl, sym, ap, ◌∙◌, arith}
 use Rattle.std.specs.List.{position, position_or_len}
 use Rattle.std.specs.Map.{keys_of, values_of, lookup}
 use Rattle.std.proofs.lemmas.Bool.Decides.{nat_tests}
@@ -7,15 +7,12 @@ use Rattle.std.proofs.lemmas.List.{length-map, map-append}
 use Rattle.indexmap.specs.IndexMap.{insert_entry}
 use Rattle.indexmap.proofs.MapLemmas.{absent_from_lookup, insert_entry-absent, some_index}
 use Rattle.auc_edge.specs.Identity.{Identity}
+use Rattle.auc_edge.specs.IdentityKey.{is_key, key_of}
+use Rattle.auc_edge.specs.declared.identity_key.IdentityKey.{IdentityKey}
 use Rattle.auc_subs.specs.declared.row.Row.{Row}
-use Rattle.auc_subs.specs.declared.subscribers.IdentityKey.{IdentityKey}
 use Rattle.auc_subs.specs.Subscriber.{most_subscribers, same_identity, place_of, IsRow}
-use Rattle.auc_subs.specs.InnerLookup.{key_of, IsLookup}
+use Rattle.auc_subs.specs.InnerLookup.{IsLookup}
 use Rattle.auc_subs.proofs.RowLemmas.{one_more}
-
--- whether two keys are one, as the map compares them
-abbrev pub is_key : IdentityKey → IdentityKey → Bool
-is_key a b = (a.digits == b.digits) && (a.number == b.number)
 
 -- keys are one where their identities are
 same_test : (a b : Identity) → is_key (key_of b) (key_of a) ≡ same_identity a b
@@ -31,9 +28,9 @@ pub place_by_key : (keys : List IdentityKey) (rows : List Row) (imsi : Identity)
 place_by_key keys rows imsi before = rw (before.keyed, first_place rows imsi, length-map rows (λ row. key_of row.imsi)) refl
 
 -- what isn't some is none
-none_there : (found : Option Row) → is_some found ≡ false → found ≡ None
+pub none_there : {A : Type 0} (found : Option A) → is_some found ≡ false → found ≡ None
 none_there None none = refl
-none_there (Some row) none = cc
+none_there (Some value) none = cc
 
 -- where no row has an identity, no entry has its key
 absent : (entries : List (IdentityKey × Row)) (imsi : Identity) → IsLookup (keys_of entries) (values_of entries)

@@ -1,14 +1,10 @@
 -- Inner facts: what only private contracts of this crate cite. How rows are looked up by identity: each
 -- under the key of its own, in their order.
 use Rattle.std.specs.Prelude.{◌≡◌, List, map}
-use Rattle.auc_edge.specs.Identity.{Identity}
+use Rattle.auc_edge.specs.IdentityKey.{key_of}
+use Rattle.auc_edge.specs.declared.identity_key.IdentityKey.{IdentityKey}
 use Rattle.auc_subs.specs.declared.row.Row.{Row}
-use Rattle.auc_subs.specs.declared.subscribers.IdentityKey.{IdentityKey}
 use Rattle.auc_subs.specs.Subscriber.{AreSubscribers}
-
--- the key of an identity
-abbrev pub key_of : Identity → IdentityKey
-key_of imsi = record { digits = imsi.digits; number = imsi.number }
 
 -- subscribers under the keys of their identities
 pub record IsLookup (keys : List IdentityKey) (rows : List Row) : Type 0 where

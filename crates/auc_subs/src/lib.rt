@@ -5,8 +5,9 @@
 //! its USIM has accepted them, the length of IND and the USIM's age limit (TS 33.102 Annex C).
 //! [`Subscribers`] are rows with different identities; contracts see them as the list of their rows.
 //! [`Subscribers::read`] reads a file of comma-separated records and tells the first wrong one,
-//! [`Subscribers::add`] a line of seven or nine fields, each by its first fault, a [`SubsWhy`]. If OP is given, OPc is computed from it. [`refused_record_is_the_first_wrong`] and the
-//! other laws say what each fault is by itself.
+//! [`Subscribers::add`] a line of seven or nine fields, and [`Subscribers::add_words`] seven or nine words, each by its first
+//! fault, a [`SubsWhy`]. If OP is given, OPc is computed from it. [`refused_record_is_the_first_wrong`] and the other laws say what
+//! each fault is by itself.
 #![tactic(auto)]
 
 mod field;
@@ -16,6 +17,7 @@ mod refusal;
 mod row;
 mod row_reading;
 mod subscribers;
+mod words;
 
 pub use law::{
     file_that_is_read_is_right, line_that_is_added_is_a_subscriber,

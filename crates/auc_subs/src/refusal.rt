@@ -5,7 +5,7 @@ ghost use Rattle.auc_subs.specs.declared.refusal.AddRefusal.TheVariants as refus
 ghost use Rattle.auc_subs.specs.declared.refusal.SubsRefusal.TheVariants as file_refusal;
 
 use auc_edge::NoMemory;
-use std::alloc::{AllocError, AllocFailed};
+use std::alloc::AllocError;
 
 /// The first fault of a subscriber's line, in the order of the tests.
 #[derive(Clone, Copy, Debug, PartialEq, Eq)]
@@ -81,10 +81,10 @@ impl From<AllocError> for AddRefusal {
     }
 }
 
-impl<T: Drop> From<AllocFailed<T>> for AddRefusal {
+impl From<NoMemory> for AddRefusal {
     ghost from_gives = { λ _ e. e ≡ refusal.NoMemory };
 
-    fn from(_: AllocFailed<T>) -> AddRefusal {
+    fn from(_: NoMemory) -> AddRefusal {
         AddRefusal::NoMemory
     }
 }

@@ -1,14 +1,13 @@
 //! The list of subscribers.
 
-ghost use Rattle.std.specs.Prelude.{◌≡◌, ◌≢◌, ◌<◌, ◌↔◌, [], length, All, IsTrue, OnOk, OnErr, IfOk, IfSome, IfNone, slice_get};
-ghost use Rattle.auc_subs.specs.InnerLookup.{key_of};
+ghost use Rattle.std.specs.Prelude.{◌≡◌, ◌≢◌, ◌<◌, ◌↔◌, [], ◌∷◌, ◌++◌, None, length, All, IsTrue, OnOk, OnErr, IfOk, IfSome, IfNone, slice_get};
 ghost use Rattle.auc_subs.specs.Subscriber.{IsRow};
 
 use crate::field::{fields, has_seven_or_nine_fields};
 use crate::refusal::{AddRefusal, SubsWhy};
 use crate::row::Row;
 use crate::row_reading::read_row;
-use auc_edge::{Imsi, Items, NoMemory};
+use auc_edge::{IdentityKey, Imsi, Items, NoMemory};
 use auc_sqn::top;
 use indexmap::IndexMap;
 use std::alloc::Global;
@@ -16,13 +15,6 @@ use std::marker::Model;
 
 /// How many subscribers there may be.
 pub const MAX_SUBSCRIBERS: usize = 65536;
-
-/// An identity, as rows are looked up by it.
-#[derive(Clone, Copy, PartialEq, Eq, Hash)]
-struct IdentityKey {
-    digits: u8,
-    number: u64,
-}
 
 /// Subscribers with different identities, each at a place from 0. Contracts see the list of rows.
 #[derive(Drop)]
@@ -46,7 +38,7 @@ impl Model for Subscribers {
 
 impl Subscribers {
     ghost use Rattle.auc_subs.specs.declared.refusal.AddRefusal.TheVariants as refusal;
-    ghost use Rattle.auc_subs.specs.Subscriber.{AreSubscribers, HasIdentity, place_of, rows_with, rows_after, tops_of};
+    ghost use Rattle.auc_subs.specs.Subscriber.{AreSubscribers, HasIdentity, most_subscribers, place_of, rows_with, rows_after, tops_of};
 
     /// No subscribers. It takes no memory yet.
     pub fn new(alloc: Global) -> Subscribers
@@ -99,7 +91,7 @@ impl Subscribers {
         ensures found { IfSome result (λ sub. HasIdentity self.now sub imsi) }
         ensures none { IfNone result (All (λ row. row.imsi ≢ imsi) self.now) }
     {
-        match self.rows.get_index_of(&key(imsi)) {
+        match self.rows.get_index_of(&imsi.key()) {
             Some(sub) => Some(sub as u32),
             None => None,
         }
@@ -143,17 +135,20 @@ impl Subscribers {
         if sub >= MAX_SUBSCRIBERS {
             return Err(AddRefusal::Why(SubsWhy::TooMany));
         }
-        self.rows.insert(key(row.imsi), row)?;
+        self.push(row)?;
         Ok(sub as u32)
     }
-}
 
-/// The key of an identity.
-fn key(imsi: Imsi) -> IdentityKey
-    ensures { result ≡ key_of imsi }
-{
-    IdentityKey {
-        digits: imsi.digits(),
-        number: imsi.number(),
+    /// Puts a row of a new identity after the last. If memory runs out, the subscribers stay as they were.
+    pub fn push(&mut self, row: Row) -> Result<(), NoMemory>
+        requires row { IsRow row }
+        requires new { place_of self.old row.imsi ≡ None }
+        requires room { length self.old < most_subscribers }
+
+        ensures added { OnOk result (self.new ≡ self.old ++ row ∷ []) }
+        ensures kept { OnErr result (self.new ≡ self.old) }
+    {
+        self.rows.insert(row.imsi.key(), row)?;
+        Ok(())
     }
 }

@@ -17,9 +17,10 @@ fn text_of_list(alloc: Global, list: &AttrList) -> Result<String, AllocError> {
     if !list.writable() {
         return String::from_str(alloc, "not writable");
     }
-    let Some(size) = list.size() else {
+    if !list.is_within(usize::MAX) {
         return String::from_str(alloc, "too large");
-    };
+    }
+    let size = list.size();
     let mut text = Octets::new(alloc);
     let Ok(mut room) = Room::new(alloc, size) else {
         return Err(AllocError);

@@ -7,7 +7,7 @@
 //! hexadecimal digits; both answer `None` for any other text.
 //!
 //! Contracts see texts, lines and words as lists of bytes. Only [`joined`] takes memory; nothing here
-//! waits. The tests stand in `auc_byte_tests`.
+//! waits. The tests stand in `auc_text_tests`.
 #![tactic(auto)]
 
 mod field;

@@ -1,5 +1,5 @@
-//! Tests of the text of a transcript, of the words of a load, of the words and lines of `vector` and `auts`, of rounds of some
-//! subscribers, and of blocks heard over a wire: one file for each crate.
+//! Tests of the crates that read text: lines, words and numbers, the words of `vector`, `auts` and a load with what they get, and
+//! blocks heard over a wire. One file for each crate.
 //!
 //! They stand in a crate of their own, since the tests of a crate are proved together with it.
 #![tactic(auto)]
@@ -7,16 +7,8 @@
 #[cfg(test)]
 mod block;
 #[cfg(test)]
-mod events;
-#[cfg(test)]
 mod forms;
 #[cfg(test)]
 mod load;
 #[cfg(test)]
-mod named;
-#[cfg(test)]
-mod print;
-#[cfg(test)]
-mod printing;
-#[cfg(test)]
-mod sim;
+mod text;

@@ -11,7 +11,7 @@ use Rattle.auc_lines.specs.declared.part.SessionLine.{SessionLine}
 use Rattle.auc_peer.specs.Subscription.{Subscription}
 use Rattle.auc_peer.specs.Table.{gave_up as peer_gave_up}
 use Rattle.auc_reauth.specs.declared.context.Context.{Context}
-use Rattle.auc_server.specs.Server.{ServerEnd, started}
+use Rattle.auc_server.specs.Server.{ServerEnd, resumed_of, started}
 use Rattle.auc_server.specs.Setting.{Setting}
 use Rattle.auc_server.specs.Table.{gave_up, homes_after}
 use Rattle.auc_server.specs.declared.server.ServerState.{ServerState}
@@ -55,7 +55,7 @@ holds_at P xs i x all there = subst P (get_or_from_slice_get xs i x x there) (al
 -- what the server of a session resumed, if it did, isn't of the subscriber
 abbrev pub ResumesAnother : ℕ → Option ServerEnd → Type 0
 ResumesAnother sub None = Unit {0}
-ResumesAnother sub (Some s) = IsOfAnother sub s.resumed
+ResumesAnother sub (Some s) = IsOfAnother sub (resumed_of s)
 
 -- no server resumed a context of the subscriber
 abbrev pub ResumeOthers : ℕ → List Session → Type 0
@@ -172,24 +172,20 @@ repeat_quiet w t session (Some s) is there = server_stays w (repeat w t session 
 -- a server that gives up leaves nothing
 ends_empty : (m : Method) (place : ℕ) (homes : List HomeRow) (s : ServerEnd) (now : ServerState) (c : Context) → s.state ≡ now
     → server_leaves m place homes (Some (gave_up s now).0) ≡ Some c → server_leaves m place homes (Some s) ≡ Some c
-ends_empty m place homes s (state.Ended result) c is e = e
+ends_empty m place homes s (state.Ended result last) c is e = e
 ends_empty m place homes s state.AwaitIdentity c is e = absurd (no_context (same_method s.options.method m) c e)
-ends_empty m place homes s state.AwaitAny c is e = absurd (no_context (same_method s.options.method m) c e)
-ends_empty m place homes s state.AwaitFull c is e = absurd (no_context (same_method s.options.method m) c e)
-ends_empty m place homes s state.AwaitPermanent c is e = absurd (no_context (same_method s.options.method m) c e)
-ends_empty m place homes s state.AwaitChallenge c is e = absurd (no_context (same_method s.options.method m) c e)
-ends_empty m place homes s state.AwaitReauth c is e = absurd (no_context (same_method s.options.method m) c e)
-ends_empty m place homes s (state.Notifying cause) c is e = absurd (no_context (same_method s.options.method m) c e)
+ends_empty m place homes s (state.Await kind) c is e = absurd (no_context (same_method s.options.method m) c e)
+ends_empty m place homes s (state.AwaitChallenge sent before) c is e = absurd (no_context (same_method s.options.method m) c e)
+ends_empty m place homes s (state.AwaitReauth sent) c is e = absurd (no_context (same_method s.options.method m) c e)
+ends_empty m place homes s (state.Notifying cause last) c is e = absurd (no_context (same_method s.options.method m) c e)
 
-ends_apart : (sub : ℕ) (s : ServerEnd) (now : ServerState) → IsOfAnother sub s.resumed → IsOfAnother sub (gave_up s now).0.resumed
-ends_apart sub s (state.Ended result) apart = apart
+ends_apart : (sub : ℕ) (s : ServerEnd) (now : ServerState) → IsOfAnother sub (resumed_of s) → IsOfAnother sub (resumed_of (gave_up s now).0)
+ends_apart sub s (state.Ended result last) apart = apart
 ends_apart sub s state.AwaitIdentity apart = apart
-ends_apart sub s state.AwaitAny apart = apart
-ends_apart sub s state.AwaitFull apart = apart
-ends_apart sub s state.AwaitPermanent apart = apart
-ends_apart sub s state.AwaitChallenge apart = apart
-ends_apart sub s state.AwaitReauth apart = apart
-ends_apart sub s (state.Notifying cause) apart = apart
+ends_apart sub s (state.Await kind) apart = apart
+ends_apart sub s (state.AwaitChallenge sent before) apart = apart
+ends_apart sub s (state.AwaitReauth sent) apart = apart
+ends_apart sub s (state.Notifying cause last) apart = apart
 
 server_over : (w : Net) (t : ℕ) (session : Session) (o : Option ServerEnd) → session.server ≡ o → slice_get w.sessions t ≡ Some session → IsQuiet w (server_gives_up w t session o)
 server_over w t session None is there = stays w

@@ -16,7 +16,7 @@ use Rattle.auc_reauth.specs.Machine.{Used, used_by}
 use Rattle.auc_reauth.specs.Store.{entry}
 use Rattle.auc_server.specs.Laws.{OrdinalsRise}
 use Rattle.auc_server.specs.Ordinals.{home_at, home_place}
-use Rattle.auc_server.specs.Server.{ServerEnd}
+use Rattle.auc_server.specs.Server.{ServerEnd, resumed_of}
 use Rattle.auc_server.specs.Setting.{Setting}
 use Rattle.auc_server.specs.declared.server.Resumed.{Resumed}
 use Rattle.auc_server.specs.declared.setting.HomeRow.{HomeRow}
@@ -87,7 +87,7 @@ others_of kept (s ∷ subs) sub none = by (s == sub) refl (others_of kept subs s
 
 none_resumed : (m : Method) (sub : ℕ) (o : Option ServerEnd) → ResumesAnother sub o → counters_in m sub o ≡ []
 none_resumed m sub None apart = refl
-none_resumed m sub (Some s) apart = by (same_method s.options.method m) s.resumed apart
+none_resumed m sub (Some s) apart = by (same_method s.options.method m) (resumed_of s) apart
   where
     one : (r : Resumed) → r.sub ≢ sub → (b : Bool) → (r.sub == sub) ≡ b → cond b (used_by r.context.counter r.context ∷ []) [] ≡ []
     one r apart true e = absurd (apart (eqb-true r.sub sub e))

@@ -17,7 +17,7 @@ use Rattle.auc_lines.specs.declared.part.Part.{Part}
 use Rattle.auc_reauth.specs.Machine.{AreDifferent, EachCounterOnce, EachIdentityOnce, HaveOwnNames, Used, used_by}
 use Rattle.auc_reauth.specs.Store.{entry}
 use Rattle.auc_server.specs.Laws.{OrdinalsRise}
-use Rattle.auc_server.specs.Server.{ServerEnd}
+use Rattle.auc_server.specs.Server.{ServerEnd, resumed_of}
 use Rattle.auc_server.specs.Setting.{Setting}
 use Rattle.auc_server.specs.declared.server.Resumed.{Resumed}
 use Rattle.auc_subs.specs.Subscriber.{AreSubscribers}
@@ -131,9 +131,9 @@ method_other method.Prime method.Aka e = λ same. cc
 method_other method.Prime method.Prime e = absurd cc
 
 -- what a server counts of its own method and subscriber
-counts_own : (s : ServerEnd) (r : Resumed) → s.resumed ≡ Some r → counters_in s.options.method r.sub (Some s) ≡ used_by r.context.counter r.context ∷ []
+counts_own : (s : ServerEnd) (r : Resumed) → resumed_of s ≡ Some r → counters_in s.options.method r.sub (Some s) ≡ used_by r.context.counter r.context ∷ []
 counts_own s r is =
-    ap (λ (b : Bool). cond b (resumed_for r.sub s.resumed) []) (method_same s.options.method) ∙ ap (resumed_for r.sub) is
+    ap (λ (b : Bool). cond b (resumed_for r.sub (resumed_of s)) []) (method_same s.options.method) ∙ ap (resumed_for r.sub) is
     ∙ ap (λ (b : Bool). cond b (used_by r.context.counter r.context ∷ []) []) (eq-eqb r.sub r.sub refl)
 
 All-left : {X : Type 0} (P : X → Type 0) (xs ys : List X) → All P (xs ++ ys) → All P xs
@@ -159,9 +159,9 @@ none_is identity sub (session ∷ sessions) all = by session.server refl (none_i
     by : (o : Option ServerEnd) → session.server ≡ o → All (λ r. sub ≡ r.sub → identity ≢ r.context.identity) (resumptions sessions)
         → All (λ r. sub ≡ r.sub → identity ≢ r.context.identity) (resumed_in o ++ resumptions sessions)
     by None is rest = rest
-    by (Some s) is rest = one s.resumed refl
+    by (Some s) is rest = one (resumed_of s) refl
       where
-        one : (o : Option Resumed) → s.resumed ≡ o → All (λ r. sub ≡ r.sub → identity ≢ r.context.identity) (option_to_list o ++ resumptions sessions)
+        one : (o : Option Resumed) → resumed_of s ≡ o → All (λ r. sub ≡ r.sub → identity ≢ r.context.identity) (option_to_list o ++ resumptions sessions)
         one None e = rest
         one (Some r) e =
             All-cons (λ (x : Resumed). sub ≡ x.sub → identity ≢ x.context.identity) r (resumptions sessions)
@@ -185,9 +185,9 @@ module _ (Named : Method → ℕ → List ℕ → Type 0) (apart : AreApartByMet
 
       by : (o : Option ServerEnd) → session.server ≡ o → AreResumedOnce (resumptions sessions) → AreResumedOnce (resumed_in o ++ resumptions sessions)
       by None is rest = rest
-      by (Some s) is rest = one s.resumed refl
+      by (Some s) is rest = one (resumed_of s) refl
         where
-          one : (o : Option Resumed) → s.resumed ≡ o → AreResumedOnce (option_to_list o ++ resumptions sessions)
+          one : (o : Option Resumed) → resumed_of s ≡ o → AreResumedOnce (option_to_list o ++ resumptions sessions)
           one None e = rest
           one (Some r) e = AllPairs-cons AreApart r (resumptions sessions) (none_is r.context.identity r.sub sessions other) rest
             where

@@ -62,7 +62,7 @@ waiting_stays place homes later (Some c) same = ap (λ (p : Option ℕ). cond (i
 leaves_stays : (m : Method) (place : ℕ) (homes later : List HomeRow) (o : Option ServerEnd) → AreAlike later homes → server_leaves m place later o ≡ server_leaves m place homes o
 leaves_stays m place homes later None alike = refl
 leaves_stays m place homes later (Some s) alike =
-    ap (λ (c : Option Context). cond (same_method s.options.method m) c None) (waiting_stays place homes later (waiting s s.state) alike)
+    ap (λ (c : Option Context). cond (same_method s.options.method m) c None) (waiting_stays place homes later (waiting s.state) alike)
 
 server_stays : (m : Method) (place : ℕ) (homes later : List HomeRow) (o : Option Session) → AreAlike later homes → server_at m place later o ≡ server_at m place homes o
 server_stays m place homes later None alike = refl
@@ -140,10 +140,10 @@ module _ (law : OrdinalsRise) (set : Setting) (w next : Net) (told : Told) (resu
 
   -- what the server left before
   left_before : (m : Method) (sub place : ℕ) (c : Context) → home_place w.homes sub ≡ Some place → same_method t.server.options.method m ≡ true
-      → waiting t.server t.server.state ≡ Some (sub, c) → home_places m place w (suc t.place) ≡ Some c
+      → waiting t.server.state ≡ Some (sub, c) → home_places m place w (suc t.place) ≡ Some c
   left_before m sub place c placed same waits =
       ap (server_at m place w.homes) t.there ∙ ap (server_leaves m place w.homes) t.is
-      ∙ ap (λ (b : Bool). cond b (waiting_at place w.homes (waiting t.server t.server.state)) None) same
+      ∙ ap (λ (b : Bool). cond b (waiting_at place w.homes (waiting t.server.state)) None) same
       ∙ ap (waiting_at place w.homes) waits ∙ waits_here w.homes sub place c placed
 
   numbers_are : (sub n : ℕ) (e : Happens) → AsksFor sub (asking (server_row set w.homes t.server told.seen told.reply))
@@ -154,16 +154,16 @@ module _ (law : OrdinalsRise) (set : Setting) (w next : Net) (told : Told) (resu
 
   asks_here : (m : Method) (sub place : ℕ) (c : Context) (n : ℕ) → home_place w.homes sub ≡ Some place → TellsNotes told result
       → cond (same_method (server_turn set w t.server told).0.options.method m)
-      (waiting_at place next.homes (waiting (server_turn set w t.server told).0 (server_turn set w t.server told).0.state)) None ≡ Some c
+      (waiting_at place next.homes (waiting (server_turn set w t.server told).0.state)) None ≡ Some c
       → told.notes.number ≡ Some (number.Drew n)
       → (home_places m place w (suc t.place) ≡ Some c) ⊎ ((e : Happens) → numbers_of sub (Event (record { event = e; result = result }) ∷ []) ≡ n ∷ [])
   asks_here m sub place c n placed tells left drawn =
       let turn = server_turn set w t.server told in
-      let (same, waits) = picked (same_method turn.0.options.method m) (waiting_at place next.homes (waiting turn.0 turn.0.state)) c left in
-      let waits_now = waits_for w.homes sub place (waiting turn.0 turn.0.state) c placed (sym (waiting_stays place w.homes next.homes (waiting turn.0 turn.0.state) alike) ∙ waits) in
+      let (same, waits) = picked (same_method turn.0.options.method m) (waiting_at place next.homes (waiting turn.0.state)) c left in
+      let waits_now = waits_for w.homes sub place (waiting turn.0.state) c placed (sym (waiting_stays place w.homes next.homes (waiting turn.0.state) alike) ∙ waits) in
       let drawn_now = sym (ap (λ (ns : Notes). ns.number) (notes_are tells)) ∙ drawn in
       let same_before = sym (ap (λ (o : ServerOptions). same_method o.method m) (turn_options set w.homes t.server told.seen told.reply told.notes)) ∙ same in
-      ⊎_elim (λ (before : waiting t.server t.server.state ≡ Some (sub, c)). inl (left_before m sub place c placed same_before before))
+      ⊎_elim (λ (before : waiting t.server.state ≡ Some (sub, c)). inl (left_before m sub place c placed same_before before))
       (λ (asks : AsksFor sub (asking (server_row set w.homes t.server told.seen told.reply))). inr (λ e. numbers_are sub n e asks drawn_now))
       (turn_leaves sub c n set w.homes t.server told.seen told.reply told.notes waits_now drawn_now)
 

@@ -10,13 +10,11 @@ use Rattle.auc_ident.specs.Ordinals.{last_ordinal}
 use Rattle.auc_packet.specs.Received.{Seen}
 use Rattle.auc_reauth.specs.Server.{no_contexts}
 use Rattle.auc_reauth.specs.declared.context.Context.{Context}
-use Rattle.auc_request.specs.declared.identities.IdentityRequest.{IdentityRequest}
-use Rattle.auc_request.specs.declared.identities.IdentityRequest.TheVariants as asks
 use Rattle.auc_server.specs.Contexts.{context_after, context_in, won_context, found_at, gives_next, homes_kept, homes_left, homes_resumed, homes_rewon, homes_won, with_context, with_context_at, without, without_at}
 use Rattle.auc_server.specs.Moves.{of_sub, waiting}
 use Rattle.auc_server.specs.Ordinals.{home_at, home_place, homes_given, homes_with, ordinal_after, with_next}
 use Rattle.auc_server.specs.Rows.{server_row, text_in}
-use Rattle.auc_server.specs.Server.{ServerEnd}
+use Rattle.auc_server.specs.Server.{ServerEnd, resumed_of}
 use Rattle.auc_server.specs.Setting.{Setting}
 use Rattle.auc_server.specs.Steps.{asking}
 use Rattle.auc_server.specs.Table.{asked, challenge_of, challenged, challenged_with, homes_after, homes_challenged, homes_done, homes_named, identified, names_given, next_given, noted, packets_after, reauthenticated, resumed_with, resynchronised, resynchronising, server_does, server_step, succeeded, vector_at}
@@ -93,13 +91,11 @@ module _ (place : ℕ) where
       one None = within
       one (Some at) = set_within at place homes (with_context by c (home_at homes at)) (λ fits. fits) within
 
-  won_within : (by : Method) (homes : List HomeRow) (c : Option Challenged) → IsWithin place homes → IsWithin place (homes_won by homes c)
-  won_within by homes None within = within
-  won_within by homes (Some sent) within = kept_within by homes sent.sub (won_context sent) within
+  won_within : (by : Method) (homes : List HomeRow) (sent : Challenged) → IsWithin place homes → IsWithin place (homes_won by homes sent)
+  won_within by homes sent within = kept_within by homes sent.sub (won_context sent) within
 
-  rewon_within : (by : Method) (homes : List HomeRow) (c : Option Resumed) → IsWithin place homes → IsWithin place (homes_rewon by homes c)
-  rewon_within by homes None within = within
-  rewon_within by homes (Some sent) within = kept_within by homes sent.sub (context_after sent) within
+  rewon_within : (by : Method) (homes : List HomeRow) (sent : Resumed) → IsWithin place homes → IsWithin place (homes_rewon by homes sent)
+  rewon_within by homes sent within = kept_within by homes sent.sub (context_after sent) within
 
   resumed_within : (options : ServerOptions) (text : List ℕ) (homes : List HomeRow) (sub : ℕ) (c : Option Context) → IsWithin place homes
       → IsWithin place (homes_resumed options text homes sub c)
@@ -112,8 +108,8 @@ module _ (place : ℕ) where
   done_within homes s text (row.TooSmall sub) notes within = challenged_within s.options homes sub notes.number within
   done_within homes s text (row.Resynchronise sub seq) notes within = challenged_within s.options homes sub notes.number within
   done_within homes s text (row.Resume sub) notes within = resumed_within s.options text homes sub (context_in s.options.method text homes sub) within
-  done_within homes s text row.Success notes within = won_within s.options.method homes s.challenged within
-  done_within homes s text row.Reauthenticated notes within = rewon_within s.options.method homes s.resumed within
+  done_within homes s text (row.Success sent) notes within = won_within s.options.method homes sent within
+  done_within homes s text (row.Reauthenticated sent) notes within = rewon_within s.options.method homes sent within
   done_within homes s text (row.Ignore cause) notes within = within
   done_within homes s text (row.Ask kind) notes within = within
   done_within homes s text row.UnknownIdentity notes within = within
@@ -142,7 +138,7 @@ AsksFor sub (Some request) = request.sub ≡ sub
 -- a turn that drew a number and leaves a context of a subscriber asked for the subscriber's number, if the context wasn't there before
 module _ (sub : ℕ) (c : Context) (n : ℕ) where
   abbrev pub Waits : ServerEnd → Type 0
-  Waits s = waiting s s.state ≡ Some (sub, c)
+  Waits s = waiting s.state ≡ Some (sub, c)
 
   abbrev pub Leaves : ServerEnd → Option Asking → ServerEnd × Turn ServerWhy → Type 0
   Leaves s asked turn = Waits turn.0 → turn.1.notes.number ≡ Some (number.Drew n) → Waits s ⊎ AsksFor sub asked
@@ -183,39 +179,26 @@ module _ (sub : ℕ) (c : Context) (n : ℕ) where
   sync_leaves set homes s other (Some (resync.Moved seen seq)) drawn waits =
       challenge_leaves set homes (resynchronising s) other false (Some (resync.Moved seen seq)) drawn waits
 
-  ask_leaves : (s : ServerEnd) (text : List ℕ) (packets : List (List ℕ)) (kind : IdentityRequest) → Waits (asked s text packets kind).0 → ⊥
-  ask_leaves s text packets asks.Any waits = not_none waits
-  ask_leaves s text packets asks.Fullauth waits = not_none waits
-  ask_leaves s text packets asks.Permanent waits = not_none waits
-
   resume_leaves : (set : Setting) (homes : List HomeRow) (s : ServerEnd) (text : List ℕ) (packets : List (List ℕ)) (other : ℕ) (o : Option Context)
       → Leaves s None (resumed_with set homes s text packets other o)
   resume_leaves set homes s text packets other None waits drawn = inl waits
   resume_leaves set homes s text packets other (Some x) waits drawn = absurd (not_drawn drawn)
 
-  success_leaves : (s : ServerEnd) (o : Option Challenged) → Leaves s None (succeeded s o)
-  success_leaves s None waits drawn = inl waits
-  success_leaves s (Some sent) waits drawn = absurd (not_none waits)
-
-  again_leaves : (s : ServerEnd) (o : Option Resumed) → Leaves s None (reauthenticated s o)
-  again_leaves s None waits drawn = inl waits
-  again_leaves s (Some sent) waits drawn = absurd (not_none waits)
-
   does_leaves : (set : Setting) (homes : List HomeRow) (s : ServerEnd) (text : List ℕ) (packets : List (List ℕ)) (r : Row) (notes : Notes)
       → Leaves s (asking r) (server_does set homes s text packets r notes)
   does_leaves set homes s text packets (row.Ignore cause) notes waits drawn = inl waits
-  does_leaves set homes s text packets (row.Ask kind) notes waits drawn = absurd (ask_leaves s text packets kind waits)
+  does_leaves set homes s text packets (row.Ask kind) notes waits drawn = absurd (not_none waits)
   does_leaves set homes s text packets row.UnknownIdentity notes waits drawn = absurd (not_none waits)
   does_leaves set homes s text packets (row.Challenge other) notes waits drawn = challenge_leaves set homes (identified s text packets) other false None notes.number waits
   does_leaves set homes s text packets (row.Resume other) notes waits drawn =
       resume_leaves set (homes_left s.options.method text homes other) s text packets other (context_in s.options.method text homes other) waits drawn
   does_leaves set homes s text packets row.WrongCounter notes waits drawn = absurd (not_none waits)
   does_leaves set homes s text packets (row.TooSmall other) notes waits drawn = challenge_leaves set homes s other true None notes.number waits
-  does_leaves set homes s text packets row.Reauthenticated notes waits drawn = again_leaves s s.resumed waits drawn
+  does_leaves set homes s text packets (row.Reauthenticated sent) notes waits drawn = absurd (not_none waits)
   does_leaves set homes s text packets row.WrongMac notes waits drawn = absurd (not_none waits)
   does_leaves set homes s text packets row.WrongRes notes waits drawn = absurd (not_none waits)
   does_leaves set homes s text packets row.WrongCheckcode notes waits drawn = absurd (not_none waits)
-  does_leaves set homes s text packets row.Success notes waits drawn = success_leaves s s.challenged waits drawn
+  does_leaves set homes s text packets (row.Success sent) notes waits drawn = absurd (not_none waits)
   does_leaves set homes s text packets row.SecondSync notes waits drawn = absurd (not_none waits)
   does_leaves set homes s text packets row.BadAuts notes waits drawn = absurd (not_none waits)
   does_leaves set homes s text packets (row.Resynchronise other seq) notes waits drawn = sync_leaves set homes s other notes.resync notes.number waits
@@ -248,19 +231,19 @@ another_place sub other place homes others found same =
     others place nobody inside (eqb-true (get_or homes place nobody).sub other is ∙ same)
 
 challenge_keeps : (set : Setting) (homes : List HomeRow) (s : ServerEnd) (other : ℕ) (checked : Bool) (resynced : Option ResyncNote) (drawn : Option NumberNote)
-    → (challenged set homes s other checked resynced drawn).0.resumed ≡ s.resumed
+    → resumed_of (challenged set homes s other checked resynced drawn).0 ≡ resumed_of s
 challenge_keeps set homes s other checked resynced None = refl
 challenge_keeps set homes s other checked resynced (Some (number.Drew m)) = by (vector_at set s.options other m)
   where
     by : (o : Option Vector)
-        → (challenged_with set.realm s other m o (names_given set homes s other) (noted resynced (Some (number.Drew m))) checked).0.resumed ≡ s.resumed
+        → resumed_of (challenged_with set.realm s other m o (names_given set homes s other) (noted resynced (Some (number.Drew m))) checked).0 ≡ resumed_of s
     by None = refl
     by (Some v) = refl
 challenge_keeps set homes s other checked resynced (Some (number.Exhausted w)) = refl
 challenge_keeps set homes s other checked resynced (Some (number.Withheld m stop)) = refl
 
 sync_keeps : (set : Setting) (homes : List HomeRow) (s : ServerEnd) (other : ℕ) (resynced : Option ResyncNote) (drawn : Option NumberNote)
-    → (resynchronised set homes s other resynced drawn).0.resumed ≡ s.resumed
+    → resumed_of (resynchronised set homes s other resynced drawn).0 ≡ resumed_of s
 sync_keeps set homes s other None drawn = refl
 sync_keeps set homes s other (Some resync.BadAuts) drawn = refl
 sync_keeps set homes s other (Some (resync.Beyond seen seq)) drawn = refl
@@ -269,38 +252,30 @@ sync_keeps set homes s other (Some (resync.Moved seen seq)) drawn = challenge_ke
 
 module _ (sub : ℕ) where
   resume_apart : (set : Setting) (homes : List HomeRow) (s : ServerEnd) (text : List ℕ) (packets : List (List ℕ)) (other : ℕ) (place : Option ℕ) → AreOthers sub homes
-      → home_place homes other ≡ place → IsOfAnother sub s.resumed
-      → IsOfAnother sub (resumed_with set (homes_left s.options.method text homes other) s text packets other (found_at s.options.method text homes place)).0.resumed
+      → home_place homes other ≡ place → IsOfAnother sub (resumed_of s)
+      → IsOfAnother sub (resumed_of (resumed_with set (homes_left s.options.method text homes other) s text packets other (found_at s.options.method text homes place)).0)
   resume_apart set homes s text packets other None others is apart = apart
   resume_apart set homes s text packets other (Some place) others is apart = by (found_at s.options.method text homes (Some place))
     where
-      by : (o : Option Context) → IsOfAnother sub (resumed_with set (homes_left s.options.method text homes other) s text packets other o).0.resumed
+      by : (o : Option Context) → IsOfAnother sub (resumed_of (resumed_with set (homes_left s.options.method text homes other) s text packets other o).0)
       by None = apart
       by (Some c) = another_place sub other place homes others is
 
-  succeeded_apart : (s : ServerEnd) (o : Option Challenged) → IsOfAnother sub s.resumed → IsOfAnother sub (succeeded s o).0.resumed
-  succeeded_apart s None apart = apart
-  succeeded_apart s (Some sent) apart = apart
-
-  again_apart : (s : ServerEnd) (o : Option Resumed) → IsOfAnother sub s.resumed → IsOfAnother sub (reauthenticated s o).0.resumed
-  again_apart s None apart = apart
-  again_apart s (Some sent) apart = apart
-
   does_apart : (set : Setting) (homes : List HomeRow) (s : ServerEnd) (text : List ℕ) (packets : List (List ℕ)) (r : Row) (notes : Notes) → AreOthers sub homes
-      → IsOfAnother sub s.resumed → IsOfAnother sub (server_does set homes s text packets r notes).0.resumed
+      → IsOfAnother sub (resumed_of s) → IsOfAnother sub (resumed_of (server_does set homes s text packets r notes).0)
   does_apart set homes s text packets (row.Ignore cause) notes others apart = apart
-  does_apart set homes s text packets (row.Ask kind) notes others apart = apart
+  does_apart set homes s text packets (row.Ask kind) notes others apart = tt
   does_apart set homes s text packets row.UnknownIdentity notes others apart = apart
   does_apart set homes s text packets (row.Challenge other) notes others apart =
       subst (IsOfAnother sub) (sym (challenge_keeps set homes (identified s text packets) other false None notes.number)) apart
   does_apart set homes s text packets (row.Resume other) notes others apart = resume_apart set homes s text packets other (home_place homes other) others refl apart
   does_apart set homes s text packets row.WrongCounter notes others apart = apart
   does_apart set homes s text packets (row.TooSmall other) notes others apart = subst (IsOfAnother sub) (sym (challenge_keeps set homes s other true None notes.number)) apart
-  does_apart set homes s text packets row.Reauthenticated notes others apart = again_apart s s.resumed apart
+  does_apart set homes s text packets (row.Reauthenticated sent) notes others apart = apart
   does_apart set homes s text packets row.WrongMac notes others apart = apart
   does_apart set homes s text packets row.WrongRes notes others apart = apart
   does_apart set homes s text packets row.WrongCheckcode notes others apart = apart
-  does_apart set homes s text packets row.Success notes others apart = succeeded_apart s s.challenged apart
+  does_apart set homes s text packets (row.Success sent) notes others apart = apart
   does_apart set homes s text packets row.SecondSync notes others apart = apart
   does_apart set homes s text packets row.BadAuts notes others apart = apart
   does_apart set homes s text packets (row.Resynchronise other seq) notes others apart =
@@ -311,6 +286,6 @@ module _ (sub : ℕ) where
 
   -- no turn takes up a context of the subscriber
   pub turn_apart : (set : Setting) (homes : List HomeRow) (s : ServerEnd) (seen : Seen) (said : Reply) (notes : Notes) → AreOthers sub homes
-      → IsOfAnother sub s.resumed → IsOfAnother sub (server_step set homes s seen said notes).0.resumed
+      → IsOfAnother sub (resumed_of s) → IsOfAnother sub (resumed_of (server_step set homes s seen said notes).0)
   turn_apart set homes s seen said notes others apart =
       does_apart set homes s (text_in seen.reading) (packets_after s seen (server_row set homes s seen said)) (server_row set homes s seen said) notes others apart

@@ -17,14 +17,13 @@ use Rattle.auc_peer.specs.Asking.{answer_noted}
 use Rattle.auc_peer.specs.Attributes.{attrs_in, checkcode, differs}
 use Rattle.auc_peer.specs.Identities.{adopted, renamed, under, with_next_context, with_next_pseudonym}
 use Rattle.auc_peer.specs.Subscription.{Subscription}
-use Rattle.auc_peer.specs.Table.{accepting, again, by_answer, by_counter, client, context_from, context_of, counted_up, disclosed, keys_at, kept_by, master_at, opened as peer_opened, own_code, peer_does, pseudonym_given, resumed_by, resuming, small, succeeded, taken, taken_up, with_inner}
+use Rattle.auc_peer.specs.Table.{accepting, by_answer, by_counter, client, context_from, context_of, counted_up, disclosed, keys_at, kept_by, master_at, opened as peer_opened, own_code, peer_does, pseudonym_given, resumed_by, resuming, small, succeeded, taken, taken_up, with_inner}
 use Rattle.auc_peer.specs.Turn.{Decryption, Decrypts, decryption_by, decryption_made, decryption_resumed}
 use Rattle.auc_peer.specs.declared.decrypted.Decrypted.{Decrypted}
 use Rattle.auc_peer.specs.declared.decrypted.Decrypted.TheVariants as decrypted
 use Rattle.auc_peer.specs.declared.next.NextContext.{NextContext}
 use Rattle.auc_peer.specs.declared.next.NextContext.TheVariants as next
 use Rattle.auc_peer.specs.declared.peer.Challenge.{Challenge}
-use Rattle.auc_peer.specs.declared.peer.Last.{Last}
 use Rattle.auc_peer.specs.declared.peer.Peer.{Peer}
 use Rattle.auc_peer.specs.declared.peer.PeerState.{PeerState}
 use Rattle.auc_peer.specs.declared.peer.PeerState.TheVariants as state
@@ -117,10 +116,6 @@ answer_named p seen c (answer.Accepted res ck ik ak amf sqn) inner own is =
     (client (accepting p seen c) seen why.WrongCheckcode (Some (note.Accepted sqn)) true) (λ (d : Decrypted). peer_opened (accepting p seen c) seen res sqn keys (master_at p seen c ik ck) d) inner is own own
     (opened_named (accepting p seen c) seen res sqn keys (master_at p seen c ik ck) made inner own)
 
-again_named : (p : Peer) (last : Option Last) → HasNames p → IsNamed (again p last)
-again_named p None own = own
-again_named p (Some last) own = own
-
 succeeded_named : (p : Peer) (s : PeerState) → HasNames p → IsNamed (succeeded p s)
 succeeded_named p (state.Answered keys) own = own
 succeeded_named p state.Waiting own = own
@@ -159,7 +154,7 @@ resumed_named key keeps p seen (Some c) inner own is =
 pub row_named : (key : List ℕ) (s : Subscription) (keeps : Keeps) (p : Peer) (seen : Seen) (r : PeerRow) (n : Option UsimNote) (inner : Decrypted) → HasNames p
     → Decrypts (decryption_made s keeps p seen r n) inner → IsNamed (peer_does key s keeps p seen r n inner)
 row_named key s keeps p seen (row.Ignore cause) n inner own is = own
-row_named key s keeps p seen row.Again n inner own is = again_named p p.last own
+row_named key s keeps p seen row.Again n inner own is = own
 row_named key s keeps p seen row.First n inner own is = own
 row_named key s keeps p seen (row.Identity kind) n inner own is = own
 row_named key s keeps p seen (row.Client cause) n inner own is = own

@@ -76,7 +76,7 @@ server_one laws set w d (Some s) a b first second replies replied tells also sam
     let seen = one_seen laws d.bytes a.seen b.seen first second in
     let notes : a.notes ≡ b.notes = tells ∙ ap notes_or same ∙ sym also in
     let said : a.reply ≡ b.reply =
-    replies_once laws.walk laws.opening s.resumed a.seen.reading a.reply b.reply replies (subst (λ (x : Seen). Replies s.resumed x.reading b.reply) (sym seen) replied) in
+    replies_once laws.walk laws.opening s.state a.seen.reading a.reply b.reply replies (subst (λ (x : Seen). Replies s.state x.reading b.reply) (sym seen) replied) in
     record {
       same = alike (λ (t : Told). came_at_server set w t (Some s)) a b seen notes said;
       leads = alike (λ (t : Told). to_server set w d t (Some s)) a b seen notes said;

@@ -14,6 +14,8 @@ use Rattle.auc_seal.specs.declared.refusal.SealRefusal.{SealRefusal}
 use Rattle.auc_server.specs.Replies.{Counts, IsReply, IsReplyBy, IsReplyIn, Replies, reply_of}
 use Rattle.auc_server.specs.declared.reply.Reply.{Reply}
 use Rattle.auc_server.specs.declared.server.Resumed.{Resumed}
+use Rattle.auc_server.specs.declared.server.ServerState.{ServerState}
+use Rattle.auc_server.specs.declared.server.ServerState.TheVariants as state
 
 -- the value of a type has one answer
 value_of_bytes : OneWalk → (kind : ℕ) (bytes : List ℕ) (x y : Option (List ℕ)) → IsValueIn kind bytes x → IsValueIn kind bytes y → x ≡ y
@@ -53,6 +55,10 @@ in_once walk one sent (reading.Read (packet.Failure id)) a b f g = f ∙ sym g
 in_once walk one sent (reading.Fault fault) a b f g = f ∙ sym g
 
 -- a reply is one
-pub replies_once : OneWalk → OneOpening → (o : Option Resumed) (r : Reading) (a b : Reply) → Replies o r a → Replies o r b → a ≡ b
-replies_once walk one None r a b f g = f ∙ sym g
-replies_once walk one (Some sent) r a b f g = in_once walk one sent r a b f g
+pub replies_once : OneWalk → OneOpening → (now : ServerState) (r : Reading) (a b : Reply) → Replies now r a → Replies now r b → a ≡ b
+replies_once walk one (state.AwaitReauth sent) r a b f g = in_once walk one sent r a b f g
+replies_once walk one state.AwaitIdentity r a b f g = f ∙ sym g
+replies_once walk one (state.Await kind) r a b f g = f ∙ sym g
+replies_once walk one (state.AwaitChallenge sent before) r a b f g = f ∙ sym g
+replies_once walk one (state.Notifying cause last) r a b f g = f ∙ sym g
+replies_once walk one (state.Ended result last) r a b f g = f ∙ sym g

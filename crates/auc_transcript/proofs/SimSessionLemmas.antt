@@ -15,10 +15,10 @@ use Rattle.auc_lines.specs.declared.sim.SimSchedule.{SimSchedule}
 use Rattle.auc_random.specs.Random.{rand_of, sim_nonce}
 use Rattle.auc_sim.specs.Identity.{sim_identity, with_realm}
 use Rattle.auc_sim.specs.Session.{SimRuns}
-use Rattle.auc_sim.specs.Keys.{rand_in}
 use Rattle.auc_sim.specs.SessionLaws.{AreMatched, EachCardHasTheTripletOfItsVector, EachPlainSessionSucceeds, EachSessionAgrees}
 use Rattle.auc_sim.specs.Triplets.{card_of, of_vector}
-use Rattle.auc_sim.specs.declared.parts.Triplet.{Triplet}
+use Rattle.auc_sim_packet.specs.Keys.{rand_in}
+use Rattle.auc_sim_packet.specs.declared.parts.Triplet.{Triplet}
 use Rattle.auc_subs.specs.Subscriber.{AreSubscribers, IsRow}
 use Rattle.auc_subs.specs.declared.row.Row.{Row}
 use Rattle.auc_world.specs.Agreement.{IsRealm}

@@ -12,7 +12,7 @@ use Rattle.auc_reauth.specs.Device.{Keeps}
 use Rattle.auc_reauth.specs.Server.{Contexts, no_contexts}
 use Rattle.auc_reauth.specs.Store.{entry}
 use Rattle.auc_reauth.specs.declared.context.Context.{Context}
-use Rattle.auc_server.specs.Server.{ServerEnd}
+use Rattle.auc_server.specs.Server.{ServerEnd, resumed_of}
 use Rattle.auc_server.specs.declared.server.Resumed.{Resumed}
 use Rattle.auc_server.specs.declared.setting.HomeRow.{HomeRow}
 use Rattle.auc_subs.specs.declared.row.Row.{Row}
@@ -120,7 +120,7 @@ reached_sized set kept job net all r =
 
 -- so can what a server took up again
 pub reached_resumes : (set : Setting) (kept : List Kept) (job : List Line) (net : Net) (place : ℕ) (a : Session) (s : ServerEnd) (r : Resumed) → AreKeptSized kept
-    → IsReached set (start_of set kept job) net → slice_get net.sessions place ≡ Some a → a.server ≡ Some s → s.resumed ≡ Some r → IsSized r.context
+    → IsReached set (start_of set kept job) net → slice_get net.sessions place ≡ Some a → a.server ≡ Some s → resumed_of s ≡ Some r → IsSized r.context
 reached_resumes set kept job net place a s r all reached there is has =
     run_resumes_sized set (start_of set kept job) reached.happenings place a s r (start_sized set kept job all) (record { packets = refl; sessions = refl })
     (subst (λ (w : Net). slice_get w.sessions place ≡ Some a) reached.leads there) is has

@@ -11,7 +11,7 @@ use Rattle.auc_lines.specs.declared.part.Part.{Part}
 use Rattle.auc_lines.specs.declared.part.Part.TheVariants as part
 use Rattle.auc_peer.specs.Laws.{AcceptedIsOfTheContext}
 use Rattle.auc_reauth.specs.Machine.{Used, used_by}
-use Rattle.auc_server.specs.Server.{ServerEnd}
+use Rattle.auc_server.specs.Server.{ServerEnd, resumed_of}
 use Rattle.auc_server.specs.Setting.{Setting}
 use Rattle.auc_server.specs.declared.server.Resumed.{Resumed}
 use Rattle.auc_world.specs.Came.{Came, came, session_at, session_of}
@@ -183,7 +183,7 @@ cond_same counters false used e = refl
 module _ (m : Method) (sub : ℕ) where
   server_same : (counters : List ℕ) (o : Option ServerEnd) → counters ≡ resumed_counters o → told_under counters (counters_in m sub o) ≡ counters_in m sub o
   server_same counters None e = refl
-  server_same counters (Some q) e = cond_same counters (same_method q.options.method m) (resumed_for sub q.resumed) (by q.resumed e)
+  server_same counters (Some q) e = cond_same counters (same_method q.options.method m) (resumed_for sub (resumed_of q)) (by (resumed_of q) e)
     where
       by : (o : Option Resumed) → counters ≡ counters_of o → told_under counters (resumed_for sub o) ≡ resumed_for sub o
       by None e = refl

@@ -8,7 +8,7 @@ use Rattle.auc_peer.specs.Subscription.{Subscription}
 use Rattle.auc_peer.specs.Table.{gave_up as peer_gave_up}
 use Rattle.auc_reauth.specs.Machine.{Used}
 use Rattle.auc_reauth.specs.Store.{entry}
-use Rattle.auc_server.proofs.Facts.{each_turn_fits}
+use Rattle.auc_server.proofs.Facts.{each_turn_fits, started_fits}
 use Rattle.auc_server.specs.Laws.{Fits}
 use Rattle.auc_server.specs.Server.{ServerEnd, started}
 use Rattle.auc_server.specs.Setting.{Setting}
@@ -24,7 +24,7 @@ use Rattle.auc_world.proofs.Facts.{giving_up_counts, new_is_quiet, turn_counts}
 use Rattle.auc_transcript.specs.Completeness.{session_in}
 use Rattle.auc_transcript.specs.Counters.{accepted_noted, resumed_noted}
 use Rattle.auc_transcript.proofs.ChangeLemmas.{change_holds}
-use Rattle.auc_transcript.proofs.ToldTurnLemmas.{FitsIf, counters_of, gives_up, peer_counters, resumed_counters, started_fits, turn_shows}
+use Rattle.auc_transcript.proofs.ToldTurnLemmas.{FitsIf, counters_of, gives_up, peer_counters, resumed_counters, turn_shows}
 use Rattle.auc_transcript.proofs.ToldSessionLemmas.{Agrees, Steps, StepsIn, opened_steps, same_found, server_fine, stays, turned}
 
 -- ---- events of open sessions
@@ -80,7 +80,7 @@ module _ (set : Setting) (own : AcceptedIsOfTheContext) (w : Net) (told : Told) 
       (λ r a f.
       let fits = fits_of s.server q e f.fits in
       record {
-        taken_up = ap (λ (l : List ℕ). l ++ option_to_list turn.1.notes.resumed) (f.taken_up ∙ ap resumed_counters e) ∙ sym (turn_shows set w.homes q told.seen told.reply told.notes fits);
+        taken_up = ap (λ (l : List ℕ). l ++ option_to_list turn.1.notes.resumed) (f.taken_up ∙ ap resumed_counters e) ∙ sym (turn_shows set w.homes q told.seen told.reply told.notes);
         taken = append-nil a ∙ f.taken;
         fits = each_turn_fits set w.homes q told.seen told.reply told.notes fits;
         quiet = f.quiet;

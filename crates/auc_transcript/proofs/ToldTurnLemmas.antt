@@ -4,14 +4,15 @@ use Rattle.auc_hmac.specs.declared.keys.KeySet.{KeySet}
 use Rattle.auc_peer.specs.declared.next.NextContext.{NextContext}
 use Rattle.auc_peer.specs.declared.next.NextContext.TheVariants as next
 use Rattle.auc_peer.specs.declared.peer.Peer.{Peer}
+use Rattle.auc_peer.specs.Peer.{resumed_from}
 use Rattle.auc_reauth.specs.Machine.{Used, accepted_in, used_by}
 use Rattle.auc_reauth.specs.declared.context.Context.{Context}
 use Rattle.auc_packet.specs.Received.{Seen}
-use Rattle.auc_server.proofs.Facts.{Says, says_row}
+use Rattle.auc_server.proofs.Facts.{Says, given_up_fits, none_resumed, says_row}
 use Rattle.auc_server.specs.Contexts.{context_in, homes_left}
 use Rattle.auc_server.specs.Laws.{Fits, awaits_identity}
 use Rattle.auc_server.specs.Rows.{server_row, subscriber_in, text_in}
-use Rattle.auc_server.specs.Server.{ServerEnd, started}
+use Rattle.auc_server.specs.Server.{ServerEnd, resumed_of}
 use Rattle.auc_server.specs.Setting.{Setting}
 use Rattle.auc_server.specs.Table.{challenged, challenged_with, gave_up as server_gave_up, identified, names_given, noted, packets_after, reauthenticated, resumed_with, resynchronised, resynchronising, server_does, server_step, succeeded, vector_at}
 use Rattle.auc_server.specs.declared.options.ServerOptions.{ServerOptions}
@@ -57,7 +58,7 @@ FitsIf (Some q) = Fits q
 pub one_short : (fo : NextContext) (p : Peer) → length (accepted_for fo p) ≤ 1
 one_short next.Same p = omega arith
 one_short (next.New c) p = omega arith
-one_short (next.Renamed from to) p = by p.resumed (counter_given p.inner)
+one_short (next.Renamed from to) p = by (resumed_from p.source) (counter_given p.inner)
   where
     by : (c : Option Context) (n : Option ℕ) → length (counter_used c n) ≤ 1
     by None None = omega arith
@@ -88,10 +89,10 @@ counters_of o = map (λ (r : Resumed). r.context.counter) (option_to_list o)
 
 -- a turn resumes what it notes
 abbrev pub Shows : ServerEnd → ServerEnd × Turn ServerWhy → Type 0
-Shows s x = counters_of x.0.resumed ≡ counters_of s.resumed ++ option_to_list x.1.notes.resumed
+Shows s x = counters_of (resumed_of x.0) ≡ counters_of (resumed_of s) ++ option_to_list x.1.notes.resumed
 
-kept : (s : ServerEnd) → counters_of s.resumed ≡ counters_of s.resumed ++ []
-kept s = sym (append-nil (counters_of s.resumed))
+kept : (s : ServerEnd) → counters_of (resumed_of s) ≡ counters_of (resumed_of s) ++ []
+kept s = sym (append-nil (counters_of (resumed_of s)))
 
 vector_shows : (realm : List ℕ) (s : ServerEnd) (sub n : ℕ) (v : Option Vector) (given : Option GivenNames) (resynced : Option ResyncNote) (drawn : Option NumberNote) (checked : Bool)
     → Shows s (challenged_with realm s sub n v given (noted resynced drawn) checked)
@@ -106,18 +107,10 @@ challenged_shows set homes s sub checked resynced (Some (number.Drew n)) =
 challenged_shows set homes s sub checked resynced (Some (number.Exhausted w)) = kept s
 challenged_shows set homes s sub checked resynced (Some (number.Withheld n stop)) = kept s
 
-resumed_shows : (set : Setting) (homes : List HomeRow) (s : ServerEnd) (text : List ℕ) (packets : List (List ℕ)) (sub : ℕ) (c : Option Context) → s.resumed ≡ None
+resumed_shows : (set : Setting) (homes : List HomeRow) (s : ServerEnd) (text : List ℕ) (packets : List (List ℕ)) (sub : ℕ) (c : Option Context) → resumed_of s ≡ None
     → Shows s (resumed_with set homes s text packets sub c)
 resumed_shows set homes s text packets sub None none = kept s
 resumed_shows set homes s text packets sub (Some c) none = ap (λ (o : Option Resumed). counters_of o ++ c.counter ∷ []) (sym none)
-
-reauthenticated_shows : (s : ServerEnd) (o : Option Resumed) → Shows s (reauthenticated s o)
-reauthenticated_shows s None = kept s
-reauthenticated_shows s (Some r) = kept s
-
-succeeded_shows : (s : ServerEnd) (o : Option Challenged) → Shows s (succeeded s o)
-succeeded_shows s None = kept s
-succeeded_shows s (Some sent) = kept s
 
 resynchronised_shows : (set : Setting) (homes : List HomeRow) (s : ServerEnd) (sub : ℕ) (resynced : Option ResyncNote) (drawn : Option NumberNote)
     → Shows s (resynchronised set homes s sub resynced drawn)
@@ -128,75 +121,43 @@ resynchronised_shows set homes s sub (Some (resync.InRange seen seq)) drawn = ch
 resynchronised_shows set homes s sub (Some (resync.Moved seen seq)) drawn = challenged_shows set homes (resynchronising s) sub false (Some (resync.Moved seen seq)) drawn
 
 does_shows : (who : Option ℕ) (set : Setting) (homes : List HomeRow) (s : ServerEnd) (seen : Seen) (text : List ℕ) (packets : List (List ℕ)) (r : Row) (notes : Notes) → Says who s seen r
-    → (awaits_identity s.state ≡ true → s.resumed ≡ None) → Shows s (server_does set homes s text packets r notes)
-does_shows who set homes s seen text packets (row.Ignore cause) notes says fits = kept s
-does_shows who set homes s seen text packets (row.Ask kind) notes says fits = kept s
-does_shows who set homes s seen text packets row.UnknownIdentity notes says fits = kept s
-does_shows who set homes s seen text packets (row.Challenge sub) notes says fits = challenged_shows set homes (identified s text packets) sub false None notes.number
-does_shows who set homes s seen text packets (row.Resume sub) notes says fits =
-    resumed_shows set (homes_left s.options.method text homes sub) s text packets sub (context_in s.options.method text homes sub) (fits says)
-does_shows who set homes s seen text packets (row.TooSmall sub) notes says fits = challenged_shows set homes s sub true None notes.number
-does_shows who set homes s seen text packets row.WrongCounter notes says fits = kept s
-does_shows who set homes s seen text packets row.Reauthenticated notes says fits = reauthenticated_shows s s.resumed
-does_shows who set homes s seen text packets row.WrongMac notes says fits = kept s
-does_shows who set homes s seen text packets row.WrongRes notes says fits = kept s
-does_shows who set homes s seen text packets row.WrongCheckcode notes says fits = kept s
-does_shows who set homes s seen text packets row.Success notes says fits = succeeded_shows s s.challenged
-does_shows who set homes s seen text packets row.SecondSync notes says fits = kept s
-does_shows who set homes s seen text packets row.BadAuts notes says fits = kept s
-does_shows who set homes s seen text packets (row.Resynchronise sub seq) notes says fits = resynchronised_shows set homes s sub notes.resync notes.number
-does_shows who set homes s seen text packets row.Rejected notes says fits = kept s
-does_shows who set homes s seen text packets (row.ClientError code) notes says fits = kept s
-does_shows who set homes s seen text packets (row.Notified cause) notes says fits = kept s
+    → Shows s (server_does set homes s text packets r notes)
+does_shows who set homes s seen text packets (row.Ignore cause) notes says = kept s
+does_shows who set homes s seen text packets (row.Ask kind) notes says = ap (λ (o : Option Resumed). counters_of o ++ []) (sym (none_resumed s says))
+does_shows who set homes s seen text packets row.UnknownIdentity notes says = kept s
+does_shows who set homes s seen text packets (row.Challenge sub) notes says = challenged_shows set homes (identified s text packets) sub false None notes.number
+does_shows who set homes s seen text packets (row.Resume sub) notes says =
+    resumed_shows set (homes_left s.options.method text homes sub) s text packets sub (context_in s.options.method text homes sub) (none_resumed s says)
+does_shows who set homes s seen text packets (row.TooSmall sub) notes says = challenged_shows set homes s sub true None notes.number
+does_shows who set homes s seen text packets row.WrongCounter notes says = kept s
+does_shows who set homes s seen text packets (row.Reauthenticated sent) notes says = kept s
+does_shows who set homes s seen text packets row.WrongMac notes says = kept s
+does_shows who set homes s seen text packets row.WrongRes notes says = kept s
+does_shows who set homes s seen text packets row.WrongCheckcode notes says = kept s
+does_shows who set homes s seen text packets (row.Success sent) notes says = kept s
+does_shows who set homes s seen text packets row.SecondSync notes says = kept s
+does_shows who set homes s seen text packets row.BadAuts notes says = kept s
+does_shows who set homes s seen text packets (row.Resynchronise sub seq) notes says = resynchronised_shows set homes s sub notes.resync notes.number
+does_shows who set homes s seen text packets row.Rejected notes says = kept s
+does_shows who set homes s seen text packets (row.ClientError code) notes says = kept s
+does_shows who set homes s seen text packets (row.Notified cause) notes says = kept s
 
-pub turn_shows : (set : Setting) (homes : List HomeRow) (s : ServerEnd) (seen : Seen) (said : Reply) (notes : Notes) → Fits s → Shows s (server_step set homes s seen said notes)
-turn_shows set homes s seen said notes f =
+pub turn_shows : (set : Setting) (homes : List HomeRow) (s : ServerEnd) (seen : Seen) (said : Reply) (notes : Notes) → Shows s (server_step set homes s seen said notes)
+turn_shows set homes s seen said notes =
     does_shows (subscriber_in s.options.method set homes (text_in seen.reading)) set homes s seen (text_in seen.reading)
-    (packets_after s seen (server_row set homes s seen said)) (server_row set homes s seen said) notes (says_row set homes s seen said) f.before
+    (packets_after s seen (server_row set homes s seen said)) (server_row set homes s seen said) notes (says_row set homes s seen said)
 
 -- ---- a server that starts or gives up
-
-no_sent : {X : Type 0} (x : X) → ◌≡◌ {A = Option X} None (Some x) → ⊥
-no_sent x e = cc
-
-not_begun : (keys : KeySet) → state.AwaitIdentity ≡ state.Ended (outcome.Success keys) → ⊥
-not_begun keys e = cc
-
-pub started_fits : (options : ServerOptions) → Fits (started options)
-started_fits options = record {
-  first = λ e. refl;
-  before = λ e. refl;
-  keys = λ sent e. absurd (no_sent sent e);
-  master = λ sent e. absurd (no_sent sent e);
-  success = λ keys e. absurd (not_begun keys e);
-}
-
-not_awaited : awaits_identity (state.Ended (outcome.Failure why.GivenUp)) ≡ true → ⊥
-not_awaited e = cc
-
-not_won : (keys : KeySet) → state.Ended (outcome.Failure why.GivenUp) ≡ state.Ended (outcome.Success keys) → ⊥
-not_won keys e = cc
-
-over_fits : (s : ServerEnd) → Fits s → Fits (record s { state = state.Ended (outcome.Failure why.GivenUp) })
-over_fits s f = record {
-  first = λ e. absurd (not_awaited e);
-  before = λ e. absurd (not_awaited e);
-  keys = f.keys;
-  master = f.master;
-  success = λ keys e. absurd (not_won keys e);
-}
 
 -- a server that gives up keeps what it resumed
 pub record GivesUp (s new : ServerEnd) : Type 0 where
   pub fits : Fits new
-  pub same : new.resumed ≡ s.resumed
+  pub same : resumed_of new ≡ resumed_of s
 
 pub gives_up : (s : ServerEnd) (now : ServerState) → Fits s → GivesUp s (server_gave_up s now).0
-gives_up s (state.Ended result) f = record { fits = f; same = refl }
-gives_up s state.AwaitIdentity f = record { fits = over_fits s f; same = refl }
-gives_up s state.AwaitAny f = record { fits = over_fits s f; same = refl }
-gives_up s state.AwaitFull f = record { fits = over_fits s f; same = refl }
-gives_up s state.AwaitPermanent f = record { fits = over_fits s f; same = refl }
-gives_up s state.AwaitChallenge f = record { fits = over_fits s f; same = refl }
-gives_up s state.AwaitReauth f = record { fits = over_fits s f; same = refl }
-gives_up s (state.Notifying cause) f = record { fits = over_fits s f; same = refl }
+gives_up s (state.Ended result last) f = record { fits = f; same = refl }
+gives_up s state.AwaitIdentity f = record { fits = given_up_fits s f; same = refl }
+gives_up s (state.Await kind) f = record { fits = given_up_fits s f; same = refl }
+gives_up s (state.AwaitChallenge sent before) f = record { fits = given_up_fits s f; same = refl }
+gives_up s (state.AwaitReauth sent) f = record { fits = given_up_fits s f; same = refl }
+gives_up s (state.Notifying cause last) f = record { fits = given_up_fits s f; same = refl }

@@ -31,7 +31,6 @@ use Rattle.auc_reauth.specs.Machine.{used_by}
 use Rattle.auc_reauth.specs.declared.context.Context.{Context}
 use Rattle.auc_server.specs.Table.{silent}
 use Rattle.auc_server.specs.declared.reply.Reply.TheVariants as reply
-use Rattle.auc_server.specs.declared.server.Resumed.{Resumed}
 use Rattle.auc_sqn.specs.Number.{seq_of, sqn_bytes}
 use Rattle.auc_vector.specs.Vector.{autn_of}
 use Rattle.auc_vector.specs.declared.notes.UsimNote.{UsimNote}
@@ -58,7 +57,7 @@ use Rattle.auc_transcript.specs.Counters.{KeepsContexts}
 use Rattle.auc_transcript.specs.Headline.{FailsByPlace, FailsExactlyByPlace, IsFailure, IsGenuine, is_later}
 use Rattle.auc_transcript.specs.Keys.{EndsAgree, IsOfUnbrokenJob}
 use Rattle.auc_transcript.specs.Presented.{FailsExactlyByPlaceInSessions, IsNotedFailure, IsPresentedInSession}
-use Rattle.auc_transcript.specs.Witnesses.{ContextsAreKept, CountersAreNoted, KeysAreEqual, MacIsRight, PlacesDecide, PlacesDecideInSessions, PlainSessionWins, ResumedSessionWins, accepted_late, accepted_once, accepting, accepts, challenge, challenged, context, device, first_net, given_first, given_late, line_of, net_of, one_job, opening, peer_sent, plain_lines, presented_again, presented_first, presenting, resumed_lines, resumes, resuming, round_of, setting, subscriber, transcript_of, won, won_again, zeros}
+use Rattle.auc_transcript.specs.Witnesses.{ContextsAreKept, CountersAreNoted, KeysAreEqual, MacIsRight, PlacesDecide, PlacesDecideInSessions, PlainSessionWins, ResumedSessionWins, accepted_late, accepted_once, accepting, accepts, challenge, challenged, context, device, first_net, given_first, given_late, line_of, net_of, one_job, opening, peer_sent, plain_lines, presented_again, presented_first, presenting, resumed_lines, resumes, resuming, round_of, setting, subscriber, taken_up, transcript_of, won, won_again, zeros}
 
 -- ---- vectors that lines give
 
@@ -250,12 +249,12 @@ fast = inputs.Fast (record { method = method.Aka; sub = 0; identity = []; k_encr
 full_agree : (k l : KeySet) → EndsAgree (one_job (won k l ∷ [])) → k ≡ l
 full_agree k l promise =
     let a = won k l in
-    promise a a k l full full (in_job a) (in_job a) (record { server = _; is = refl; won = refl; inputs = refl }) (record { won = refl; inputs = refl }) (record { sub = refl; rand = refl; autn = refl })
+    promise a a k l full full (in_job a) (in_job a) (record { server = _; is = refl; last = _; won = refl; inputs = refl }) (record { won = refl; inputs = refl }) (record { sub = refl; rand = refl; autn = refl })
 
 fast_agree : (k l : KeySet) → EndsAgree (one_job (won_again k l ∷ [])) → k ≡ l
 fast_agree k l promise =
     let a = won_again k l in
-    promise a a k l fast fast (in_job a) (in_job a) (record { server = _; is = refl; won = refl; inputs = refl }) (record { won = refl; inputs = refl }) (record { sub = refl; identity = refl })
+    promise a a k l fast fast (in_job a) (in_job a) (record { server = _; is = refl; last = _; won = refl; inputs = refl }) (record { won = refl; inputs = refl }) (record { sub = refl; identity = refl })
 
 pub keys_are_equal : KeysAreEqual
 keys_are_equal k l = (full_agree k l, fast_agree k l)
@@ -374,10 +373,7 @@ alone = record {
   last = All-nil (λ (l : Line). session_named l ≢ Some 2);
 }
 
-abbrev taken_up : Resumed
-taken_up = record { sub = 0; context = context zeros 1; nonce = zeros; next = None }
-
 pub resumed_session_wins : ResumedSessionWins
-resumed_session_wins key verdicts now keys promise =
+resumed_session_wins key verdicts now keys took promise =
     promise.1.0.0 (line.Session (opening 2) ∷ []) [] 2 (opened_line ∷ []) resumed_lines (opened_net key) taken_up refl refl (opens key) alone
-    (record { own = _; is = refl; server = _; started = refl; resumed = refl }) (has_context key)
+    (record { own = _; is = refl; server = _; started = refl; resumed = took }) (has_context key)

@@ -28,12 +28,15 @@ use Rattle.auc_packet.specs.declared.subtype.Subtype.TheVariants as subtype
 use Rattle.auc_peer.specs.Table.{new_peer}
 use Rattle.auc_peer.specs.declared.decrypted.Decrypted.TheVariants as decrypted
 use Rattle.auc_peer.specs.declared.next.NextContext.TheVariants as next
+use Rattle.auc_peer.specs.declared.peer.Source.TheVariants as source
 use Rattle.auc_random.specs.Random.{rand_of}
 use Rattle.auc_reauth.specs.Device.{Keeps}
 use Rattle.auc_reauth.specs.Server.{no_contexts}
 use Rattle.auc_reauth.specs.declared.context.Context.{Context}
 use Rattle.auc_server.specs.Server.{started}
 use Rattle.auc_server.specs.Table.{silent}
+use Rattle.auc_server.specs.State.{last_of}
+use Rattle.auc_server.specs.declared.server.Resumed.{Resumed}
 use Rattle.auc_server.specs.declared.server.ServerState.{ServerState}
 use Rattle.auc_server.specs.declared.server.ServerState.TheVariants as state
 use Rattle.auc_sim.specs.SessionLaws.{Succeeds as SimSucceeds}
@@ -253,17 +256,19 @@ context name counter = record { origin = 1; identity = name; k_encr = zeros; k_a
 abbrev pub won : KeySet → KeySet → Session
 won k l = record (new_session (opening 1) 0) {
   server = Some (record (started (server_options (opening 1))) {
-    state = state.Ended (outcome.Success k);
-    challenged = Some (record {
-      sub = 0;
-      number = 1;
-      vector = record { n = 1; rand = zeros; autn = zeros; xres = []; ck = zeros; ik = zeros };
-      keys = k;
-      master = master.Aka zeros;
-      next = None;
+    state = state.Ended (outcome.Success k) (record {
+      challenged = Some (record {
+        sub = 0;
+        number = 1;
+        vector = record { n = 1; rand = zeros; autn = zeros; xres = []; ck = zeros; ik = zeros };
+        keys = k;
+        master = master.Aka zeros;
+        next = None;
+      });
+      resumed = None;
     });
   });
-  peer = record (new_peer (peer_options (opening 1))) { accepted = Some (record { rand = zeros; autn = zeros }) };
+  peer = record (new_peer (peer_options (opening 1))) { source = source.Challenge (record { rand = zeros; autn = zeros }) [] };
   peer_keys = Some l;
 }
 
@@ -271,10 +276,9 @@ won k l = record (new_session (opening 1) 0) {
 abbrev pub won_again : KeySet → KeySet → Session
 won_again k l = record (new_session (opening 1) 0) {
   server = Some (record (started (server_options (opening 1))) {
-    state = state.Ended (outcome.Success k);
-    resumed = Some (record { sub = 0; context = context [] 1; nonce = zeros; next = None });
+    state = state.Ended (outcome.Success k) (record { challenged = None; resumed = Some (record { sub = 0; context = context [] 1; nonce = zeros; next = None }) });
   });
-  peer = record (new_peer (peer_options (opening 1))) { resumed = Some (context [] 1) };
+  peer = record (new_peer (peer_options (opening 1))) { source = source.Context (context [] 1) };
   peer_keys = Some l;
 }
 
@@ -294,7 +298,7 @@ accepts session n = line_of (event.Deliver session end.Peer 3) (peer_sent (recor
 -- a session whose server took up a context again
 abbrev pub resuming : ℕ → Context → Session
 resuming session c = record (new_session (opening session) 0) {
-  server = Some (record (started (server_options (opening session))) { resumed = Some (record { sub = 0; context = c; nonce = zeros; next = None }) });
+  server = Some (record (started (server_options (opening session))) { state = state.AwaitReauth (record { sub = 0; context = c; nonce = zeros; next = None }) });
 }
 
 -- and one whose peer accepted the counter of its device's context
@@ -302,7 +306,7 @@ abbrev pub accepting : ℕ → Context → Session
 accepting session c = record (new_session (opening session) 0) {
   peer = record (new_peer (peer_options (opening session))) {
     inner = decrypted.Attributes (record { pseudonym = None; identity = None; counter = Some c.counter; nonce = Some zeros });
-    resumed = Some c;
+    source = source.Context c;
     next = next.Renamed c.identity None;
   };
 }
@@ -355,13 +359,13 @@ abbrev pub resumed_lines : List LineRecord
 resumed_lines =
     beginning 2 ++ resumes 2 1 ∷ accepts 2 1 ∷ winning 2
 
+abbrev pub taken_up : Resumed
+taken_up = record { sub = 0; context = context zeros 1; nonce = zeros; next = None }
+
 -- the network after it, whatever state the server is in and whatever keys the peer has
 abbrev pub second_net : ServerState → Option KeySet → Net
 second_net now keys = net_of (record (new_session (opening 2) 0) {
-  server = Some (record (started (server_options (opening 2))) {
-    state = now;
-    resumed = Some (record { sub = 0; context = context zeros 1; nonce = zeros; next = None });
-  });
+  server = Some (record (started (server_options (opening 2))) { state = now });
   peer_keys = keys;
 } ∷ [])
 
@@ -371,9 +375,10 @@ two_rounds verdicts =
     ∷ record_of.Round (round_of 2 (line_of (event.Open (opening 2)) of_opening ∷ resumed_lines) verdicts)
     ∷ []
 
--- the session succeeds too
+-- the session succeeds too, in whatever state the server has that took the context up
 abbrev pub ResumedSessionWins : Type 0
 ResumedSessionWins = (key : List ℕ) (verdicts : List SessionVerdict) (now : ServerState) (keys : Option KeySet)
+    → (last_of now).resumed ≡ Some taken_up
     → ResumedSessionsAgree (setting key) (plain_round 1 ∷ plain_round 2 ∷ []) (two_rounds verdicts) ((first_net (context zeros 1) ∷ []) ∷ (second_net now keys ∷ []) ∷ [])
     → Succeeds (second_net now keys) 2 × Contains verdicts (record { session = 2; agree = true })
 

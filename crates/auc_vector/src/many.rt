@@ -86,8 +86,7 @@ fn key_all(method: Method, name: &[u8], out: &mut [Vector])
     }
 }
 
-/// Makes the vectors of at most sixteen numbers for EAP-AKA: TEMP of each RAND, then four blocks of each number, which are
-/// encrypted together, and the vectors from their ciphers.
+/// Makes the vectors of at most sixteen numbers for EAP-AKA, each from its four ciphers.
 fn fill(
     m: &MilenageLanes,
     amf: [u8; 2],
@@ -102,6 +101,32 @@ fn fill(
     requires last { first + length rands.now ≤ top_of bits + 1 }
     ensures { out.new ≡ vectors_of m.now Aka amf [] bits first rands.now }
 {
+    let ciphers = ciphers(m, amf, bits, first, rands);
+    for i in 0..rands.len() {
+        let four = [
+            ciphers[4 * i],
+            ciphers[4 * i + 1],
+            ciphers[4 * i + 2],
+            ciphers[4 * i + 3],
+        ];
+        out[i] = made(m, amf, bits, first + i as u64, rands[i], four);
+    }
+}
+
+/// The ciphers of at most sixteen numbers from `first` on, four for each: TEMP of each RAND, then four blocks of each number,
+/// which are encrypted together.
+fn ciphers(
+    m: &MilenageLanes,
+    amf: [u8; 2],
+    bits: u8,
+    first: u64,
+    rands: &[[u8; 16]],
+) -> [[u8; 16]; 64]
+    requires bits { bits ≤ most_bits }
+    requires few { length rands.now ≤ 16 }
+    requires last { first + length rands.now ≤ top_of bits + 1 }
+    ensures { (j : ℕ) → j < length rands.now → AreCiphers m.now amf bits first rands.now result j }
+{
     let count = rands.len();
     let mut group = [[0; 16]; GROUP];
     let temps = &mut group[..count];
@@ -109,7 +134,7 @@ fn fill(
     m.temps(temps);
     let mut blocks = inputs(m, amf, bits, first, temps);
     m.encrypt(&mut blocks[..4 * count]);
-    take_apart(m, amf, bits, first, rands, &blocks, out);
+    blocks
 }
 
 /// The blocks that are encrypted for the numbers from `first` on, four for each, from their TEMPs.
@@ -135,34 +160,6 @@ fn inputs(
         blocks[4 * i + 3] = made[3];
     }
     blocks
-}
-
-/// The vectors of the numbers from `first` on, from their ciphers, four for each.
-fn take_apart(
-    m: &MilenageLanes,
-    amf: [u8; 2],
-    bits: u8,
-    first: u64,
-    rands: &[[u8; 16]],
-    ciphers: &[[u8; 16]; 64],
-    out: &mut [Vector],
-)
-    requires bits { bits ≤ most_bits }
-    requires few { length rands.now ≤ 16 }
-    requires lengths { length rands.now ≡ length out.old }
-    requires last { first + length rands.now ≤ top_of bits + 1 }
-    ensures { ((j : ℕ) → j < length rands.now → AreCiphers m.now amf bits first rands.now ciphers.now j)
-        → out.new ≡ vectors_of m.now Aka amf [] bits first rands.now }
-{
-    for i in 0..rands.len() {
-        let four = [
-            ciphers[4 * i],
-            ciphers[4 * i + 1],
-            ciphers[4 * i + 2],
-            ciphers[4 * i + 3],
-        ];
-        out[i] = made(m, amf, bits, first + i as u64, rands[i], four);
-    }
 }
 
 /// The vector of a number, from its four ciphers.

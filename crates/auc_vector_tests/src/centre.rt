@@ -1,6 +1,6 @@
 //! A desk, call by call, through a caller of any centre.
 
-ghost use Rattle.std.specs.Prelude.{◌≡◌, ◌<◌, ◌≤◌, ◌∷◌, [], length, slice_index, false};
+ghost use Rattle.std.specs.Prelude.{◌≡◌, ◌<◌, ◌≤◌, ◌∷◌, [], All, length, slice_index, false};
 ghost use Rattle.auc_sqn.specs.Number.{max_seq};
 ghost use Rattle.auc_draw.specs.Book.{IsOf};
 ghost use Rattle.auc_centre.specs.Adds.{Adds, kept_by};
@@ -59,20 +59,40 @@ fn draw_and_resync_at_desk<L: Naming<D>, D: Disk + Drop, R: Wait>(
     draw_and_resync(rt, &mut desk, sub, seq_ms)
 }
 
-/// Does the same three times in a round: with the first pass, with the second, and with the first again. The keeper's
-/// parts are handed back.
+/// Does the same for the first subscriber with the pass at a place.
+fn draw_and_resync_by<L: Naming<D>, D: Disk + Drop, R: Wait>(
+    rt: &R,
+    book: &Book,
+    passes: &mut [Pass],
+    place: usize,
+    keeper: &Mutex<Kept<L, D>>,
+    seq_ms: u64,
+) -> Answers
+    requires book { (book.now.id ≡ L.table) × (book.now.tops ≡ L.tops) }
+    requires own { All (IsOf L.table L.tops) passes.old }
+    requires place { place < length passes.old }
+    requires sized { subs_of L.opening ≡ length book.now.openings }
+    requires sub { 0 < length book.now.openings }
+    requires number { seq_ms ≤ slice_index book.now.tops 0 }
+    ensures own { All (IsOf L.table L.tops) passes.new }
+    ensures many { length passes.new ≡ length passes.old }
+{
+    draw_and_resync_at_desk(rt, book, &mut passes[place], keeper, 0, seq_ms)
+}
+
+/// Does the same three times in a round of two passes: with the first one, with the second one, and with the first one again.
+/// The keeper's parts are handed back.
 fn draw_three_times<L: Naming<D>, D: Disk + Drop, R: Wait>(
     rt: &R,
     book: &Book,
-    first: &mut Pass,
-    second: &mut Pass,
+    passes: &mut [Pass],
     journal: Journal<D>,
     keeper: KeeperPass,
     seq_ms: u64,
 ) -> ([Answers; 3], Journal<D>, KeeperPass)
     requires begins { Begins L.table L.tops L.passes L.opening book.now journal keeper }
-    requires first { IsOf L.table L.tops first.old }
-    requires second { IsOf L.table L.tops second.old }
+    requires own { All (IsOf L.table L.tops) passes.old }
+    requires two { length passes.old ≡ 2 }
     requires sub { 0 < length book.now.openings }
     requires number { seq_ms ≤ slice_index book.now.tops 0 }
     ensures subscribers { result.1.imsis ≡ journal.imsis }
@@ -80,9 +100,9 @@ fn draw_three_times<L: Naming<D>, D: Disk + Drop, R: Wait>(
 {
     let lock = Mutex::new(Kept::<L, D>::new(Keeper::new(journal, keeper)));
     let answers = [
-        draw_and_resync_at_desk(rt, book, first, &lock, 0, seq_ms),
-        draw_and_resync_at_desk(rt, book, second, &lock, 0, seq_ms),
-        draw_and_resync_at_desk(rt, book, first, &lock, 0, seq_ms),
+        draw_and_resync_by(rt, book, passes, 0, &lock, seq_ms),
+        draw_and_resync_by(rt, book, passes, 1, &lock, seq_ms),
+        draw_and_resync_by(rt, book, passes, 0, &lock, seq_ms),
     ];
     let (journal, keeper) = lock.into_inner().into_keeper().parts();
     (answers, journal, keeper)
@@ -120,13 +140,10 @@ fn play<R: Abort + Wait>(
     let Ok((book, mut passes, keeper)) = Book::open(alloc, &[opening], &[top], &limits, 2) else {
         panic!(rt; "no memory")
     };
-    let mut second = passes.pop().expect(rt, "a pass");
-    let mut first = passes.pop().expect(rt, "a pass");
     let (answers, journal, _keeper) = draw_three_times::<Brand, MemDisk, R>(
         rt,
         &book,
-        &mut first,
-        &mut second,
+        passes.as_mut_slice(),
         journal,
         keeper,
         seq_ms,
@@ -134,68 +151,77 @@ fn play<R: Abort + Wait>(
     (answers, journal.reserved(0))
 }
 
-// By hand, with a range of 2^28 = 268435456 and 64 numbers a reservation: the opening, the top, the SEQ, the three answers,
-// the limit.
+/// The answers if no number is left.
+const NONE_LEFT: Answers = (
+    Err(CentreRefusal::Exhausted(MAX_SEQ)),
+    Ok(Resynced::InRange(MAX_SEQ, MAX_SEQ)),
+);
+
+/// A subscriber's opening and its greatest number, the SEQ, the three answers, and the limit after the round.
+type Round = (u64, u64, u64, [Answers; 3], u64);
+
+// By hand, with a range of 2^28 = 268435456 and 64 numbers a reservation.
+const ROUNDS: [Round; 4] = [
+    (
+        10,
+        MAX_SEQ,
+        20,
+        [
+            (Ok(11), Ok(Resynced::Moved(11, 20))),
+            (Ok(21), Ok(Resynced::InRange(21, 20))),
+            (Ok(22), Ok(Resynced::InRange(22, 20))),
+        ],
+        74,
+    ),
+    (
+        268435456,
+        MAX_SEQ,
+        2,
+        [
+            (Ok(268435457), Ok(Resynced::InRange(268435457, 2))),
+            (Ok(268435458), Err(CentreRefusal::Beyond(268435458, 2))),
+            (Ok(268435459), Err(CentreRefusal::Beyond(268435459, 2))),
+        ],
+        268435520,
+    ),
+    // No number is left, and each pass's first refused draw adds one to the word.
+    (
+        MAX_SEQ,
+        MAX_SEQ,
+        MAX_SEQ,
+        [
+            NONE_LEFT,
+            (
+                Err(CentreRefusal::Exhausted(MAX_SEQ + 1)),
+                Ok(Resynced::InRange(MAX_SEQ + 1, MAX_SEQ)),
+            ),
+            NONE_LEFT,
+        ],
+        0,
+    ),
+    // Two numbers are left of this subscriber's. Its limit goes on above its top.
+    (
+        10,
+        12,
+        11,
+        [
+            (Ok(11), Ok(Resynced::InRange(11, 11))),
+            (Ok(12), Ok(Resynced::InRange(12, 11))),
+            (
+                Err(CentreRefusal::Exhausted(12)),
+                Ok(Resynced::InRange(12, 11)),
+            ),
+        ],
+        74,
+    ),
+];
+
 #[test]
 fn desks_draw_and_resynchronise(rt: HostRuntime) {
-    let alloc = rt.alloc();
-    let spent = |word| Err(CentreRefusal::Exhausted(word));
-    let cases = [
-        (
-            10,
-            MAX_SEQ,
-            20,
-            [
-                (Ok(11), Ok(Resynced::Moved(11, 20))),
-                (Ok(21), Ok(Resynced::InRange(21, 20))),
-                (Ok(22), Ok(Resynced::InRange(22, 20))),
-            ],
-            74,
-        ),
-        (
-            268435456,
-            MAX_SEQ,
-            2,
-            [
-                (Ok(268435457), Ok(Resynced::InRange(268435457, 2))),
-                (Ok(268435458), Err(CentreRefusal::Beyond(268435458, 2))),
-                (Ok(268435459), Err(CentreRefusal::Beyond(268435459, 2))),
-            ],
-            268435520,
-        ),
-        // No number is left, and each pass's first refused draw adds one to the word.
-        (
-            MAX_SEQ,
-            MAX_SEQ,
-            MAX_SEQ,
-            [
-                (spent(MAX_SEQ), Ok(Resynced::InRange(MAX_SEQ, MAX_SEQ))),
-                (
-                    spent(MAX_SEQ + 1),
-                    Ok(Resynced::InRange(MAX_SEQ + 1, MAX_SEQ)),
-                ),
-                (spent(MAX_SEQ), Ok(Resynced::InRange(MAX_SEQ, MAX_SEQ))),
-            ],
-            0,
-        ),
-        // Two numbers are left of this subscriber's. Its limit goes on above its top.
-        (
-            10,
-            12,
-            11,
-            [
-                (Ok(11), Ok(Resynced::InRange(11, 11))),
-                (Ok(12), Ok(Resynced::InRange(12, 11))),
-                (spent(12), Ok(Resynced::InRange(12, 11))),
-            ],
-            74,
-        ),
-    ];
-    for (opening, top, seq, answers, limit) in cases {
-        assert!(rt;
-            play(&rt, alloc, 100, opening, top, seq) == (answers, limit),
-            "from {opening}"
-        );
+    for (opening, top, seq, answers, limit) in ROUNDS {
+        assert!(rt; opening <= top && top <= MAX_SEQ && seq <= top);
+        let found = play(&rt, rt.alloc(), 100, opening, top, seq);
+        assert!(rt; found == (answers, limit), "from {opening}");
     }
 }
 

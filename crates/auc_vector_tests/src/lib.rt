@@ -1,5 +1,5 @@
-//! Tests of the crates of vectors, of USIMs, of EPS and 5G keys, of EAP-SIM, of sites, and of the centre over shared words:
-//! one file for each crate.
+//! Tests of the crates of vectors, of USIMs, of EPS and 5G keys, of sites, and of centres, on one thread and over shared words:
+//! one file for each, and for vectors one of values and one of the centre.
 //!
 //! They stand in a crate of their own, since the tests of a crate are proved together with it.
 #![tactic(auto)]
@@ -7,9 +7,9 @@
 #[cfg(test)]
 mod centre;
 #[cfg(test)]
-mod fiveg;
+mod core_centre;
 #[cfg(test)]
-mod sim;
+mod fiveg;
 #[cfg(test)]
 mod sites;
 #[cfg(test)]

@@ -9,6 +9,7 @@ use Rattle.auc_peer.specs.declared.peer.Peer.{Peer}
 use Rattle.auc_peer.specs.declared.peer.PeerState.{PeerState}
 use Rattle.auc_peer.specs.declared.peer.PeerState.TheVariants as peer_state
 use Rattle.auc_peer.specs.declared.why.PeerWhy.{PeerWhy}
+use Rattle.auc_server.proofs.Facts.{started_fits}
 use Rattle.auc_server.specs.Server.{ServerEnd, started}
 use Rattle.auc_server.specs.Table.{gave_up as server_gave_up, repeated, silent}
 use Rattle.auc_server.specs.declared.server.ServerState.{ServerState}
@@ -16,7 +17,7 @@ use Rattle.auc_server.specs.declared.server.ServerState.TheVariants as state
 use Rattle.auc_server.specs.declared.why.ServerWhy.{ServerWhy}
 use Rattle.auc_vector.specs.declared.turn.Step.{Step}
 use Rattle.auc_vector.specs.declared.turn.Step.TheVariants as step
-use Rattle.auc_world.proofs.FitLemmas.{gave_up_held, started_fits}
+use Rattle.auc_world.proofs.FitLemmas.{gave_up_held}
 use Rattle.auc_world.proofs.WorldLemmas.{stays}
 use Rattle.auc_world.specs.Came.{by_peer, by_server, came_repeated, came_started, packet_number, server_came_to_give_up}
 use Rattle.auc_world.specs.Happened.{keys_won, repeat, sent_by, server_gives_up, start, with_peer, with_server}
@@ -132,14 +133,12 @@ repeats packets sent session s what packet n is is_what is_sent is_packet is_n =
 -- ---- an end gives up
 
 gives_nothing : (s : ServerEnd) (now : ServerState) → sent_by (server_gave_up s now).1 ≡ None
-gives_nothing s (state.Ended result) = refl
+gives_nothing s (state.Ended result last) = refl
 gives_nothing s state.AwaitIdentity = refl
-gives_nothing s state.AwaitAny = refl
-gives_nothing s state.AwaitFull = refl
-gives_nothing s state.AwaitPermanent = refl
-gives_nothing s state.AwaitChallenge = refl
-gives_nothing s state.AwaitReauth = refl
-gives_nothing s (state.Notifying cause) = refl
+gives_nothing s (state.Await kind) = refl
+gives_nothing s (state.AwaitChallenge sent before) = refl
+gives_nothing s (state.AwaitReauth sent) = refl
+gives_nothing s (state.Notifying cause last) = refl
 
 pub nobody_gives_up : (packets : List SentPacket) (session : Session) → session.server ≡ None → Acts (deed.GiveUp end.Server) packets session packets session (Err refused.NoSuchEnd)
 nobody_gives_up packets session is = record {

@@ -1,15 +1,16 @@
 -- For runs of jobs: each context of a home can be sent, whatever befell the network.
-use Rattle.std.proofs.Common.{◌≡◌, ℕ, true, List, [], ◌∷◌, Option, Some, None, slice_get, slice_set, refl, ap, ◌∙◌, subst, ⊎_elim}
+use Rattle.std.proofs.Common.{◌≡◌, ℕ, List, [], ◌∷◌, Option, Some, None, slice_get, slice_set, refl, ap, ◌∙◌, subst, ⊎_elim}
 use Rattle.auc_hmac.specs.declared.keys.KeySet.{KeySet}
 use Rattle.auc_lines.specs.declared.part.End.{End}
 use Rattle.auc_lines.specs.declared.part.End.TheVariants as end
 use Rattle.auc_lines.specs.declared.part.SessionLine.{SessionLine}
 use Rattle.auc_peer.specs.Subscription.{Subscription}
 use Rattle.auc_peer.specs.declared.peer.Peer.{Peer}
-use Rattle.auc_server.proofs.Facts.{each_turn_fits}
-use Rattle.auc_server.specs.Laws.{Fits, awaits_identity}
-use Rattle.auc_server.specs.Server.{ServerEnd, started}
+use Rattle.auc_server.proofs.Facts.{each_turn_fits, given_up_fits, started_fits}
+use Rattle.auc_server.specs.Laws.{Fits}
+use Rattle.auc_server.specs.Server.{ServerEnd, resumed_of, started}
 use Rattle.auc_server.specs.Setting.{Setting}
+use Rattle.auc_server.specs.State.{last_of}
 use Rattle.auc_server.specs.Table.{gave_up}
 use Rattle.auc_server.specs.declared.options.ServerOptions.{ServerOptions}
 use Rattle.auc_server.specs.declared.server.Challenged.{Challenged}
@@ -26,9 +27,9 @@ use Rattle.auc_world.specs.declared.event.Event.{Event}
 use Rattle.auc_world.specs.declared.event.Event.TheVariants as event
 use Rattle.auc_world.specs.declared.net.SentPacket.{SentPacket}
 use Rattle.auc_world.specs.declared.net.Session.{Session}
-use Rattle.auc_world.proofs.AgainLemmas.{none_there, over_again, some_one, with_end, with_peer_in}
+use Rattle.auc_world.proofs.AgainLemmas.{none_there, some_one, with_end, with_peer_in}
 use Rattle.auc_world.proofs.AgainListLemmas.{push_cases, set_cases}
-use Rattle.auc_world.proofs.AgainTextLemmas.{ServerAgain, turn_again, turn_sized}
+use Rattle.auc_world.proofs.AgainTextLemmas.{ServerAgain, over_again, turn_again, turn_sized}
 
 -- a server's keys are those of its inputs, and what it took up again can be sent
 abbrev pub IsFit : Setting → ServerEnd → Type 0
@@ -76,48 +77,19 @@ no_sent sent e = cc
 no_resumed : (r : Resumed) → ◌≡◌ {A = Option Resumed} None (Some r) → ⊥
 no_resumed r e = cc
 
-no_success : (keys : KeySet) → state.AwaitIdentity ≡ state.Ended (outcome.Success keys) → ⊥
-no_success keys e = cc
-
 started_fit : (set : Setting) (o : ServerOptions) → IsFit set (started o)
-started_fit set o = (
-  record {
-    first = λ e. refl;
-    before = λ e. refl;
-    keys = λ sent e. absurd (no_sent sent e);
-    master = λ sent e. absurd (no_sent sent e);
-    success = λ keys e. absurd (no_success keys e);
-  },
-  record { taken = λ r e. absurd (no_resumed r e); last = λ r e none. absurd (no_resumed r e) },
-)
+started_fit set o = (started_fits o, record { taken = λ r e. absurd (no_resumed r e); last = λ r e none. absurd (no_resumed r e) })
 
-no_awaiting : awaits_identity (state.Ended (outcome.Failure why.GivenUp)) ≡ true → ⊥
-no_awaiting e = cc
-
-no_won : (keys : KeySet) → state.Ended (outcome.Failure why.GivenUp) ≡ state.Ended (outcome.Success keys) → ⊥
-no_won keys e = cc
-
-ended_fit : (set : Setting) (s : ServerEnd) → IsFit set s → IsFit set (record s { state = state.Ended (outcome.Failure why.GivenUp) })
-ended_fit set s (fits, again) = (
-  record {
-    first = λ e. absurd (no_awaiting e);
-    before = λ e. absurd (no_awaiting e);
-    keys = fits.keys;
-    master = fits.master;
-    success = λ keys e. absurd (no_won keys e);
-  },
-  over_again set s (state.Ended (outcome.Failure why.GivenUp)) again,
-)
+ended_fit : (set : Setting) (s : ServerEnd) → IsFit set s → IsFit set (record s { state = state.Ended (outcome.Failure why.GivenUp) (last_of s.state) })
+ended_fit set s (fits, again) = (given_up_fits s fits, over_again set s (state.Ended (outcome.Failure why.GivenUp) (last_of s.state)) refl again)
 
 gave_fit : (set : Setting) (s : ServerEnd) (now : ServerState) → IsFit set s → IsFit set (gave_up s now).0
-gave_fit set s (state.Ended r) f = f
+gave_fit set s (state.Ended r last) f = f
 gave_fit set s state.AwaitIdentity f = ended_fit set s f
-gave_fit set s state.AwaitAny f = ended_fit set s f
-gave_fit set s state.AwaitFull f = ended_fit set s f
-gave_fit set s state.AwaitPermanent f = ended_fit set s f
-gave_fit set s state.AwaitChallenge f = ended_fit set s f
-gave_fit set s state.AwaitReauth f = ended_fit set s f
-gave_fit set s (state.Notifying cause) f = ended_fit set s f
+gave_fit set s (state.Await kind) f = ended_fit set s f
+gave_fit set s (state.AwaitChallenge sent before) f = ended_fit set s f
+gave_fit set s (state.AwaitReauth sent) f = ended_fit set s f
+gave_fit set s (state.Notifying cause last) f = ended_fit set s f
 
 -- ---- events
 
@@ -216,5 +188,5 @@ run_is_sized set w hs sized new = (fits_later set w hs sized new).sized
 
 -- and what a server took up again can be sent
 pub run_resumes_sized : (set : Setting) (w : Net) (hs : List Happening) (place : ℕ) (a : Session) (s : ServerEnd) (r : Resumed) → AreSized w.homes → IsFresh w
-    → slice_get (after set w hs).sessions place ≡ Some a → a.server ≡ Some s → s.resumed ≡ Some r → IsSized r.context
+    → slice_get (after set w hs).sessions place ≡ Some a → a.server ≡ Some s → resumed_of s ≡ Some r → IsSized r.context
 run_resumes_sized set w hs place a s r sized new there is has = (((fits_later set w hs sized new).each place a s there is).1.taken r has).fits.context

@@ -16,17 +16,22 @@ use Rattle.auc_peer.specs.Turn.{IsInner}
 use Rattle.auc_peer.specs.declared.decrypted.Decrypted.TheVariants as decrypted
 use Rattle.auc_peer.specs.declared.peer.Challenge.{Challenge}
 use Rattle.auc_peer.specs.declared.peer.Peer.{Peer}
+use Rattle.auc_peer.specs.declared.peer.Source.{Source as KeySource}
+use Rattle.auc_peer.specs.declared.peer.Source.TheVariants as source
+use Rattle.auc_peer.specs.Peer.{resumed_from}
 use Rattle.auc_peer.specs.declared.peer.PeerState.{PeerState}
 use Rattle.auc_peer.specs.declared.peer.PeerState.TheVariants as peer_state
 use Rattle.auc_peer.specs.declared.why.PeerWhy.{PeerWhy}
 use Rattle.auc_peer.specs.declared.why.PeerWhy.TheVariants as peer_why
 use Rattle.auc_reauth.specs.declared.context.Context.{Context}
 use Rattle.auc_server.proofs.Facts.{turn_options}
-use Rattle.auc_server.specs.Server.{ServerEnd, started}
+use Rattle.auc_server.specs.Server.{ServerEnd, challenged_of, resumed_of, started}
 use Rattle.auc_server.specs.Setting.{Setting}
+use Rattle.auc_server.specs.State.{last_of}
 use Rattle.auc_server.specs.Table.{gave_up, repeated, resumed_keys}
 use Rattle.auc_server.specs.declared.options.ServerOptions.{ServerOptions}
 use Rattle.auc_server.specs.declared.server.Challenged.{Challenged}
+use Rattle.auc_server.specs.declared.server.Last.{Last}
 use Rattle.auc_server.specs.declared.server.Resumed.{Resumed}
 use Rattle.auc_server.specs.declared.server.ServerState.{ServerState}
 use Rattle.auc_server.specs.declared.server.ServerState.TheVariants as state
@@ -42,7 +47,7 @@ use Rattle.auc_vector.specs.declared.turn.Turn.{Turn}
 use Rattle.auc_world.specs.Agreement.{Agree, AreOfOneResumption, AreReleasedOnce, AreSized, AreTold, DecryptsIn, EachHonestRunAgrees, Happening, IsFresh, IsHonest, IsHonestAt, IsHonestFinding, IsRealm, IsToldAt, Noted, Occurs, PeerWon, SentBefore, ServerWon, after, after_one}
 use Rattle.auc_world.specs.Came.{AreReceived, presented_at, presented_in, received_at, received_by}
 use Rattle.auc_world.specs.Happened.{Delivery, Told, at_place, at_session, delivered, delivery_at, delivery_of, found, found_by, give_up, in_session, keys_won, moved, new_session, opened, peer_finds, peer_turn, repeat, sent_by, server_gives_up, server_turn, start, to_peer, to_server, changed_in, with_copy}
-use Rattle.auc_world.specs.Net.{Net, device_place, inputs_accepted, inputs_of_context, inputs_of_peer, inputs_of_server, inputs_sent, keeps_at, packet_at, posted, session_place, copies}
+use Rattle.auc_world.specs.Net.{Net, device_place, inputs_from, inputs_of_context, inputs_of_peer, inputs_of_server, inputs_sent, keeps_at, packet_at, posted, session_place, copies}
 use Rattle.auc_world.specs.Resumption.{AreResumedOnce, resumptions}
 use Rattle.auc_world.specs.declared.event.Event.{Event}
 use Rattle.auc_world.specs.declared.event.Event.TheVariants as event
@@ -54,8 +59,8 @@ use Rattle.auc_world.specs.declared.net.Session.{Session}
 use Rattle.auc_world.proofs.AgainListLemmas.{Resumes, one_place, push_cases, push_stays, set_cases, set_stays, set_there}
 use Rattle.auc_world.proofs.AgainPeerLemmas.{Takes, turn_takes}
 use Rattle.auc_world.proofs.AgainReadLemmas.{IsAsking, IsOther, IsText, Readings, asked_counter, lacks}
-use Rattle.auc_world.proofs.AgainTextLemmas.{Sends, ServerAgain, turn_again, turn_keeps, turn_sized}
-use Rattle.auc_world.proofs.AgreementLemmas.{HoldsOf, Laws, SessionFine, at, begins, contained, full_agreed, one_holds, server_in, won_cases}
+use Rattle.auc_world.proofs.AgainTextLemmas.{Sends, ServerAgain, over_again, turn_again, turn_keeps, turn_sized}
+use Rattle.auc_world.proofs.AgreementLemmas.{HoldsOf, Laws, SessionFine, at, begins, contained, full_agreed, one_holds, resumed_is, server_in, won_cases}
 use Rattle.auc_world.proofs.PremiseLemmas.{honest_run}
 
 -- the laws of the two ends, of vectors and of packets
@@ -95,10 +100,10 @@ pub record PeerIs (sessions : List Session) (sub : ℕ) (p : Peer) (keys : KeySe
   pub same : keys ≡ reauth_keys_of c.k_encr c.k_aut c.master (text_or_none p.identity) resumed.context.counter resumed.nonce
 
 abbrev pub Live : List Session → ℕ → Peer → Type 0
-Live sessions sub p = (keys : KeySet) (c : Context) → p.state ≡ peer_state.Answered keys → p.resumed ≡ Some c → PeerIs sessions sub p keys c
+Live sessions sub p = (keys : KeySet) (c : Context) → p.state ≡ peer_state.Answered keys → resumed_from p.source ≡ Some c → PeerIs sessions sub p keys c
 
 abbrev pub Won : List Session → ℕ → Peer → Option KeySet → Type 0
-Won sessions sub p won = (keys : KeySet) (c : Context) → won ≡ Some keys → p.resumed ≡ Some c → PeerIs sessions sub p keys c
+Won sessions sub p won = (keys : KeySet) (c : Context) → won ≡ Some keys → resumed_from p.source ≡ Some c → PeerIs sessions sub p keys c
 
 pub record SessionAgain (set : Setting) (sessions : List Session) (a : Session) : Type 0 where
   pub server : (s : ServerEnd) → a.server ≡ Some s → ServerAgain set s
@@ -150,30 +155,30 @@ posted_again set sessions packets from inputs (Some bytes) all own packet i is_i
 
 -- inputs of a re-authentication are those of a server that has sent no challenge
 pub record HasInputs (s : ServerEnd) (i : FastInputs) : Type 0 where
-  pub none : s.challenged ≡ None
+  pub none : challenged_of s ≡ None
   pub resumed : Resumed
-  pub has : s.resumed ≡ Some resumed
+  pub has : resumed_of s ≡ Some resumed
   pub same : inputs_of_context s.options.method resumed.sub s.identity resumed.context ≡ i
 
 same_fast : (i j : FastInputs) → ◌≡◌ {A = Option Inputs} (Some (inputs_of.Fast i)) (Some (inputs_of.Fast j)) → i ≡ j
 same_fast i j e = cc
 
 pub server_inputs : (s : ServerEnd) (i : FastInputs) → inputs_of_server s ≡ Some (inputs_of.Fast i) → HasInputs s i
-server_inputs s i e = by s.challenged s.resumed refl refl e
+server_inputs s i e = by (challenged_of s) (resumed_of s) refl refl e
   where
-    by : (c : Option Challenged) (r : Option Resumed) → s.challenged ≡ c → s.resumed ≡ r → inputs_sent s.options.method s.options.name s.identity c r ≡ Some (inputs_of.Fast i) → HasInputs s i
+    by : (c : Option Challenged) (r : Option Resumed) → challenged_of s ≡ c → resumed_of s ≡ r → inputs_sent s.options.method s.options.name s.identity c r ≡ Some (inputs_of.Fast i) → HasInputs s i
     by None None f g h = absurd cc
     by None (Some r) f g h = record { none = f; resumed = r; has = g; same = same_fast (inputs_of_context s.options.method r.sub s.identity r.context) i h }
     by (Some sent) r f g h = absurd cc
 
-pub peer_inputs : (p : Peer) (sub : ℕ) (i : FastInputs) → inputs_of_peer sub p ≡ Some (inputs_of.Fast i) → (c : Context) × (p.resumed ≡ Some c) × (inputs_at sub c p ≡ i)
-peer_inputs p sub i e = by p.resumed p.accepted refl e
+pub peer_inputs : (p : Peer) (sub : ℕ) (i : FastInputs) → inputs_of_peer sub p ≡ Some (inputs_of.Fast i) → (c : Context) × (resumed_from p.source ≡ Some c) × (inputs_at sub c p ≡ i)
+peer_inputs p sub i e = by p.source refl e
   where
-    by : (r : Option Context) (a : Option Challenge) → p.resumed ≡ r → inputs_accepted p.options.method p.network sub p.identity a r ≡ Some (inputs_of.Fast i)
-        → (c : Context) × (p.resumed ≡ Some c) × (inputs_at sub c p ≡ i)
-    by None None f g = absurd cc
-    by None (Some c) f g = absurd cc
-    by (Some c) a f g = (c, f, same_fast (inputs_at sub c p) i g)
+    by : (r : KeySource) → p.source ≡ r → inputs_from p.options.method sub (text_or_none p.identity) r ≡ Some (inputs_of.Fast i)
+        → (c : Context) × (resumed_from p.source ≡ Some c) × (inputs_at sub c p ≡ i)
+    by source.Nothing f g = absurd cc
+    by (source.Challenge c name) f g = absurd cc
+    by (source.Context c) f g = (c, ap resumed_from f, same_fast (inputs_at sub c p) i g)
 
 -- ---- agreement
 
@@ -204,7 +209,7 @@ fast_agreed set w h again once a b k l i j ina inb won other alike =
     let own = server_inputs s i won.inputs in
     let r = own.resumed in
     let keys : k ≡ resumed_keys s r =
-    ⊎_elim (λ sent. absurd (none_some s.challenged sent.0 own.none sent.1)) (λ has. has.2 ∙ ap (resumed_keys s) (some_one s.resumed has.0 r has.1 own.has)) (fits.success k won.won) in
+    ⊎_elim (λ sent. absurd (none_some (challenged_of s) sent.0 own.none sent.1)) (λ has. has.2 ∙ ap (resumed_keys s) (some_one (resumed_of s) has.0 r has.1 own.has)) (fits.success k won.last won.won) in
     let (c, has_c, is_j) = peer_inputs p b.sub j other.inputs in
     let f = (again.each y b at_y).won l c other.won has_c in
     let u = f.resumed in
@@ -220,7 +225,7 @@ fast_agreed set w h again once a b k l i j ina inb won other alike =
     let place : x ≡ f.source.place = one_place w.sessions x f.source.place s t r u once (record { session = a; there = at_x; is = won.is; has = own.has }) source sub name in
     let session : a ≡ source.session = some_one (slice_get w.sessions x) a source.session at_x (ap (slice_get w.sessions) place ∙ source.there) in
     let server : s ≡ t = some_one a.server s t won.is (ap (λ (v : Session). v.server) session ∙ source.is) in
-    let resumed : r ≡ u = some_one s.resumed r u own.has (ap (λ (v : ServerEnd). v.resumed) server ∙ source.has) in
+    let resumed : r ≡ u = some_one (resumed_of s) r u own.has (ap (λ (v : ServerEnd). resumed_of v) server ∙ source.has) in
     keys ∙ ap (λ (v : Resumed). resumed_keys s v) resumed ∙ ap (λ (v : ServerEnd). resumed_keys v u) server
     ∙ ap (λ (v : FastInputs). keys_with v u) f.source.same ∙ sym f.same
 
@@ -228,7 +233,7 @@ fast_agreed set w h again once a b k l i j ina inb won other alike =
 
 -- what a server took up again, and the identity, stay
 abbrev pub Kept : Option ServerEnd → ServerEnd → Type 0
-Kept old t = (s : ServerEnd) (r : Resumed) → old ≡ Some s → s.resumed ≡ Some r → (t.resumed ≡ Some r) × (t.identity ≡ s.identity) × (t.options ≡ s.options)
+Kept old t = (s : ServerEnd) (r : Resumed) → old ≡ Some s → resumed_of s ≡ Some r → (resumed_of t ≡ Some r) × (t.identity ≡ s.identity) × (t.options ≡ s.options)
 
 abbrev pub with_end : Session → ServerEnd → Session
 with_end session t = record session { server = Some t }
@@ -351,7 +356,7 @@ to_server_again laws set w d told (Some s) is there h again =
     server_again set w.packets w.sessions w.homes _ d.place d.session turn.0 turn.1.step again there
     (λ t r same has.
     let one : s ≡ t = some_one d.session.server s t is same in
-    let kept = turn_keeps set w.homes s told.seen told.reply told.notes fits r (ap (λ (v : ServerEnd). v.resumed) one ∙ has) in
+    let kept = turn_keeps set w.homes s told.seen told.reply told.notes fits r (ap (λ (v : ServerEnd). resumed_of v) one ∙ has) in
     (kept.0, kept.1 ∙ ap (λ (v : ServerEnd). v.identity) one, turn_options set w.homes s told.seen told.reply told.notes ∙ ap (λ (v : ServerEnd). v.options) one))
     new.server new.sends (turn_sized set w.homes s told.seen told.reply told.notes fits old again.sized)
 
@@ -366,12 +371,12 @@ not_missing b e f = cc
 
 -- the keys of a Reauthentication that a peer takes
 took_again : AllLaws → (set : Setting) (w : Net) (sub : ℕ) (p : Peer) (t : Peer × Turn PeerWhy) (told : Told) (bytes : List ℕ) (c : Context) (keys : KeySet) → IsRealm set.realm → AgainOf set w
-    → AreReceived (Some bytes) told.seen → Takes p t told.seen told.inner c keys → t.0.resumed ≡ Some c → SentBefore end.Server (inputs_of_peer sub t.0) bytes w.packets
+    → AreReceived (Some bytes) told.seen → Takes p t told.seen told.inner c keys → resumed_from t.0.source ≡ Some c → SentBefore end.Server (inputs_of_peer sub t.0) bytes w.packets
     → PeerIs w.sessions sub t.0 keys c
 took_again laws set w sub p t told bytes c keys realm again (received, same_bytes) takes resumed s =
     let z = t.0 in
     let i = inputs_at sub c z in
-    let own : inputs_of_peer sub z ≡ Some (inputs_of.Fast i) = ap (inputs_accepted z.options.method z.network sub z.identity z.accepted) resumed in
+    let own : inputs_of_peer sub z ≡ Some (inputs_of.Fast i) = ap (inputs_from z.options.method sub (text_or_none z.identity)) (resumed_is z.source c resumed) in
     let with_i : s.packet.inputs ≡ Some (inputs_of.Fast i) = s.with_inputs ∙ sym s.same_inputs ∙ own in
     let sent = again.sent s.packet i s.is_in s.role with_i in
     let r = sent.resumed in
@@ -411,10 +416,10 @@ to_peer_again laws set w d told (Some device) realm is there received opens hone
     let m = laws.ends.peer_moves set.key device keeps p told.seen told.notes.usim told.inner in
     let old = again.each d.place d.session there in
     let over = (at (SessionFine set w.devices w.packets) w.sessions d.place d.session h.fine there).over in
-    let before : (c : Context) → z.resumed ≡ Some c → (p.state ≡ peer_state.Waiting → ⊥) → p.resumed ≡ Some c =
-    λ c has apart. ⊎_elim (λ waits. absurd (apart waits)) (λ same. sym same ∙ has) m.resumed in
+    let before : (c : Context) → resumed_from z.source ≡ Some c → (p.state ≡ peer_state.Waiting → ⊥) → resumed_from p.source ≡ Some c =
+    λ c has apart. ⊎_elim (λ waits. absurd (apart waits)) (λ same. sym (ap resumed_from same) ∙ has) m.source in
     let kept : (keys : KeySet) (c : Context) → PeerIs w.sessions sub p keys c → (p.state ≡ peer_state.Waiting → ⊥) → PeerIs w.sessions sub z keys c =
-    λ keys c f apart. ⊎_elim (λ waits. absurd (apart waits)) (λ same. peer_kept w.sessions sub p z keys c f same.1 m.options) m.keeps in
+    λ keys c f apart. ⊎_elim (λ waits. absurd (apart waits)) (λ same. peer_kept w.sessions sub p z keys c f same m.options) m.identity in
     peer_again set w.packets w.sessions w.homes d.place d.session z (keys_won d.session.peer_keys turn.1.step) (inputs_of_peer sub z) (sent_by turn.1.step) again there
     (λ keys c e has.
     ⊎_elim
@@ -488,10 +493,10 @@ start_again set w place session None is there h again =
 start_again set w place session (Some s) is there h again = again
 
 -- a server whose state alone changes
-same_kept : (session : Session) (s : ServerEnd) (now : ServerState) → session.server ≡ Some s → Kept session.server (record s { state = now })
-same_kept session s now is t r same has =
+same_kept : (session : Session) (s : ServerEnd) (now : ServerState) → last_of now ≡ last_of s.state → session.server ≡ Some s → Kept session.server (record s { state = now })
+same_kept session s now last is t r same has =
     let one : s ≡ t = some_one session.server s t is same in
-    (ap (λ (v : ServerEnd). v.resumed) one ∙ has, ap (λ (v : ServerEnd). v.identity) one, ap (λ (v : ServerEnd). v.options) one)
+    (ap (λ (l : Last). l.resumed) last ∙ ap (λ (v : ServerEnd). resumed_of v) one ∙ has, ap (λ (v : ServerEnd). v.identity) one, ap (λ (v : ServerEnd). v.options) one)
 
 no_packet : (bytes : List ℕ) → ◌≡◌ {A = Option (List ℕ)} None (Some bytes) → ⊥
 no_packet bytes e = cc
@@ -500,23 +505,18 @@ same_text : (a b : List ℕ) → ◌≡◌ {A = Option (List ℕ)} (Some a) (Som
 same_text a b e = cc
 
 repeat_sends : (set : Setting) (s : ServerEnd) (now : ServerState) → ServerAgain set s → Sends set s (repeated s now)
-repeat_sends set s (state.Ended result) f r bytes e none sent = absurd (no_packet bytes sent)
+repeat_sends set s (state.Ended result last) f r bytes e none sent = absurd (no_packet bytes sent)
 repeat_sends set s state.AwaitIdentity f r bytes e none sent = subst (IsText set.realm r) (same_text s.last bytes sent) (f.last r e none)
-repeat_sends set s state.AwaitAny f r bytes e none sent = subst (IsText set.realm r) (same_text s.last bytes sent) (f.last r e none)
-repeat_sends set s state.AwaitFull f r bytes e none sent = subst (IsText set.realm r) (same_text s.last bytes sent) (f.last r e none)
-repeat_sends set s state.AwaitPermanent f r bytes e none sent = subst (IsText set.realm r) (same_text s.last bytes sent) (f.last r e none)
-repeat_sends set s state.AwaitChallenge f r bytes e none sent = subst (IsText set.realm r) (same_text s.last bytes sent) (f.last r e none)
-repeat_sends set s state.AwaitReauth f r bytes e none sent = subst (IsText set.realm r) (same_text s.last bytes sent) (f.last r e none)
-repeat_sends set s (state.Notifying cause) f r bytes e none sent = subst (IsText set.realm r) (same_text s.last bytes sent) (f.last r e none)
+repeat_sends set s (state.Await kind) f r bytes e none sent = subst (IsText set.realm r) (same_text s.last bytes sent) (f.last r e none)
+repeat_sends set s (state.AwaitChallenge own before) f r bytes e none sent = subst (IsText set.realm r) (same_text s.last bytes sent) (f.last r e none)
+repeat_sends set s (state.AwaitReauth own) f r bytes e none sent = subst (IsText set.realm r) (same_text s.last bytes sent) (f.last r e none)
+repeat_sends set s (state.Notifying cause last) f r bytes e none sent = subst (IsText set.realm r) (same_text s.last bytes sent) (f.last r e none)
 
 repeat_again : (set : Setting) (w : Net) (place : ℕ) (session : Session) (o : Option ServerEnd) → session.server ≡ o → slice_get w.sessions place ≡ Some session → NextAgain set w (repeat w place session o)
 repeat_again set w place session None is there h again = again
 repeat_again set w place session (Some s) is there h again =
     let old = (again.each place session there).server s is in
-    server_again set w.packets w.sessions w.homes w.homes place session s (repeated s s.state) again there (same_kept session s s.state is) old (repeat_sends set s s.state old) again.sized
-
-pub over_again : (set : Setting) (s : ServerEnd) (now : ServerState) → ServerAgain set s → ServerAgain set (record s { state = now })
-over_again set s now f = record { taken = λ r e. let t = f.taken r e in record { fits = t.fits; later = t.later; named = t.named }; last = f.last }
+    server_again set w.packets w.sessions w.homes w.homes place session s (repeated s s.state) again there (same_kept session s s.state refl is) old (repeat_sends set s s.state old) again.sized
 
 server_gives_again : (set : Setting) (w : Net) (place : ℕ) (session : Session) (o : Option ServerEnd) → session.server ≡ o → slice_get w.sessions place ≡ Some session
     → NextAgain set w (server_gives_up w place session o)
@@ -527,28 +527,26 @@ server_gives_again set w place session (Some s) is there h again = by s.state
     old = (again.each place session there).server s is
 
     ended : ServerEnd
-    ended = record s { state = state.Ended (outcome.Failure why.GivenUp) }
+    ended = record s { state = state.Ended (outcome.Failure why.GivenUp) (last_of s.state) }
 
     gives : (now : ServerState) → gave_up s now ≡ (ended, step.Ended (outcome.Failure why.GivenUp) [])
         → Again set (posted w.packets end.Server (inputs_of_server (gave_up s now).0) (sent_by (gave_up s now).1)) (slice_set w.sessions place (with_end session (gave_up s now).0)) w.homes
     gives now e =
         subst (λ (x : ServerEnd × Step ServerWhy). Again set (posted w.packets end.Server (inputs_of_server x.0) (sent_by x.1)) (slice_set w.sessions place (with_end session x.0)) w.homes) (sym e)
         (server_again set w.packets w.sessions w.homes w.homes place session ended (step.Ended (outcome.Failure why.GivenUp) []) again there
-        (same_kept session s (state.Ended (outcome.Failure why.GivenUp)) is) (over_again set s (state.Ended (outcome.Failure why.GivenUp)) old)
+        (same_kept session s (state.Ended (outcome.Failure why.GivenUp) (last_of s.state)) refl is) (over_again set s (state.Ended (outcome.Failure why.GivenUp) (last_of s.state)) refl old)
         (λ r bytes f none sent. absurd (no_packet bytes sent)) again.sized)
 
     by : (now : ServerState)
         → Again set (posted w.packets end.Server (inputs_of_server (gave_up s now).0) (sent_by (gave_up s now).1)) (slice_set w.sessions place (with_end session (gave_up s now).0)) w.homes
-    by (state.Ended r) =
-        server_again set w.packets w.sessions w.homes w.homes place session s (gave_up s (state.Ended r)).1 again there (same_kept session s s.state is) old
+    by (state.Ended r last) =
+        server_again set w.packets w.sessions w.homes w.homes place session s (gave_up s (state.Ended r last)).1 again there (same_kept session s s.state refl is) old
         (λ r bytes f none sent. absurd (no_packet bytes sent)) again.sized
     by state.AwaitIdentity = gives state.AwaitIdentity refl
-    by state.AwaitAny = gives state.AwaitAny refl
-    by state.AwaitFull = gives state.AwaitFull refl
-    by state.AwaitPermanent = gives state.AwaitPermanent refl
-    by state.AwaitChallenge = gives state.AwaitChallenge refl
-    by state.AwaitReauth = gives state.AwaitReauth refl
-    by (state.Notifying cause) = gives (state.Notifying cause) refl
+    by (state.Await kind) = gives (state.Await kind) refl
+    by (state.AwaitChallenge sent before) = gives (state.AwaitChallenge sent before) refl
+    by (state.AwaitReauth sent) = gives (state.AwaitReauth sent) refl
+    by (state.Notifying cause last) = gives (state.Notifying cause last) refl
 
 no_answered : (keys : KeySet) → peer_state.Ended ≡ peer_state.Answered keys → ⊥
 no_answered keys e = cc

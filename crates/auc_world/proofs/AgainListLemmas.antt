@@ -2,7 +2,7 @@
 use Rattle.std.proofs.Common.{◌≡◌, ◌⊎◌, ℕ, zero, suc, List, [], ◌∷◌, ◌++◌, Option, Some, None, slice_get, slice_set, Contains, arith, refl, sym, ap, ◌∙◌, subst, inl, inr}
 use Rattle.std.proofs.lemmas.List.Elements.{Contains-append_left, Contains-append_right}
 use Rattle.std.specs.Option.{option_to_list}
-use Rattle.auc_server.specs.Server.{ServerEnd}
+use Rattle.auc_server.specs.Server.{ServerEnd, resumed_of}
 use Rattle.auc_server.specs.declared.server.Resumed.{Resumed}
 use Rattle.auc_world.specs.Resumption.{AreApart, AreResumedOnce, resumed_in, resumptions}
 use Rattle.auc_world.specs.declared.net.Session.{Session}
@@ -60,7 +60,7 @@ pub record Resumes (sessions : List Session) (place : ℕ) (s : ServerEnd) (r : 
   pub session : Session
   pub there : slice_get sessions place ≡ Some session
   pub is : session.server ≡ Some s
-  pub has : s.resumed ≡ Some r
+  pub has : resumed_of s ≡ Some r
 
 -- it is one of those that were resumed
 pub is_resumed : (sessions : List Session) (place : ℕ) (s : ServerEnd) (r : Resumed) → Resumes sessions place s r → Contains (resumptions sessions) r
@@ -88,7 +88,7 @@ later_pairs (Some r) rest once = λ i j d less within. once (suc i) (suc j) d (o
 
 rest_once : (o : Option ServerEnd) (rest : List Resumed) → AreResumedOnce (resumed_in o ++ rest) → AreResumedOnce rest
 rest_once None rest once = once
-rest_once (Some s) rest once = later_pairs s.resumed rest once
+rest_once (Some s) rest once = later_pairs (resumed_of s) rest once
 
 first_apart : (a : Session) (sessions : List Session) (place : ℕ) (s t : ServerEnd) (r u : Resumed) → AreResumedOnce (resumptions (a ∷ sessions)) → Resumes (a ∷ sessions) 0 s r
     → Resumes sessions place t u → AreApart r u

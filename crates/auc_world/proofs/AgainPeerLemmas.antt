@@ -9,13 +9,13 @@ use Rattle.auc_peer.specs.Asking.{answer_noted}
 use Rattle.auc_peer.specs.Attributes.{attrs_in, checkcode, differs}
 use Rattle.auc_peer.specs.Rows.{peer_row}
 use Rattle.auc_peer.specs.Subscription.{Subscription}
-use Rattle.auc_peer.specs.Table.{accepted, accepting, again, by_answer, by_counter, challenged, client, context_of, disclosed, genuine, keys_at, master_at, opened, own_code, peer_does, peer_step, resumed_by, resuming, small, succeeded, taken, text_or_none, with_inner}
+use Rattle.auc_peer.specs.Table.{accepted, accepting, by_answer, by_counter, challenged, client, context_of, disclosed, genuine, keys_at, master_at, opened, own_code, peer_does, peer_step, resumed_by, resuming, small, succeeded, taken, text_or_none, with_inner}
 use Rattle.auc_peer.specs.Turn.{Decryption, Decrypts, decryption_made, decryption_resumed}
 use Rattle.auc_peer.specs.declared.decrypted.Decrypted.{Decrypted}
 use Rattle.auc_peer.specs.declared.decrypted.Decrypted.TheVariants as decrypted
 use Rattle.auc_peer.specs.declared.peer.Challenge.{Challenge}
-use Rattle.auc_peer.specs.declared.peer.Last.{Last}
 use Rattle.auc_peer.specs.declared.peer.Peer.{Peer}
+use Rattle.auc_peer.specs.Peer.{resumed_from}
 use Rattle.auc_peer.specs.declared.peer.PeerState.{PeerState}
 use Rattle.auc_peer.specs.declared.peer.PeerState.TheVariants as state
 use Rattle.auc_peer.specs.declared.rows.Row.{Row}
@@ -53,7 +53,7 @@ abbrev pub HasOrTakes : Peer → Peer × Turn PeerWhy → Seen → Decrypted →
 HasOrTakes p t seen inner c keys = (p.state ≡ state.Answered keys) ⊎ Takes p t seen inner c keys
 
 abbrev Has : Peer × Turn PeerWhy → Context → KeySet → Type 0
-Has t c keys = (t.0.state ≡ state.Answered keys) × (t.0.resumed ≡ Some c)
+Has t c keys = (t.0.state ≡ state.Answered keys) × (resumed_from t.0.source ≡ Some c)
 
 refuses : (cause : PeerWhy) (keys : KeySet) → state.Refusing cause ≡ state.Answered keys → ⊥
 refuses cause keys e = cc
@@ -75,12 +75,12 @@ same_context a b e = cc
 
 -- ---- a Challenge leaves no context
 
-opened_leaves : (p : Peer) (seen : Seen) (res sqn : List ℕ) (own : KeySet) (m : Master) (inner : Decrypted) (c : Context) (keys : KeySet) → p.resumed ≡ None
+opened_leaves : (p : Peer) (seen : Seen) (res sqn : List ℕ) (own : KeySet) (m : Master) (inner : Decrypted) (c : Context) (keys : KeySet) → resumed_from p.source ≡ None
     → Has (opened p seen res sqn own m inner) c keys → ⊥
 opened_leaves p seen res sqn own m decrypted.Unreadable c keys none (e, f) = refuses why.Undecryptable keys e
 opened_leaves p seen res sqn own m (decrypted.Attributes given) c keys none (e, f) = no_context c (sym none ∙ f)
 
-genuine_leaves : (p : Peer) (seen : Seen) (res sqn : List ℕ) (own : KeySet) (m : Master) (inner : Decrypted) (c : Context) (keys : KeySet) → p.resumed ≡ None
+genuine_leaves : (p : Peer) (seen : Seen) (res sqn : List ℕ) (own : KeySet) (m : Master) (inner : Decrypted) (c : Context) (keys : KeySet) → resumed_from p.source ≡ None
     → Has (genuine p seen res sqn own m inner) c keys → ⊥
 genuine_leaves p seen res sqn own m inner c keys none has = by (differs (own_code p) (checkcode seen)) has
   where
@@ -174,10 +174,6 @@ resumed_takes key keeps p seen (Some own) inner c keys opens has =
 
 -- ---- the rows
 
-again_has : (p : Peer) (o : Option Last) (seen : Seen) (inner : Decrypted) (c : Context) (keys : KeySet) → Has (again p o) c keys → HasOrTakes p (again p o) seen inner c keys
-again_has p None seen inner c keys (e, f) = inl e
-again_has p (Some last) seen inner c keys (e, f) = inl e
-
 succeeded_has : (p : Peer) (now : PeerState) (seen : Seen) (inner : Decrypted) (c : Context) (keys : KeySet) → Has (succeeded p now) c keys → HasOrTakes p (succeeded p now) seen inner c keys
 succeeded_has p (state.Answered own) seen inner c keys (e, f) = absurd (over keys e)
 succeeded_has p state.Waiting seen inner c keys (e, f) = inl e
@@ -187,7 +183,7 @@ succeeded_has p state.Ended seen inner c keys (e, f) = inl e
 does_has : (key : List ℕ) (s : Subscription) (keeps : Keeps) (p : Peer) (seen : Seen) (r : Row) (n : Option UsimNote) (inner : Decrypted) (c : Context) (keys : KeySet)
     → Decrypts (decryption_made s keeps p seen r n) inner → Has (peer_does key s keeps p seen r n inner) c keys → HasOrTakes p (peer_does key s keeps p seen r n inner) seen inner c keys
 does_has key s keeps p seen (row.Ignore cause) n inner c keys opens (e, f) = inl e
-does_has key s keeps p seen row.Again n inner c keys opens has = again_has p p.last seen inner c keys has
+does_has key s keeps p seen row.Again n inner c keys opens (e, f) = inl e
 does_has key s keeps p seen row.First n inner c keys opens (e, f) = absurd (waits keys e)
 does_has key s keeps p seen (row.Identity asked) n inner c keys opens (e, f) = absurd (waits keys e)
 does_has key s keeps p seen (row.Client cause) n inner c keys opens (e, f) = absurd (refuses cause keys e)
@@ -201,5 +197,5 @@ does_has key s keeps p seen (row.Failure cause) n inner c keys opens (e, f) = ab
 -- of a turn
 pub turn_takes : (key : List ℕ) (s : Subscription) (keeps : Keeps) (p : Peer) (seen : Seen) (n : Option UsimNote) (inner : Decrypted) (c : Context) (keys : KeySet)
     → Decrypts (decryption_made s keeps p seen (peer_row p seen) n) inner → (peer_step key s keeps p seen n inner).0.state ≡ state.Answered keys
-    → (peer_step key s keeps p seen n inner).0.resumed ≡ Some c → HasOrTakes p (peer_step key s keeps p seen n inner) seen inner c keys
+    → resumed_from (peer_step key s keeps p seen n inner).0.source ≡ Some c → HasOrTakes p (peer_step key s keeps p seen n inner) seen inner c keys
 turn_takes key s keeps p seen n inner c keys opens e f = does_has key s keeps p seen (peer_row p seen) n inner c keys opens (e, f)

@@ -18,22 +18,24 @@ use Rattle.auc_reauth.specs.Server.{Contexts, if_named, unless_named}
 use Rattle.auc_reauth.specs.Store.{entry, with_entry}
 use Rattle.auc_reauth.specs.declared.context.Context.{Context}
 use Rattle.auc_request.specs.declared.identities.IdentityRequest.{IdentityRequest}
-use Rattle.auc_server.proofs.Facts.{Says, given_store, notification_may, says_row}
+use Rattle.auc_server.proofs.Facts.{Says, awaits_challenge, awaits_reauth, given_store, none_resumed as none_resumed_yet, notification_may, says_row}
 use Rattle.auc_server.specs.Contexts.{context_after, context_in, won_context, first_context, found_at, gives_next, homes_kept, homes_left, homes_resumed, homes_rewon, homes_won, later_context, with_context, with_context_at, without, without_at}
 use Rattle.auc_server.specs.Laws.{Fits}
 use Rattle.auc_server.specs.Messages.{reauth_bytes}
 use Rattle.auc_server.specs.Ordinals.{home_at, home_place, homes_given, ordinal_given}
 use Rattle.auc_server.specs.Rounds.{checkcode}
 use Rattle.auc_server.specs.Rows.{server_row, subscriber_in, text_in}
-use Rattle.auc_server.specs.Server.{ServerEnd}
+use Rattle.auc_server.specs.Server.{ServerEnd, challenged_of, resumed_of}
 use Rattle.auc_server.specs.Setting.{Setting}
-use Rattle.auc_server.specs.Table.{asked, awaiting, challenge_of, challenged, challenged_with, ended, failed, homes_after, homes_challenged, homes_done, identified, identity_asked, index_after, name_of, names_given, next_given, next_id, noted, notified, packets_after, random_at, reauthenticated, requested, resumed_keys, resumed_with, resumption, resynchronised, resynchronising, server_does, server_step, silent, succeeded, vector_at}
+use Rattle.auc_server.specs.State.{last_of}
+use Rattle.auc_server.specs.Table.{asked, challenge_of, challenged, challenged_with, ended, failed, homes_after, homes_challenged, homes_done, identified, identity_asked, index_after, name_of, names_given, next_given, next_id, noted, notified, packets_after, random_at, requested, resumed_keys, resumed_with, resumption, resynchronised, resynchronising, server_does, server_step, silent, vector_at}
 use Rattle.auc_server.specs.declared.naming.GivenNames.{GivenNames}
 use Rattle.auc_server.specs.declared.options.ServerOptions.{ServerOptions}
 use Rattle.auc_server.specs.declared.reply.Reply.{Reply}
 use Rattle.auc_server.specs.declared.rows.Row.{Row}
 use Rattle.auc_server.specs.declared.rows.Row.TheVariants as row
 use Rattle.auc_server.specs.declared.server.Challenged.{Challenged}
+use Rattle.auc_server.specs.declared.server.Last.{Last}
 use Rattle.auc_server.specs.declared.server.Resumed.{Resumed}
 use Rattle.auc_server.specs.declared.server.ServerState.{ServerState}
 use Rattle.auc_server.specs.declared.server.ServerState.TheVariants as state
@@ -69,11 +71,11 @@ pub record IsTaken (s : ServerEnd) (r : Resumed) : Type 0 where
 
 -- so is each one's; and its last request is that of the re-authentication, or has not what such a request must have
 pub record ServerAgain (set : Setting) (s : ServerEnd) : Type 0 where
-  pub taken : (r : Resumed) → s.resumed ≡ Some r → IsTaken s r
-  pub last : (r : Resumed) → s.resumed ≡ Some r → s.challenged ≡ None → IsText set.realm r s.last
+  pub taken : (r : Resumed) → resumed_of s ≡ Some r → IsTaken s r
+  pub last : (r : Resumed) → resumed_of s ≡ Some r → challenged_of s ≡ None → IsText set.realm r s.last
 
 abbrev pub Sends : Setting → ServerEnd → Step ServerWhy → Type 0
-Sends set s did = (r : Resumed) (bytes : List ℕ) → s.resumed ≡ Some r → s.challenged ≡ None → sent_by did ≡ Some bytes → IsText set.realm r bytes
+Sends set s did = (r : Resumed) (bytes : List ℕ) → resumed_of s ≡ Some r → challenged_of s ≡ None → sent_by did ≡ Some bytes → IsText set.realm r bytes
 
 -- and so is what a turn sends
 pub record TurnAgain (set : Setting) (t : ServerEnd × Turn ServerWhy) : Type 0 where
@@ -99,8 +101,8 @@ ignored_again : (set : Setting) (s : ServerEnd) (notes : Notes) (cause : Reason)
 ignored_again set s notes cause checked f = record { server = f; sends = λ r bytes e none sent. absurd (no_bytes bytes sent) }
 
 -- a new request, of one of the two kinds
-requested_again : (set : Setting) (s : ServerEnd) (next : ServerState) (bytes : List ℕ) (notes : Notes) (checked : Bool) → ((r : Resumed) → s.resumed ≡ Some r → IsTaken s r)
-    → ((r : Resumed) → s.resumed ≡ Some r → s.challenged ≡ None → IsText set.realm r bytes) → TurnAgain set (requested s next bytes notes checked)
+requested_again : (set : Setting) (s : ServerEnd) (next : ServerState) (bytes : List ℕ) (notes : Notes) (checked : Bool) → ((r : Resumed) → (last_of next).resumed ≡ Some r → IsTaken s r)
+    → ((r : Resumed) → (last_of next).resumed ≡ Some r → (last_of next).challenged ≡ None → IsText set.realm r bytes) → TurnAgain set (requested s next bytes notes checked)
 requested_again set s next bytes notes checked taken text = record {
   server = record {
     taken = λ r e. let f = taken r e in record { fits = f.fits; later = f.later; named = f.named };
@@ -118,9 +120,9 @@ notification_other m id = record {
   is = refl;
 }
 
-notified_again : (set : Setting) (s : ServerEnd) (cause : ServerWhy) (notes : Notes) (checked : Bool) → ((r : Resumed) → s.resumed ≡ Some r → IsTaken s r) → TurnAgain set (notified s cause notes checked)
+notified_again : (set : Setting) (s : ServerEnd) (cause : ServerWhy) (notes : Notes) (checked : Bool) → ((r : Resumed) → resumed_of s ≡ Some r → IsTaken s r) → TurnAgain set (notified s cause notes checked)
 notified_again set s cause notes checked taken =
-    requested_again set s (state.Notifying cause) (packet_text (packet.Aka true (next_id s.id) s.options.method subtype.Notification (attr.Notification 16384 ∷ []))) notes checked taken
+    requested_again set s (state.Notifying cause (last_of s.state)) (packet_text (packet.Aka true (next_id s.id) s.options.method subtype.Notification (attr.Notification 16384 ∷ []))) notes checked taken
     (λ r e none. inr (notification_other s.options.method (next_id s.id)))
 
 failure_other : (id : ℕ) → IsOther (packet_text (packet.Failure id))
@@ -129,18 +131,21 @@ failure_other id = record { text = packet.Failure id; may = record { attrs = ref
 success_other : (id : ℕ) → IsOther (packet_text (packet.Success id))
 success_other id = record { text = packet.Success id; may = record { attrs = refl; size = omega arith }; values = refl; lacks = refl; is = refl }
 
-over_again : (set : Setting) (s : ServerEnd) (next : ServerState) → ServerAgain set s → ServerAgain set (record s { state = next })
-over_again set s next f = record { taken = λ r e. let t = f.taken r e in record { fits = t.fits; later = t.later; named = t.named }; last = f.last }
+pub over_again : (set : Setting) (s : ServerEnd) (next : ServerState) → last_of next ≡ last_of s.state → ServerAgain set s → ServerAgain set (record s { state = next })
+over_again set s next same f = record {
+  taken = λ r e. let t = f.taken r (ap (λ (l : Last). l.resumed) (sym same) ∙ e) in record { fits = t.fits; later = t.later; named = t.named };
+  last = λ r e none. f.last r (ap (λ (l : Last). l.resumed) (sym same) ∙ e) (ap (λ (l : Last). l.challenged) (sym same) ∙ none);
+}
 
 failed_again : (set : Setting) (s : ServerEnd) (cause : ServerWhy) → ServerAgain set s → TurnAgain set (failed s cause)
 failed_again set s cause f = record {
-  server = over_again set s (state.Ended (outcome.Failure cause)) f;
+  server = over_again set s (state.Ended (outcome.Failure cause) (last_of s.state)) refl f;
   sends = λ r bytes e none sent. inr (subst IsOther (same_some (packet_text (packet.Failure s.id)) bytes sent) (failure_other s.id));
 }
 
 won_again : (set : Setting) (s : ServerEnd) (result : Outcome ServerWhy) → ServerAgain set s → TurnAgain set (ended s result (packet_text (packet.Success s.id)) true)
 won_again set s result f = record {
-  server = over_again set s (state.Ended result) f;
+  server = over_again set s (state.Ended result (last_of s.state)) refl f;
   sends = λ r bytes e none sent. inr (subst IsOther (same_some (packet_text (packet.Success s.id)) bytes sent) (success_other s.id));
 }
 
@@ -182,25 +187,19 @@ resynchronised_again set homes s sub (Some (resync.InRange seen seq)) drawn f =
 resynchronised_again set homes s sub (Some (resync.Moved seen seq)) drawn f =
     challenged_again set homes (resynchronising s) sub false (Some (resync.Moved seen seq)) drawn (synced_again set s f)
 
-succeeded_again : (set : Setting) (s : ServerEnd) (c : Option Challenged) → ServerAgain set s → TurnAgain set (succeeded s c)
-succeeded_again set s None f = ignored_again set s silent reason.Unexpected false f
-succeeded_again set s (Some sent) f = won_again set s (outcome.Success sent.keys) f
-
-reauthenticated_again : (set : Setting) (s : ServerEnd) (c : Option Resumed) → ServerAgain set s → TurnAgain set (reauthenticated s c)
-reauthenticated_again set s None f = ignored_again set s silent reason.Unexpected false f
-reauthenticated_again set s (Some r) f = won_again set s (outcome.Success (resumed_keys s r)) f
-
 -- another identity comes before a re-authentication
-identified_again : (set : Setting) (s : ServerEnd) (text : List ℕ) (packets : List (List ℕ)) → s.resumed ≡ None → ServerAgain set (identified s text packets)
+identified_again : (set : Setting) (s : ServerEnd) (text : List ℕ) (packets : List (List ℕ)) → resumed_of s ≡ None → ServerAgain set (identified s text packets)
 identified_again set s text packets none = record {
-  taken = λ r e. absurd (none_resumed s.resumed r none e);
-  last = λ r e alone. absurd (none_resumed s.resumed r none e);
+  taken = λ r e. absurd (none_resumed (resumed_of s) r none e);
+  last = λ r e alone. absurd (none_resumed (resumed_of s) r none e);
 }
 
-asked_again : (set : Setting) (s : ServerEnd) (text : List ℕ) (packets : List (List ℕ)) (kind : IdentityRequest) → s.resumed ≡ None → TurnAgain set (asked s text packets kind)
-asked_again set s text packets kind none =
-    requested_again set (identified s text packets) (awaiting kind) (identity_asked s kind) silent false (identified_again set s text packets none).taken
-    (λ r e alone. absurd (none_resumed s.resumed r none e))
+no_resumption : (r : Resumed) → ◌≡◌ {A = Option Resumed} None (Some r) → ⊥
+no_resumption r e = cc
+
+asked_again : (set : Setting) (s : ServerEnd) (text : List ℕ) (packets : List (List ℕ)) (kind : IdentityRequest) → TurnAgain set (asked s text packets kind)
+asked_again set s text packets kind =
+    requested_again set (identified s text packets) (state.Await kind) (identity_asked s kind) silent false (λ r e. absurd (no_resumption r e)) (λ r e alone. absurd (no_resumption r e))
 
 -- ---- a context is taken up again
 
@@ -274,21 +273,21 @@ resumed_again set homes s text packets sub (Some c) f is =
 does_again : (found : Option ℕ) (set : Setting) (homes : List HomeRow) (s : ServerEnd) (seen : Seen) (text : List ℕ) (packets : List (List ℕ)) (r : Row) (notes : Notes) → Says found s seen r → Fits s
     → AreSized homes → ServerAgain set s → TurnAgain set (server_does set homes s text packets r notes)
 does_again found set homes s seen text packets (row.Ignore cause) notes says fits sized f = ignored_again set s silent cause false f
-does_again found set homes s seen text packets (row.Ask kind) notes says fits sized f = asked_again set s text packets kind (fits.before says)
+does_again found set homes s seen text packets (row.Ask kind) notes says fits sized f = asked_again set s text packets kind
 does_again found set homes s seen text packets row.UnknownIdentity notes says fits sized f =
-    notified_again set (identified s text packets) why.UnknownIdentity silent false (identified_again set s text packets (fits.before says)).taken
+    notified_again set (identified s text packets) why.UnknownIdentity silent false (identified_again set s text packets (none_resumed_yet s says)).taken
 does_again found set homes s seen text packets (row.Challenge sub) notes says fits sized f =
-    challenged_again set homes (identified s text packets) sub false None notes.number (identified_again set s text packets (fits.before says.0))
+    challenged_again set homes (identified s text packets) sub false None notes.number (identified_again set s text packets (none_resumed_yet s says.0))
 does_again found set homes s seen text packets (row.Resume sub) notes says fits sized f =
     resumed_again set (homes_left s.options.method text homes sub) s text packets sub (context_in s.options.method text homes sub) f
     (λ c e. context_named s.options.method text homes (home_place homes sub) c sized e)
 does_again found set homes s seen text packets (row.TooSmall sub) notes says fits sized f = challenged_again set homes s sub true None notes.number f
 does_again found set homes s seen text packets row.WrongCounter notes says fits sized f = notified_again set s why.WrongCounter silent true f.taken
-does_again found set homes s seen text packets row.Reauthenticated notes says fits sized f = reauthenticated_again set s s.resumed f
+does_again found set homes s seen text packets (row.Reauthenticated sent) notes says fits sized f = won_again set s (outcome.Success (resumed_keys s sent)) f
 does_again found set homes s seen text packets row.WrongMac notes says fits sized f = notified_again set s why.WrongMac silent false f.taken
 does_again found set homes s seen text packets row.WrongRes notes says fits sized f = notified_again set s why.WrongRes silent true f.taken
 does_again found set homes s seen text packets row.WrongCheckcode notes says fits sized f = notified_again set s why.WrongCheckcode silent true f.taken
-does_again found set homes s seen text packets row.Success notes says fits sized f = succeeded_again set s s.challenged f
+does_again found set homes s seen text packets (row.Success sent) notes says fits sized f = won_again set s (outcome.Success sent.keys) f
 does_again found set homes s seen text packets row.SecondSync notes says fits sized f = notified_again set s why.SecondSync silent false f.taken
 does_again found set homes s seen text packets row.BadAuts notes says fits sized f = notified_again set s why.BadAuts (noted (Some resync.BadAuts) None) false f.taken
 does_again found set homes s seen text packets (row.Resynchronise sub seq) notes says fits sized f = resynchronised_again set homes s sub notes.resync notes.number f
@@ -306,7 +305,7 @@ turn_again set homes s seen said notes fits sized f =
 
 -- what was taken up again stays, and so does the identity
 abbrev pub Stays : ServerEnd → ServerEnd → Type 0
-Stays s t = (r : Resumed) → s.resumed ≡ Some r → (t.resumed ≡ Some r) × (t.identity ≡ s.identity)
+Stays s t = (r : Resumed) → resumed_of s ≡ Some r → (resumed_of t ≡ Some r) × (t.identity ≡ s.identity)
 
 with_stays : (realm : List ℕ) (s : ServerEnd) (sub n : ℕ) (v : Option Vector) (given : Option GivenNames) (notes : Notes) (checked : Bool) → Stays s (challenged_with realm s sub n v given notes checked).0
 with_stays realm s sub n None given notes checked r e = (e, refl)
@@ -328,28 +327,20 @@ resynchronised_stays set homes s sub (Some (resync.Beyond seen seq)) drawn r e =
 resynchronised_stays set homes s sub (Some (resync.InRange seen seq)) drawn r e = challenged_stays set homes (resynchronising s) sub false (Some (resync.InRange seen seq)) drawn r e
 resynchronised_stays set homes s sub (Some (resync.Moved seen seq)) drawn r e = challenged_stays set homes (resynchronising s) sub false (Some (resync.Moved seen seq)) drawn r e
 
-succeeded_stays : (s : ServerEnd) (c : Option Challenged) → Stays s (succeeded s c).0
-succeeded_stays s None r e = (e, refl)
-succeeded_stays s (Some sent) r e = (e, refl)
-
-reauthenticated_stays : (s : ServerEnd) (c : Option Resumed) → Stays s (reauthenticated s c).0
-reauthenticated_stays s None r e = (e, refl)
-reauthenticated_stays s (Some own) r e = (e, refl)
-
 does_stay : (found : Option ℕ) (set : Setting) (homes : List HomeRow) (s : ServerEnd) (seen : Seen) (text : List ℕ) (packets : List (List ℕ)) (r : Row) (notes : Notes) → Says found s seen r → Fits s
     → Stays s (server_does set homes s text packets r notes).0
 does_stay found set homes s seen text packets (row.Ignore cause) notes says fits r e = (e, refl)
-does_stay found set homes s seen text packets (row.Ask kind) notes says fits r e = absurd (none_resumed s.resumed r (fits.before says) e)
-does_stay found set homes s seen text packets row.UnknownIdentity notes says fits r e = absurd (none_resumed s.resumed r (fits.before says) e)
-does_stay found set homes s seen text packets (row.Challenge sub) notes says fits r e = absurd (none_resumed s.resumed r (fits.before says.0) e)
-does_stay found set homes s seen text packets (row.Resume sub) notes says fits r e = absurd (none_resumed s.resumed r (fits.before says) e)
+does_stay found set homes s seen text packets (row.Ask kind) notes says fits r e = absurd (none_resumed (resumed_of s) r (none_resumed_yet s says) e)
+does_stay found set homes s seen text packets row.UnknownIdentity notes says fits r e = absurd (none_resumed (resumed_of s) r (none_resumed_yet s says) e)
+does_stay found set homes s seen text packets (row.Challenge sub) notes says fits r e = absurd (none_resumed (resumed_of s) r (none_resumed_yet s says.0) e)
+does_stay found set homes s seen text packets (row.Resume sub) notes says fits r e = absurd (none_resumed (resumed_of s) r (none_resumed_yet s says) e)
 does_stay found set homes s seen text packets (row.TooSmall sub) notes says fits r e = challenged_stays set homes s sub true None notes.number r e
 does_stay found set homes s seen text packets row.WrongCounter notes says fits r e = (e, refl)
-does_stay found set homes s seen text packets row.Reauthenticated notes says fits r e = reauthenticated_stays s s.resumed r e
+does_stay found set homes s seen text packets (row.Reauthenticated sent) notes says fits r e = (e, refl)
 does_stay found set homes s seen text packets row.WrongMac notes says fits r e = (e, refl)
 does_stay found set homes s seen text packets row.WrongRes notes says fits r e = (e, refl)
 does_stay found set homes s seen text packets row.WrongCheckcode notes says fits r e = (e, refl)
-does_stay found set homes s seen text packets row.Success notes says fits r e = succeeded_stays s s.challenged r e
+does_stay found set homes s seen text packets (row.Success sent) notes says fits r e = (e, refl)
 does_stay found set homes s seen text packets row.SecondSync notes says fits r e = (e, refl)
 does_stay found set homes s seen text packets row.BadAuts notes says fits r e = (e, refl)
 does_stay found set homes s seen text packets (row.Resynchronise sub seq) notes says fits r e = resynchronised_stays set homes s sub notes.resync notes.number r e
@@ -423,7 +414,7 @@ kept_sized by homes sub None own sized = sized
 kept_sized by homes sub (Some c) own sized = put_sized by c homes (home_place homes sub) (own c refl) sized
 
 -- the context of a full authentication
-first_sized : (s : ServerEnd) (sent : Challenged) (next : Option (List ℕ)) (c : Context) → Fits s → s.challenged ≡ Some sent → first_context sent next ≡ Some c → IsSized c
+first_sized : (s : ServerEnd) (sent : Challenged) (next : Option (List ℕ)) (c : Context) → Fits s → challenged_of s ≡ Some sent → first_context sent next ≡ Some c → IsSized c
 first_sized s sent None c fits last e = absurd cc
 first_sized s sent (Some identity) c fits last e =
     let made : Context = record { origin = sent.number; identity = identity; k_encr = sent.keys.k_encr; k_aut = sent.keys.k_aut; master = sent.master; counter = 1 } in
@@ -433,9 +424,8 @@ first_sized s sent (Some identity) c fits last e =
       counter = omega (arith, counter);
     }
 
-won_sized : (s : ServerEnd) (homes : List HomeRow) (o : Option Challenged) → Fits s → s.challenged ≡ o → AreSized homes → AreSized (homes_won s.options.method homes o)
-won_sized s homes None fits last sized = sized
-won_sized s homes (Some sent) fits last sized = kept_sized s.options.method homes sent.sub (won_context sent) (λ c e. first_sized s sent sent.next c fits last e) sized
+won_sized : (s : ServerEnd) (homes : List HomeRow) (sent : Challenged) → Fits s → challenged_of s ≡ Some sent → AreSized homes → AreSized (homes_won s.options.method homes sent)
+won_sized s homes sent fits last sized = kept_sized s.options.method homes sent.sub (won_context sent) (λ c e. first_sized s sent sent.next c fits last e) sized
 
 -- and of a re-authentication
 later_sized : (c : Context) (next : Option (List ℕ)) (d : Context) → IsSized c → ((text : List ℕ) → next ≡ Some text → c.counter + 1 < 65536) → later_context c next ≡ Some d → IsSized d
@@ -447,32 +437,32 @@ later_sized c (Some identity) d own small e =
     let few = small identity refl in
     record { k_encr = subst IsBlock (ap (λ (x : Context). x.k_encr) same) own.k_encr; counter = omega (arith, counter, few) }
 
-rewon_sized : (set : Setting) (s : ServerEnd) (homes : List HomeRow) (o : Option Resumed) → ServerAgain set s → s.resumed ≡ o → AreSized homes → AreSized (homes_rewon s.options.method homes o)
-rewon_sized set s homes None f last sized = sized
-rewon_sized set s homes (Some r) f last sized =
+rewon_sized : (set : Setting) (s : ServerEnd) (homes : List HomeRow) (r : Resumed) → ServerAgain set s → resumed_of s ≡ Some r → AreSized homes → AreSized (homes_rewon s.options.method homes r)
+rewon_sized set s homes r f last sized =
     let t = f.taken r last in kept_sized s.options.method homes r.sub (context_after r) (λ c e. later_sized r.context r.next c t.fits.context t.later e) sized
 
-done_sized : (set : Setting) (homes : List HomeRow) (s : ServerEnd) (text : List ℕ) (r : Row) (notes : Notes) → Fits s → ServerAgain set s → AreSized homes → AreSized (homes_done homes s text r notes)
-done_sized set homes s text (row.Challenge sub) notes fits f sized = named_sized s.options homes sub notes.number sized
-done_sized set homes s text (row.Resume sub) notes fits f sized = resumed_sized s.options text homes sub (context_in s.options.method text homes sub) sized
-done_sized set homes s text (row.TooSmall sub) notes fits f sized = named_sized s.options homes sub notes.number sized
-done_sized set homes s text (row.Resynchronise sub seq) notes fits f sized = named_sized s.options homes sub notes.number sized
-done_sized set homes s text row.Success notes fits f sized = won_sized s homes s.challenged fits refl sized
-done_sized set homes s text row.Reauthenticated notes fits f sized = rewon_sized set s homes s.resumed f refl sized
-done_sized set homes s text (row.Ignore cause) notes fits f sized = sized
-done_sized set homes s text (row.Ask kind) notes fits f sized = sized
-done_sized set homes s text row.UnknownIdentity notes fits f sized = sized
-done_sized set homes s text row.WrongCounter notes fits f sized = sized
-done_sized set homes s text row.WrongMac notes fits f sized = sized
-done_sized set homes s text row.WrongRes notes fits f sized = sized
-done_sized set homes s text row.WrongCheckcode notes fits f sized = sized
-done_sized set homes s text row.SecondSync notes fits f sized = sized
-done_sized set homes s text row.BadAuts notes fits f sized = sized
-done_sized set homes s text row.Rejected notes fits f sized = sized
-done_sized set homes s text (row.ClientError code) notes fits f sized = sized
-done_sized set homes s text (row.Notified cause) notes fits f sized = sized
+done_sized : (found : Option ℕ) (set : Setting) (homes : List HomeRow) (s : ServerEnd) (seen : Seen) (text : List ℕ) (r : Row) (notes : Notes) → Says found s seen r → Fits s → ServerAgain set s → AreSized homes → AreSized (homes_done homes s text r notes)
+done_sized found set homes s seen text (row.Challenge sub) notes says fits f sized = named_sized s.options homes sub notes.number sized
+done_sized found set homes s seen text (row.Resume sub) notes says fits f sized = resumed_sized s.options text homes sub (context_in s.options.method text homes sub) sized
+done_sized found set homes s seen text (row.TooSmall sub) notes says fits f sized = named_sized s.options homes sub notes.number sized
+done_sized found set homes s seen text (row.Resynchronise sub seq) notes says fits f sized = named_sized s.options homes sub notes.number sized
+done_sized found set homes s seen text (row.Success sent) notes says fits f sized = won_sized s homes sent fits (awaits_challenge s sent says.before says.waits) sized
+done_sized found set homes s seen text (row.Reauthenticated sent) notes says fits f sized = rewon_sized set s homes sent f (awaits_reauth s sent says.waits) sized
+done_sized found set homes s seen text (row.Ignore cause) notes says fits f sized = sized
+done_sized found set homes s seen text (row.Ask kind) notes says fits f sized = sized
+done_sized found set homes s seen text row.UnknownIdentity notes says fits f sized = sized
+done_sized found set homes s seen text row.WrongCounter notes says fits f sized = sized
+done_sized found set homes s seen text row.WrongMac notes says fits f sized = sized
+done_sized found set homes s seen text row.WrongRes notes says fits f sized = sized
+done_sized found set homes s seen text row.WrongCheckcode notes says fits f sized = sized
+done_sized found set homes s seen text row.SecondSync notes says fits f sized = sized
+done_sized found set homes s seen text row.BadAuts notes says fits f sized = sized
+done_sized found set homes s seen text row.Rejected notes says fits f sized = sized
+done_sized found set homes s seen text (row.ClientError code) notes says fits f sized = sized
+done_sized found set homes s seen text (row.Notified cause) notes says fits f sized = sized
 
 -- the homes after a turn
 pub turn_sized : (set : Setting) (homes : List HomeRow) (s : ServerEnd) (seen : Seen) (said : Reply) (notes : Notes) → Fits s → ServerAgain set s → AreSized homes
     → AreSized (homes_after set homes s seen said notes)
-turn_sized set homes s seen said notes fits f sized = done_sized set homes s (text_in seen.reading) (server_row set homes s seen said) notes fits f sized
+turn_sized set homes s seen said notes fits f sized =
+    done_sized (subscriber_in s.options.method set homes (text_in seen.reading)) set homes s seen (text_in seen.reading) (server_row set homes s seen said) notes (says_row set homes s seen said) fits f sized

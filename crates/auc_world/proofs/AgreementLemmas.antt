@@ -12,20 +12,25 @@ use Rattle.auc_peer.specs.Subscription.{Subscription}
 use Rattle.auc_peer.specs.Table.{in_state, text_or_none, gave_up as peer_gave_up}
 use Rattle.auc_peer.specs.declared.peer.Challenge.{Challenge}
 use Rattle.auc_peer.specs.declared.peer.Peer.{Peer}
+use Rattle.auc_peer.specs.declared.peer.Source.{Source}
+use Rattle.auc_peer.specs.declared.peer.Source.TheVariants as source
+use Rattle.auc_peer.specs.Peer.{accepted_in, network_named, resumed_from}
 use Rattle.auc_peer.specs.declared.peer.PeerState.{PeerState}
 use Rattle.auc_peer.specs.declared.peer.PeerState.TheVariants as peer_state
 use Rattle.auc_peer.specs.declared.why.PeerWhy.{PeerWhy}
 use Rattle.auc_peer.specs.declared.why.PeerWhy.TheVariants as peer_why
 use Rattle.auc_reauth.specs.declared.context.Context.{Context}
-use Rattle.auc_server.specs.Laws.{EachTurnFits, EachTurnKeepsOrChallenges, Fits, KeepsChallenge, SendsChallenge, awaits_identity}
-use Rattle.auc_server.proofs.Facts.{turn_options}
+use Rattle.auc_server.specs.Laws.{EachTurnFits, EachTurnKeepsOrChallenges, Fits, KeepsChallenge, SendsChallenge}
+use Rattle.auc_server.proofs.Facts.{given_up_fits, started_fits, turn_options}
 use Rattle.auc_server.specs.Rows.{server_row}
-use Rattle.auc_server.specs.Server.{ServerEnd, started}
+use Rattle.auc_server.specs.Server.{ServerEnd, challenged_of, resumed_of, started}
 use Rattle.auc_server.specs.Setting.{Setting}
+use Rattle.auc_server.specs.State.{last_of}
 use Rattle.auc_server.specs.Steps.{asking}
 use Rattle.auc_server.specs.Table.{challenge_of, gave_up, repeated, vector_at, vector_of_row}
 use Rattle.auc_server.specs.declared.options.ServerOptions.{ServerOptions}
 use Rattle.auc_server.specs.declared.server.Challenged.{Challenged}
+use Rattle.auc_server.specs.declared.server.Last.{Last}
 use Rattle.auc_server.specs.declared.server.Resumed.{Resumed}
 use Rattle.auc_server.specs.declared.server.ServerState.{ServerState}
 use Rattle.auc_server.specs.declared.server.ServerState.TheVariants as state
@@ -40,13 +45,12 @@ use Rattle.auc_vector.specs.Notes.{Asking}
 use Rattle.auc_random.specs.Random.{rand_of}
 use Rattle.auc_vector.specs.Vector.{NumbersHaveDifferentSqns, autn_of, sqn_in, vector_of}
 use Rattle.auc_vector.specs.declared.parts.Vector.{Vector}
-use Rattle.auc_vector.specs.declared.turn.Outcome.{Outcome}
 use Rattle.auc_vector.specs.declared.turn.Outcome.TheVariants as outcome
 use Rattle.auc_vector.specs.declared.turn.Step.{Step}
 use Rattle.auc_vector.specs.declared.turn.Step.TheVariants as step
 use Rattle.auc_world.specs.Agreement.{AreOfOneChallenge, AreReleasedOnce, Happening, HaveSecrets, IsFresh, IsHonest, IsHonestAt, IsHonestFinding, Noted, Occurs, PeerWon, ServerWon, after, after_one}
 use Rattle.auc_world.specs.Happened.{Delivery, Told, at_place, at_session, delivered, delivery_at, delivery_of, found, found_by, give_up, in_session, keys_won, moved, opened, peer_finds, peer_turn, drawn_in_turn, repeat, sent_by, server_gives_up, server_turn, start, to_peer, to_server, with_peer, with_server, changed_in, with_copy}
-use Rattle.auc_world.specs.Net.{Net, device_place, inputs_accepted, inputs_of_peer, inputs_of_server, inputs_sent, keeps_at, packet_at, posted, session_place, copies}
+use Rattle.auc_world.specs.Net.{Net, device_place, inputs_from, inputs_of_peer, inputs_of_server, inputs_sent, keeps_at, packet_at, posted, session_place, copies}
 use Rattle.auc_lines.specs.declared.part.SessionLine.{SessionLine}
 use Rattle.auc_lines.specs.declared.part.End.{End}
 use Rattle.auc_lines.specs.declared.part.End.TheVariants as end
@@ -174,7 +178,7 @@ pub record IsDrawn (set : Setting) (released : List Number) (i : FullInputs) : T
   pub autn : i.autn ≡ vector.autn
 
 abbrev pub HasNumber : Setting → ServerEnd → Type 0
-HasNumber set s = (sent : Challenged) → s.challenged ≡ Some sent → (n : ℕ) × (vector_at set s.options sent.sub n ≡ Some sent.vector)
+HasNumber set s = (sent : Challenged) → challenged_of s ≡ Some sent → (n : ℕ) × (vector_at set s.options sent.sub n ≡ Some sent.vector)
 
 pub record ServerFine (set : Setting) (packets : List SentPacket) (s : ServerEnd) : Type 0 where
   pub fits : Fits s
@@ -185,7 +189,7 @@ pub record ServerFine (set : Setting) (packets : List SentPacket) (s : ServerEnd
 abbrev pub inputs_at : ℕ → Challenge → Peer → FullInputs
 inputs_at sub c p = record {
   method = p.options.method;
-  name = p.network;
+  name = network_named p.source;
   sub = sub;
   rand = c.rand;
   autn = c.autn;
@@ -195,12 +199,12 @@ inputs_at sub c p = record {
 -- a peer's keys are those of inputs that a server posted
 pub record PeerIs (device : Subscription) (packets : List SentPacket) (sub : ℕ) (p : Peer) (keys : KeySet) : Type 0 where
   pub challenge : Challenge
-  pub was_accepted : p.accepted ≡ Some challenge
-  pub same : keys ≡ keys_of_inputs device p.options.method p.network challenge (text_or_none p.identity)
+  pub was_accepted : accepted_in p.source ≡ Some challenge
+  pub same : keys ≡ keys_of_inputs device p.options.method (network_named p.source) challenge (text_or_none p.identity)
   pub was_posted : IsPosted packets (inputs_at sub challenge p)
 
 abbrev pub Live : List Subscription → List SentPacket → ℕ → ℕ → Peer → Type 0
-Live devices packets place sub p = (device : Subscription) (keys : KeySet) → slice_get devices place ≡ Some device → p.state ≡ peer_state.Answered keys → p.resumed ≡ None → PeerIs device packets sub p keys
+Live devices packets place sub p = (device : Subscription) (keys : KeySet) → slice_get devices place ≡ Some device → p.state ≡ peer_state.Answered keys → resumed_from p.source ≡ None → PeerIs device packets sub p keys
 
 pub record Done (devices : List Subscription) (packets : List SentPacket) (place sub : ℕ) (p : Peer) (keys : KeySet) : Type 0 where
   pub ended : p.state ≡ peer_state.Ended
@@ -209,7 +213,7 @@ pub record Done (devices : List Subscription) (packets : List SentPacket) (place
   pub is : PeerIs device packets sub p keys
 
 abbrev pub AllDone : List Subscription → List SentPacket → ℕ → ℕ → Peer → Option KeySet → Type 0
-AllDone devices packets place sub p won = (keys : KeySet) → won ≡ Some keys → p.resumed ≡ None → Done devices packets place sub p keys
+AllDone devices packets place sub p won = (keys : KeySet) → won ≡ Some keys → resumed_from p.source ≡ None → Done devices packets place sub p keys
 
 -- a peer that has won has ended
 abbrev pub HasEnded : Peer → Option KeySet → Type 0
@@ -391,13 +395,13 @@ fresh laws set w b sub n v i subscribers h once of p is rand autn =
 
 -- a turn that sends a new challenge
 server_new : Laws → (set : Setting) (w : Net) (place : ℕ) (session : Session) (s : ServerEnd) (did : Step ServerWhy) (sub n : ℕ) (v : Vector) (next : Option (List ℕ)) (bytes : List ℕ)
-    → AreSubscribers set.rows → HoldsOf set w → slice_get w.sessions place ≡ Some session → Fits s → RenewsFirst s → vector_at set s.options sub n ≡ Some v → s.challenged ≡ Some (challenge_of s sub n v next)
+    → AreSubscribers set.rows → HoldsOf set w → slice_get w.sessions place ≡ Some session → Fits s → RenewsFirst s → vector_at set s.options sub n ≡ Some v → challenged_of s ≡ Some (challenge_of s sub n v next)
     → did ≡ step.Sent bytes → AreReleasedOnce set.rows (w.released ++ record { sub = sub; n = n } ∷ []) → HoldsOf set (with_server w place session (record { sub = sub; n = n } ∷ []) s did)
 server_new laws set w place session s did sub n v next bytes subscribers h there fits first of sent_is did_is once =
     let x : Number = record { sub = sub; n = n } in
     let j = inputs_new s sub v in
     let after' = posted w.packets end.Server (inputs_of_server s) (sent_by did) in
-    let own : inputs_of_server s ≡ Some (inputs_of.Full j) = ap (λ (c : Option Challenged). inputs_sent s.options.method s.options.name s.identity c s.resumed) sent_is in
+    let own : inputs_of_server s ≡ Some (inputs_of.Full j) = ap (λ (c : Option Challenged). inputs_sent s.options.method s.options.name s.identity c (resumed_of s)) sent_is in
     let here : IsPosted after' j =
     subst (λ (d : Step ServerWhy). IsPosted (posted w.packets end.Server (inputs_of_server s) (sent_by d)) j) (sym did_is) (posts w.packets (inputs_of_server s) bytes j own) in
     let cases : (i : FullInputs) → IsPosted after' i → IsPosted w.packets i ⊎ (j ≡ i) =
@@ -421,7 +425,7 @@ server_new laws set w place session s did sub n v next bytes subscribers h there
         fits = fits;
         was_posted = λ i e. subst (IsPosted after') (one_full (inputs_of_server s) j i own e) here;
         renewed = first;
-        drawn = λ sent e. subst (λ (c : Challenged). (m : ℕ) × (vector_at set s.options c.sub m ≡ Some c.vector)) (one s.challenged (challenge_of s sub n v next) sent sent_is e) (n, of);
+        drawn = λ sent e. subst (λ (c : Challenged). (m : ℕ) × (vector_at set s.options c.sub m ≡ Some c.vector)) (one (challenged_of s) (challenge_of s sub n v next) sent sent_is e) (n, of);
       });
     }
 
@@ -481,20 +485,44 @@ pub contained : {X : Type 0} (P : X → Type 0) (xs : List X) (x : X) → All P 
 contained P xs x all c = subst P c.2 (all c.0 x c.1)
 
 -- inputs of a full authentication are those of a challenge
-sent_before : (s : ServerEnd) (i : FullInputs) → inputs_of_server s ≡ Some (inputs_of.Full i) → (sent : Challenged) × (s.challenged ≡ Some sent)
-sent_before s i e = by s.challenged s.resumed refl e
+sent_before : (s : ServerEnd) (i : FullInputs) → inputs_of_server s ≡ Some (inputs_of.Full i) → (sent : Challenged) × (challenged_of s ≡ Some sent)
+sent_before s i e = by (challenged_of s) (resumed_of s) refl e
   where
-    by : (c : Option Challenged) (r : Option Resumed) → s.challenged ≡ c → inputs_sent s.options.method s.options.name s.identity c r ≡ Some (inputs_of.Full i) → (sent : Challenged) × (s.challenged ≡ Some sent)
+    by : (c : Option Challenged) (r : Option Resumed) → challenged_of s ≡ c → inputs_sent s.options.method s.options.name s.identity c r ≡ Some (inputs_of.Full i) → (sent : Challenged) × (challenged_of s ≡ Some sent)
     by None None f g = absurd cc
     by None (Some r) f g = absurd cc
     by (Some sent) r f g = (sent, f)
 
-pub not_resumed : (p : Peer) (sub : ℕ) (i : FullInputs) → inputs_of_peer sub p ≡ Some (inputs_of.Full i) → p.resumed ≡ None
-not_resumed p sub i e = by p.resumed refl e
+pub not_resumed : (p : Peer) (sub : ℕ) (i : FullInputs) → inputs_of_peer sub p ≡ Some (inputs_of.Full i) → resumed_from p.source ≡ None
+not_resumed p sub i e = by p.source refl e
   where
-    by : (r : Option Context) → p.resumed ≡ r → inputs_accepted p.options.method p.network sub p.identity p.accepted r ≡ Some (inputs_of.Full i) → p.resumed ≡ None
-    by None f g = f
-    by (Some c) f g = absurd cc
+    by : (r : Source) → p.source ≡ r → inputs_from p.options.method sub (text_or_none p.identity) r ≡ Some (inputs_of.Full i) → resumed_from p.source ≡ None
+    by source.Nothing f g = ap resumed_from f
+    by (source.Challenge c name) f g = ap resumed_from f
+    by (source.Context c) f g = absurd cc
+
+-- the inputs of a peer that accepted a challenge
+pub accepted_inputs : (p : Peer) (sub : ℕ) (c : Challenge) → accepted_in p.source ≡ Some c → inputs_of_peer sub p ≡ Some (inputs_of.Full (inputs_at sub c p))
+accepted_inputs p sub c e = by p.source e
+  where
+    one_challenge : (a c : Challenge) → ◌≡◌ {A = Option Challenge} (Some a) (Some c) → a ≡ c
+    one_challenge a c f = cc
+
+    by : (r : Source) → accepted_in r ≡ Some c → inputs_from p.options.method sub (text_or_none p.identity) r
+        ≡ Some (inputs_of.Full (record { method = p.options.method; name = network_named r; sub = sub; rand = c.rand; autn = c.autn; identity = text_or_none p.identity }))
+    by source.Nothing f = absurd cc
+    by (source.Challenge a name) f =
+        ap (λ (x : Challenge). Some (inputs_of.Full (record { method = p.options.method; name = name; sub = sub; rand = x.rand; autn = x.autn; identity = text_or_none p.identity }))) (one_challenge a c f)
+    by (source.Context a) f = absurd cc
+
+-- a context that was resumed is what keys are made from
+pub resumed_is : (r : Source) (c : Context) → resumed_from r ≡ Some c → r ≡ source.Context c
+resumed_is source.Nothing c e = absurd cc
+resumed_is (source.Challenge a name) c e = absurd cc
+resumed_is (source.Context a) c e = ap source.Context (one_context a c e)
+  where
+    one_context : (a c : Context) → ◌≡◌ {A = Option Context} (Some a) (Some c) → a ≡ c
+    one_context a c f = cc
 
 -- in a full authentication
 pub full_agreed : (set : Setting) (w : Net) → HoldsOf set w → (a b : Session) (k l : KeySet) (i j : FullInputs) → Contains w.sessions a → Contains w.sessions b
@@ -507,15 +535,14 @@ full_agreed set w h a b k l i j ina inb won other alike =
     let alone = not_resumed p b.sub j other.inputs in
     let done = fb.done l other.won alone in
     let (sent, last) = sent_before s i won.inputs in
-    let keys = fa.renewed.won k sent won.won last in
+    let keys = fa.renewed.won k won.last sent won.won last in
     let c = done.is.challenge in
     let text = text_or_none p.identity in
     let here = inputs_new s sent.sub sent.vector in
     let there = inputs_at b.sub c p in
-    let is_i : here ≡ i = one_full (inputs_of_server s) here i (ap (λ (x : Option Challenged). inputs_sent s.options.method s.options.name s.identity x s.resumed) last) won.inputs in
+    let is_i : here ≡ i = one_full (inputs_of_server s) here i (ap (λ (x : Option Challenged). inputs_sent s.options.method s.options.name s.identity x (resumed_of s)) last) won.inputs in
     let is_j : there ≡ j = one_full (inputs_of_peer b.sub p) there j
-    (ap (λ (x : Option Challenge). inputs_accepted p.options.method p.network b.sub p.identity x p.resumed) done.is.was_accepted
-    ∙ ap (λ (x : Option Context). inputs_accepted p.options.method p.network b.sub p.identity (Some c) x) alone) other.inputs in
+    (accepted_inputs p b.sub c done.is.was_accepted) other.inputs in
     let both = h.alike i j (fa.was_posted i won.inputs) (subst (IsPosted w.packets) is_j done.is.was_posted) alike in
     let same : here ≡ there = is_i ∙ both ∙ sym is_j in
     let (n, of) = fa.drawn sent last in
@@ -553,12 +580,12 @@ inputs_kept : (s t : ServerEnd) → KeepsChallenge s t → t.options ≡ s.optio
     → inputs_of_server s ≡ Some (inputs_of.Full i)
 inputs_kept s t k stays i e =
     let (sent, last) = sent_before t i e in
-    let before : s.challenged ≡ Some sent = sym k.challenge ∙ last in
+    let before : (challenged_of s) ≡ Some sent = sym k.challenge ∙ last in
     let with_it : (o : ServerOptions) (text : List ℕ) (c : Option Challenged) (r : Option Resumed) → Option Inputs = λ o text c r. inputs_sent o.method o.name text c r in
-    ap (λ (c : Option Challenged). with_it s.options s.identity c s.resumed) before
-    ∙ ap (λ (o : ServerOptions). with_it o s.identity (Some sent) s.resumed) (sym stays)
-    ∙ ap (λ (text : List ℕ). with_it t.options text (Some sent) s.resumed) (sym (k.identity sent before))
-    ∙ ap (λ (c : Option Challenged). with_it t.options t.identity c t.resumed) (sym last) ∙ e
+    ap (λ (c : Option Challenged). with_it s.options s.identity c (resumed_of s)) before
+    ∙ ap (λ (o : ServerOptions). with_it o s.identity (Some sent) (resumed_of s)) (sym stays)
+    ∙ ap (λ (text : List ℕ). with_it t.options text (Some sent) (resumed_of s)) (sym (k.identity sent before))
+    ∙ ap (λ (c : Option Challenged). with_it t.options t.identity c (resumed_of t)) (sym last) ∙ e
 
 kept_fine : (set : Setting) (packets : List SentPacket) (s t : ServerEnd) → ServerFine set packets s → KeepsChallenge s t → t.options ≡ s.options → Fits t → RenewsFirst t
     → ServerFine set packets t
@@ -595,13 +622,13 @@ to_server_next laws set w d told (Some s) subscribers is there =
 
 -- ---- a delivery to a peer
 
-peer_kept : (device : Subscription) (packets : List SentPacket) (sub : ℕ) (p z : Peer) (keys : KeySet) → PeerIs device packets sub p keys → z.accepted ≡ p.accepted → z.identity ≡ p.identity
-    → z.options ≡ p.options → z.network ≡ p.network → PeerIs device packets sub z keys
-peer_kept device packets sub p z keys f acc id opt net =
+peer_kept : (device : Subscription) (packets : List SentPacket) (sub : ℕ) (p z : Peer) (keys : KeySet) → PeerIs device packets sub p keys → z.source ≡ p.source → z.identity ≡ p.identity
+    → z.options ≡ p.options → PeerIs device packets sub z keys
+peer_kept device packets sub p z keys f from id opt =
     let c = f.challenge in
     let same : inputs_at sub c p ≡ inputs_at sub c z = λ j. record {
       method = (sym opt j).method;
-      name = sym net j;
+      name = network_named (sym from j);
       sub = sub;
       rand = c.rand;
       autn = c.autn;
@@ -609,7 +636,7 @@ peer_kept device packets sub p z keys f acc id opt net =
     } in
     record {
       challenge = c;
-      was_accepted = acc ∙ f.was_accepted;
+      was_accepted = ap accepted_in from ∙ f.was_accepted;
       same = f.same ∙ ap (λ (y : FullInputs). keys_of_inputs device y.method y.name c y.identity) same;
       was_posted = subst (IsPosted packets) same f.was_posted;
     }
@@ -642,20 +669,18 @@ to_peer_next laws set w d told (Some device) is there honest =
       holds = λ h o.
           let old = at (SessionFine set w.devices w.packets) w.sessions d.place d.session h.fine there in
           let fits = laws.peer_fits set.key device keeps p told.seen told.notes.usim told.inner (old.suits device is) in
-          let none_before : z.resumed ≡ None → (p.state ≡ peer_state.Waiting → ⊥) → p.resumed ≡ None =
-          λ none apart. ⊎_elim (λ waits. absurd (apart waits)) (λ same. sym same ∙ none) m.resumed in
+          let none_before : resumed_from z.source ≡ None → (p.state ≡ peer_state.Waiting → ⊥) → resumed_from p.source ≡ None =
+          λ none apart. ⊎_elim (λ waits. absurd (apart waits)) (λ same. sym (ap resumed_from same) ∙ none) m.source in
           let kept : (other : Subscription) (keys : KeySet) → PeerIs other w.packets sub p keys → (p.state ≡ peer_state.Waiting → ⊥) → PeerIs other w.packets sub z keys =
           λ other keys f apart. ⊎_elim (λ waits. absurd (apart waits))
-          (λ same. ⊎_elim (λ waits. absurd (apart waits)) (λ stays. peer_kept other w.packets sub p z keys f same.0 same.1 m.options stays) m.network)
-          m.keeps in
-          let fresh_keys : (keys : KeySet) → z.state ≡ peer_state.Answered keys → z.resumed ≡ None → turn.1.checked ≡ true → PeerIs device w.packets sub z keys =
+          (λ same. ⊎_elim (λ waits. absurd (apart waits)) (λ stays. peer_kept other w.packets sub p z keys f same stays m.options) m.identity)
+          m.source in
+          let fresh_keys : (keys : KeySet) → z.state ≡ peer_state.Answered keys → resumed_from z.source ≡ None → turn.1.checked ≡ true → PeerIs device w.packets sub z keys =
           λ keys e none checked.
           let f = subst (AreOf device z keys) none (fits keys e) in
           let s = honest checked in
           let own = inputs_at sub f.challenge z in
-          let is_own : inputs_of_peer sub z ≡ Some (inputs_of.Full own) =
-          ap (λ (x : Option Challenge). inputs_accepted z.options.method z.network sub z.identity x z.resumed) f.was_accepted
-          ∙ ap (λ (x : Option Context). inputs_accepted z.options.method z.network sub z.identity (Some f.challenge) x) none in
+          let is_own : inputs_of_peer sub z ≡ Some (inputs_of.Full own) = accepted_inputs z sub f.challenge f.was_accepted in
           let same : s.own ≡ inputs_of.Full own = one (inputs_of_peer sub z) s.own (inputs_of.Full own) s.same_inputs is_own in
           record {
             challenge = f.challenge;
@@ -723,9 +748,6 @@ session_next set w session does each = by (session_place w.sessions session)
     by None = still set w
     by (Some place) = found_one place (slice_get w.sessions place) refl
 
-no_ended_success : (keys : KeySet) → state.AwaitIdentity ≡ state.Ended (outcome.Success keys) → ⊥
-no_ended_success keys e = cc
-
 nothing : {X : Type 0} (x : X) → ◌≡◌ {A = Option X} None (Some x) → ⊥
 nothing x e = cc
 
@@ -734,16 +756,10 @@ no_inputs i e = cc
 
 started_fine : (set : Setting) (packets : List SentPacket) (o : ServerOptions) → ServerFine set packets (started o)
 started_fine set packets o = record {
-  fits = record {
-    first = λ e. refl;
-    before = λ e. refl;
-    keys = λ sent e. absurd (nothing sent e);
-    master = λ sent e. absurd (nothing sent e);
-    success = λ keys e. absurd (no_ended_success keys e);
-  };
+  fits = started_fits o;
   was_posted = λ i e. absurd (no_inputs i e);
   drawn = λ sent e. absurd (nothing sent e);
-  renewed = record { waits = λ e. refl; won = λ keys sent e f. absurd (nothing sent f) };
+  renewed = record { won = λ keys last sent e f. absurd (nothing sent f) };
 }
 
 start_next : (set : Setting) (w : Net) (place : ℕ) (session : Session) (o : Option ServerEnd) → slice_get w.sessions place ≡ Some session → Next set w (start w place session o)
@@ -756,32 +772,17 @@ repeat_next set w place session None is there = still set w
 repeat_next set w place session (Some s) is there = kept_next set w place session s (repeated s s.state) there (λ h. server_in set w place session s there is h)
 
 abbrev given_up : ServerEnd → ServerEnd
-given_up s = record s { state = state.Ended (outcome.Failure why.GivenUp) }
+given_up s = record s { state = state.Ended (outcome.Failure why.GivenUp) (last_of s.state) }
 
-no_awaiting : (r : Outcome ServerWhy) → awaits_identity (state.Ended r) ≡ true → ⊥
-no_awaiting r e = cc
-
-no_success : (keys : KeySet) (cause : ServerWhy) → state.Ended (outcome.Failure cause) ≡ state.Ended (outcome.Success keys) → ⊥
-no_success keys cause e = cc
-
-no_reauth : (r : Outcome ServerWhy) → state.Ended r ≡ state.AwaitReauth → ⊥
-no_reauth r e = cc
+no_success : (keys : KeySet) (cause : ServerWhy) (before last : Last) → state.Ended (outcome.Failure cause) before ≡ state.Ended (outcome.Success keys) last → ⊥
+no_success keys cause before last e = cc
 
 given_up_fine : (set : Setting) (packets : List SentPacket) (s : ServerEnd) → ServerFine set packets s → ServerFine set packets (given_up s)
 given_up_fine set packets s f = record {
-  fits = record {
-    first = λ e. absurd (no_awaiting (outcome.Failure why.GivenUp) e);
-    before = λ e. absurd (no_awaiting (outcome.Failure why.GivenUp) e);
-    keys = f.fits.keys;
-    master = f.fits.master;
-    success = λ keys e. absurd (no_success keys why.GivenUp e);
-  };
+  fits = given_up_fits s f.fits;
   was_posted = f.was_posted;
   drawn = f.drawn;
-  renewed = record {
-    waits = λ e. absurd (no_reauth (outcome.Failure why.GivenUp) e);
-    won = λ keys sent e g. absurd (no_success keys why.GivenUp e);
-  };
+  renewed = record { won = λ keys last sent e g. absurd (no_success keys why.GivenUp (last_of s.state) last e) };
 }
 
 server_gives_next : (set : Setting) (w : Net) (place : ℕ) (session : Session) (o : Option ServerEnd) → session.server ≡ o → slice_get w.sessions place ≡ Some session
@@ -790,14 +791,12 @@ server_gives_next set w place session None is there = still set w
 server_gives_next set w place session (Some s) is there = by s.state
   where
     by : (st : ServerState) → Next set w (with_server w place session [] (gave_up s st).0 (gave_up s st).1)
-    by (state.Ended r) = kept_next set w place session s (gave_up s (state.Ended r)).1 there (λ h. server_in set w place session s there is h)
+    by (state.Ended r last) = kept_next set w place session s (gave_up s (state.Ended r last)).1 there (λ h. server_in set w place session s there is h)
     by state.AwaitIdentity = kept_next set w place session (given_up s) (gave_up s state.AwaitIdentity).1 there (λ h. given_up_fine set w.packets s (server_in set w place session s there is h))
-    by state.AwaitAny = kept_next set w place session (given_up s) (gave_up s state.AwaitAny).1 there (λ h. given_up_fine set w.packets s (server_in set w place session s there is h))
-    by state.AwaitFull = kept_next set w place session (given_up s) (gave_up s state.AwaitFull).1 there (λ h. given_up_fine set w.packets s (server_in set w place session s there is h))
-    by state.AwaitPermanent = kept_next set w place session (given_up s) (gave_up s state.AwaitPermanent).1 there (λ h. given_up_fine set w.packets s (server_in set w place session s there is h))
-    by state.AwaitChallenge = kept_next set w place session (given_up s) (gave_up s state.AwaitChallenge).1 there (λ h. given_up_fine set w.packets s (server_in set w place session s there is h))
-    by state.AwaitReauth = kept_next set w place session (given_up s) (gave_up s state.AwaitReauth).1 there (λ h. given_up_fine set w.packets s (server_in set w place session s there is h))
-    by (state.Notifying cause) = kept_next set w place session (given_up s) (gave_up s (state.Notifying cause)).1 there (λ h. given_up_fine set w.packets s (server_in set w place session s there is h))
+    by (state.Await kind) = kept_next set w place session (given_up s) (gave_up s (state.Await kind)).1 there (λ h. given_up_fine set w.packets s (server_in set w place session s there is h))
+    by (state.AwaitChallenge sent before) = kept_next set w place session (given_up s) (gave_up s (state.AwaitChallenge sent before)).1 there (λ h. given_up_fine set w.packets s (server_in set w place session s there is h))
+    by (state.AwaitReauth sent) = kept_next set w place session (given_up s) (gave_up s (state.AwaitReauth sent)).1 there (λ h. given_up_fine set w.packets s (server_in set w place session s there is h))
+    by (state.Notifying cause last) = kept_next set w place session (given_up s) (gave_up s (state.Notifying cause last)).1 there (λ h. given_up_fine set w.packets s (server_in set w place session s there is h))
 
 abbrev peer_over : Peer → Peer
 peer_over p = in_state p peer_state.Ended
@@ -820,7 +819,7 @@ peer_gives_next set w place session there = by session.peer.state
             ended = refl;
             device = f.device;
             there = f.there;
-            is = peer_kept f.device w.packets session.sub session.peer (peer_over session.peer) keys f.is refl refl refl refl;
+            is = peer_kept f.device w.packets session.sub session.peer (peer_over session.peer) keys f.is refl refl refl;
           })
           (λ keys e. refl)
           (λ device is keys e. absurd (no_answered keys e));

@@ -7,7 +7,7 @@ use Rattle.std.proofs.lemmas.List.Elements.{All-head, All-tail}
 use Rattle.auc_edge.specs.Identity.{Identity}
 use Rattle.auc_server.specs.Asked.{asked_after, sub_named, sub_of}
 use Rattle.auc_server.specs.Rows.{held_place, if_held, is_held, named_place, permanent_subscriber, pseudonym_subscriber, subscriber_in}
-use Rattle.auc_server.specs.Server.{ServerEnd}
+use Rattle.auc_server.specs.Server.{ServerEnd, challenged_of, resumed_of}
 use Rattle.auc_server.specs.Setting.{Setting}
 use Rattle.auc_server.specs.Steps.{IsHeld, IsHeldToo, IsHome}
 use Rattle.auc_server.specs.declared.server.Challenged.{Challenged}
@@ -69,16 +69,16 @@ resumed_listed rows subs top homes (Some r) found all held is = held_listed rows
 
 -- so has the one for whom the centre was asked
 pub asked_listed : (set : Setting) (subs : ℕ) (top : ℕ → ℕ) (homes : List HomeRow) (s : ServerEnd) (resynced : Option ResyncNote) (drawn : Option NumberNote)
-    → AreHomes set.rows subs top homes → IsHeld homes s.challenged → IsHeldToo homes s.resumed → IfSome (asked_after set homes s resynced drawn) (λ sub. sub < length set.rows)
+    → AreHomes set.rows subs top homes → IsHeld homes (challenged_of s) → IsHeldToo homes (resumed_of s) → IfSome (asked_after set homes s resynced drawn) (λ sub. sub < length set.rows)
 asked_listed set subs top homes s None None all held too = tt
 asked_listed set subs top homes s None (Some drawn) all held too =
-    resumed_listed set.rows subs top homes s.resumed (subscriber_in s.options.method set homes s.identity) all too
+    resumed_listed set.rows subs top homes (resumed_of s) (subscriber_in s.options.method set homes s.identity) all too
     (either_listed (length set.rows) (permanent_subscriber s.options.method set homes s.identity) (pseudonym_subscriber s.options.method set homes s.identity)
     (place_listed set.rows subs top homes _ all) (named_listed set.rows subs top homes _ all))
 asked_listed set subs top homes s (Some resync.BadAuts) drawn all held too = tt
-asked_listed set subs top homes s (Some (resync.Moved seen seq)) drawn all held too = challenged_listed set.rows subs top homes s.challenged all held
-asked_listed set subs top homes s (Some (resync.InRange seen seq)) drawn all held too = challenged_listed set.rows subs top homes s.challenged all held
-asked_listed set subs top homes s (Some (resync.Beyond seen seq)) drawn all held too = challenged_listed set.rows subs top homes s.challenged all held
+asked_listed set subs top homes s (Some (resync.Moved seen seq)) drawn all held too = challenged_listed set.rows subs top homes (challenged_of s) all held
+asked_listed set subs top homes s (Some (resync.InRange seen seq)) drawn all held too = challenged_listed set.rows subs top homes (challenged_of s) all held
+asked_listed set subs top homes s (Some (resync.Beyond seen seq)) drawn all held too = challenged_listed set.rows subs top homes (challenged_of s) all held
 
 -- ---- other events
 

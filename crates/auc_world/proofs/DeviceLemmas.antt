@@ -1,6 +1,6 @@
 -- For `world`: a USIM that is challenged, at the first device with its subscriber's identity.
-use Rattle.std.proofs.Common.{◌≡◌, ◌≢◌, ℕ, nat_lt, Bool, true, false, List, [], ◌∷◌, map, zero, suc, get_or, Option, Some, None, refl, sym, ap, ◌∙◌, arith}
-use Rattle.std.specs.Prelude.{slice_get, slice_set}
+use Rattle.std.proofs.Common.{◌≡◌, ◌≢◌, ℕ, ◌<◌, nat_lt, Bool, true, false, List, [], ◌∷◌, length, map, zero, suc, get_or, Option, Some, None, refl, sym, ap, subst, ◌∙◌, arith}
+use Rattle.std.specs.Prelude.{is_some, slice_get, slice_set}
 use Rattle.std.proofs.lemmas.Bool.Decides.{nat_tests}
 use Rattle.std.proofs.lemmas.List.Quantifiers.{position-Some}
 use Rattle.std.proofs.lemmas.Option.{get_or_from_slice_get, slice_get_within}
@@ -10,12 +10,12 @@ use Rattle.auc_peer.specs.declared.device.Device.{Device}
 use Rattle.auc_sqn.specs.Past.{Past, Remembers}
 use Rattle.auc_subs.specs.Subscriber.{AreSubscribers, same_identity}
 use Rattle.auc_subs.specs.declared.row.Row.{Row}
-use Rattle.auc_usim.specs.Usim.{IsAnswer, Memory, past_after_answer}
+use Rattle.auc_usim.specs.Usim.{IsAnswer, past_after_answer}
 use Rattle.auc_usim.specs.declared.answer.Answer.{Answer}
 use Rattle.auc_world.proofs.WorldLemmas.{map_same}
 use Rattle.auc_world.specs.InnerWorld.{device_with}
 use Rattle.auc_world.specs.Net.{device_place, place_with}
-use Rattle.auc_world.specs.World.{Challenges, memory_of, usim_at}
+use Rattle.auc_world.specs.World.{Challenges, WorldState, memory_of, usim_at, usim_of}
 
 -- ---- lists
 
@@ -31,6 +31,20 @@ get_other (z ∷ xs) zero zero y differ = absurd (differ refl)
 get_other (z ∷ xs) zero (suc other) y differ = refl
 get_other (z ∷ xs) (suc place) zero y differ = refl
 get_other (z ∷ xs) (suc place) (suc other) y differ = get_other xs place other y (λ same. differ (ap suc same))
+
+-- a USIM that is there is that of a device
+pub usim_within : (devices : List Device) (place : ℕ) → is_some (usim_at devices (Some place)) ≡ true → place < length devices
+usim_within [] place own = absurd cc
+usim_within (d ∷ ds) zero own = omega arith
+usim_within (d ∷ ds) (suc place) own = omega (arith, usim_within ds place own)
+
+-- so a subscriber's USIM that is there is that of a device
+pub own_place : (rows : List Row) (w v : WorldState) (sub place : ℕ) → v ≡ w → is_some (usim_of rows w sub) ≡ true → Some place ≡ device_place rows w.net.devices sub
+    → place < length v.devices
+own_place rows w v sub place same own is =
+    usim_within v.devices place
+    (subst (λ (o : Option ℕ). is_some (usim_at v.devices o) ≡ true) (ap (λ (x : WorldState). device_place rows x.net.devices sub) same ∙ sym is)
+    (subst (λ (x : WorldState). is_some (usim_of rows x sub) ≡ true) (sym same) own))
 
 -- ---- rows and places
 
@@ -109,7 +123,3 @@ module _ (rows : List Row) (devices : List Device) (place sub : ℕ) (device car
     bits = bits;
     age = age;
   }
-
--- a device whose USIM has the same secret
-pub same_subscription : (device : Device) (usim : Memory) → usim.secret ≡ device.usim.secret → subscription_of (record { imsi = device.imsi; usim = usim; store = device.store; realm = device.realm }) ≡ subscription_of device
-same_subscription device usim same = λ j. record { imsi = device.imsi; realm = device.realm; secret = same j }

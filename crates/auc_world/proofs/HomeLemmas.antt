@@ -9,7 +9,7 @@ use Rattle.auc_ident.specs.Permanent.{permanent_in, username}
 use Rattle.auc_ident.specs.declared.names.NameKind.TheVariants as kinds
 use Rattle.auc_server.specs.Asked.{asked_after, sub_named}
 use Rattle.auc_server.specs.Rows.{held_place, if_held, is_held, named_place, permanent_subscriber, pseudonym_subscriber, subscriber_in}
-use Rattle.auc_server.specs.Server.{ServerEnd}
+use Rattle.auc_server.specs.Server.{ServerEnd, challenged_of, resumed_of}
 use Rattle.auc_server.specs.Setting.{Setting}
 use Rattle.auc_server.specs.declared.server.Challenged.{Challenged}
 use Rattle.auc_server.specs.declared.server.Resumed.{Resumed}
@@ -51,7 +51,7 @@ resumed_alike homes later (Some r) same held = is_held_alike homes later r.sub s
 pub held_alike : (homes later : List HomeRow) (s : Option ServerEnd) → AreOfSame homes later → HasHeld homes s → HasHeld later s
 held_alike homes later None same held = tt
 held_alike homes later (Some s) same held =
-    (challenged_alike homes later s.challenged same held.0, resumed_alike homes later s.resumed same held.1, held.2)
+    (challenged_alike homes later (challenged_of s) same held.0, resumed_alike homes later (resumed_of s) same held.1, held.2)
 
 if_alike : (homes later : List HomeRow) (o : Option ℕ) → AreOfSame homes later → if_held later o ≡ if_held homes o
 if_alike homes later None same = refl
@@ -74,7 +74,7 @@ asked_same set homes later s None (Some drawn) same =
     let found : subscriber_in m set later s.identity ≡ subscriber_in m set homes s.identity =
     ap (λ (o : Option ℕ). option_or o (pseudonym_subscriber m set later s.identity)) (permanent_alike set homes later (permanent_in m (username s.identity)) same)
     ∙ ap (option_or (permanent_subscriber m set homes s.identity)) (named_alike homes later (resolved set.names kinds.Pseudonym m s.identity) same) in
-    ap (sub_named s.resumed) found
+    ap (sub_named (resumed_of s)) found
 asked_same set homes later s (Some resync.BadAuts) drawn same = refl
 asked_same set homes later s (Some (resync.Moved seen seq)) drawn same = refl
 asked_same set homes later s (Some (resync.InRange seen seq)) drawn same = refl

@@ -17,17 +17,14 @@ use Rattle.auc_reauth.specs.Machine.{Challenge, Lose, Move, Places, Resume, Win,
 use Rattle.auc_reauth.specs.Server.{Contexts, entry_named, if_named, no_contexts}
 use Rattle.auc_reauth.specs.Store.{ByMethod, entry, with_entry}
 use Rattle.auc_reauth.specs.declared.context.Context.{Context}
-use Rattle.auc_request.specs.declared.identities.IdentityRequest.{IdentityRequest}
-use Rattle.auc_request.specs.declared.identities.IdentityRequest.TheVariants as asks
-use Rattle.auc_server.proofs.Facts.{Says, challenged_subs, given_store, gone, resumed_subs, rewon_subs, says_row, won_subs}
+use Rattle.auc_server.proofs.Facts.{Says, challenged_subs, given_store, gone, none_resumed, resumed_subs, rewon_subs, says_row, won_subs}
 use Rattle.auc_server.specs.Contexts.{context_after, context_in, won_context, first_context, found_at, gives_next, homes_kept, homes_left, homes_resumed, homes_rewon, homes_won, later_context, with_context, with_context_at, without, without_at}
-use Rattle.auc_server.specs.Laws.{awaits_identity}
-use Rattle.auc_server.specs.Moves.{IsNewName, IsNewOrNone, is_at, left_first, left_later, moved_by, of_sub, waiting, waiting_at}
+use Rattle.auc_server.specs.Moves.{IsNewName, IsNewOrNone, is_at, moved_by, of_sub, waiting, waiting_at}
 use Rattle.auc_server.specs.Ordinals.{home_at, home_place, homes_given, homes_with, ordinal_after, ordinal_at, ordinal_given, with_next}
 use Rattle.auc_server.specs.Rows.{server_row, subscriber_in, text_in}
-use Rattle.auc_server.specs.Server.{ServerEnd}
+use Rattle.auc_server.specs.Server.{ServerEnd, resumed_of}
 use Rattle.auc_server.specs.Setting.{Setting}
-use Rattle.auc_server.specs.Table.{asked, awaiting, both_of, challenge_of, challenged, challenged_with, failed, gave_up, homes_after, homes_challenged, homes_done, homes_named, identified, identity_given, name_of, names_given, next_given, noted, notified, packets_after, pseudonym_given, random_at, reauthenticated, resumed_with, resumption, resynchronised, resynchronising, server_does, server_step, silent, succeeded, under, unknown, vector_at}
+use Rattle.auc_server.specs.Table.{asked, both_of, challenge_of, challenged, challenged_with, failed, gave_up, homes_after, homes_challenged, homes_done, homes_named, identified, identity_given, name_of, names_given, next_given, noted, notified, packets_after, pseudonym_given, random_at, reauthenticated, resumed_with, resumption, resynchronised, resynchronising, server_does, server_step, silent, succeeded, under, unknown, vector_at}
 use Rattle.auc_server.specs.declared.options.ServerOptions.{ServerOptions}
 use Rattle.auc_server.specs.declared.reply.Reply.{Reply}
 use Rattle.auc_server.specs.declared.rows.Row.{Row}
@@ -171,8 +168,8 @@ done_subs homes s text (row.Challenge sub) notes = challenged_subs s.options hom
 done_subs homes s text (row.TooSmall sub) notes = challenged_subs s.options homes sub notes.number
 done_subs homes s text (row.Resynchronise sub seq) notes = challenged_subs s.options homes sub notes.number
 done_subs homes s text (row.Resume sub) notes = resumed_subs s.options text homes sub (context_in s.options.method text homes sub)
-done_subs homes s text row.Success notes = won_subs s.options.method homes s.challenged
-done_subs homes s text row.Reauthenticated notes = rewon_subs s.options.method homes s.resumed
+done_subs homes s text (row.Success sent) notes = won_subs s.options.method homes sent
+done_subs homes s text (row.Reauthenticated sent) notes = rewon_subs s.options.method homes sent
 done_subs homes s text (row.Ignore cause) notes = refl
 done_subs homes s text (row.Ask kind) notes = refl
 done_subs homes s text row.UnknownIdentity notes = refl
@@ -264,9 +261,9 @@ pub record HomeTurn (set : Setting) (m : Method) (sub place t : ℕ) (homes late
   pub move : Option Move
   pub allowed : IsHomeMove set m (home_at homes place) (home_at later place) notes move
   pub store : (moved_by move (only w)).place zero ≡ entry m (home_at later place).store
-  pub session : (moved_by move (only w)).place (suc t) ≡ waiting_at place later (waiting new new.state)
+  pub session : (moved_by move (only w)).place (suc t) ≡ waiting_at place later (waiting new.state)
   pub others : (i : ℕ) → i ≢ zero → i ≢ suc t → (moved_by move (only w)).place i ≡ w i
-  pub used : resumed_for sub new.resumed ≡ (moved_by move (only w)).used ++ resumed_for sub before
+  pub used : resumed_for sub (resumed_of new) ≡ (moved_by move (only w)).used ++ resumed_for sub before
 
 -- the context of a Challenge
 context_is : (place : ℕ) (later : List HomeRow) (sub : ℕ) (sent : Challenged) (next : Option (List ℕ)) (c : Context) → waiting_at place later (of_sub sub (first_context sent next)) ≡ Some c
@@ -324,7 +321,7 @@ no_next (Some identity) c sub place homes other = ap (λ (b : Bool). cond b (Som
 module _ (set : Setting) (sub place t : ℕ) (homes : List HomeRow) (s : ServerEnd) (left : Option (ℕ × Context)) (w : Places)
     (placed : home_place homes sub ≡ Some place) (stored : w zero ≡ entry s.options.method (home_at homes place).store) (waits : w (suc t) ≡ waiting_at place homes left) where
   abbrev T : List HomeRow → ServerEnd → Notes → Type 0
-  T later new notes = HomeTurn set s.options.method sub place t homes later s.resumed new notes w
+  T later new notes = HomeTurn set s.options.method sub place t homes later (resumed_of s) new notes w
 
   abbrev SameStore : List HomeRow → Type 0
   SameStore later = (home_at later place).store ≡ (home_at homes place).store
@@ -334,7 +331,7 @@ module _ (set : Setting) (sub place t : ℕ) (homes : List HomeRow) (s : ServerE
 
   -- ---- moves
 
-  stays : (later : List HomeRow) (new : ServerEnd) (notes : Notes) → SameStore later → AreAlike later homes → waiting new new.state ≡ left → new.resumed ≡ s.resumed → T later new notes
+  stays : (later : List HomeRow) (new : ServerEnd) (notes : Notes) → SameStore later → AreAlike later homes → waiting new.state ≡ left → resumed_of new ≡ resumed_of s → T later new notes
   stays later new notes same subs is kept = record {
     move = None;
     allowed = tt;
@@ -344,8 +341,8 @@ module _ (set : Setting) (sub place t : ℕ) (homes : List HomeRow) (s : ServerE
     used = ap (resumed_for sub) kept;
   }
 
-  loses : (later : List HomeRow) (new : ServerEnd) (notes : Notes) → SameStore later → waiting_at place later (waiting new new.state) ≡ None
-      → resumed_for sub new.resumed ≡ resumed_for sub s.resumed → T later new notes
+  loses : (later : List HomeRow) (new : ServerEnd) (notes : Notes) → SameStore later → waiting_at place later (waiting new.state) ≡ None
+      → resumed_for sub (resumed_of new) ≡ resumed_for sub (resumed_of s) → T later new notes
   loses later new notes same is used = record {
     move = Some (Lose t);
     allowed = tt;
@@ -355,8 +352,8 @@ module _ (set : Setting) (sub place t : ℕ) (homes : List HomeRow) (s : ServerE
     used = used;
   }
 
-  comes : (later : List HomeRow) (new : ServerEnd) (notes : Notes) (c : Context) → SameStore later → waiting_at place later (waiting new new.state) ≡ Some c
-      → IsHomeMove set s.options.method (home_at homes place) (home_at later place) notes (Some (Challenge t c)) → new.resumed ≡ s.resumed → T later new notes
+  comes : (later : List HomeRow) (new : ServerEnd) (notes : Notes) (c : Context) → SameStore later → waiting_at place later (waiting new.state) ≡ Some c
+      → IsHomeMove set s.options.method (home_at homes place) (home_at later place) notes (Some (Challenge t c)) → resumed_of new ≡ resumed_of s → T later new notes
   comes later new notes c same is allowed kept = record {
     move = Some (Challenge t c);
     allowed = allowed;
@@ -366,8 +363,8 @@ module _ (set : Setting) (sub place t : ℕ) (homes : List HomeRow) (s : ServerE
     used = ap (resumed_for sub) kept;
   }
 
-  wins : (later : List HomeRow) (new : ServerEnd) (notes : Notes) → w (suc t) ≡ entry s.options.method (home_at later place).store → waiting_at place later (waiting new new.state) ≡ None
-      → new.resumed ≡ s.resumed → T later new notes
+  wins : (later : List HomeRow) (new : ServerEnd) (notes : Notes) → w (suc t) ≡ entry s.options.method (home_at later place).store → waiting_at place later (waiting new.state) ≡ None
+      → resumed_of new ≡ resumed_of s → T later new notes
   wins later new notes same is kept =
       let rest : Places = with_place (suc t) None w in record {
         move = Some (Win t);
@@ -379,9 +376,9 @@ module _ (set : Setting) (sub place t : ℕ) (homes : List HomeRow) (s : ServerE
       }
 
   resumes : (later : List HomeRow) (new : ServerEnd) (notes : Notes) (next : Option (List ℕ)) (c : Context) → w zero ≡ Some c → entry s.options.method (home_at later place).store ≡ None
-      → waiting_at place later (waiting new new.state) ≡ next_in next (Some c)
+      → waiting_at place later (waiting new.state) ≡ next_in next (Some c)
       → IsNewOrNone set.names s.options.method (home_at homes place) (home_at later place) next
-      → resumed_for sub new.resumed ≡ used_by c.counter c ∷ [] → s.resumed ≡ None → T later new notes
+      → resumed_for sub (resumed_of new) ≡ used_by c.counter c ∷ [] → resumed_of s ≡ None → T later new notes
   resumes later new notes next c there left' is named used none =
       let rest : Places = with_place zero None w in record {
         move = Some (Resume t next);
@@ -390,7 +387,7 @@ module _ (set : Setting) (sub place t : ℕ) (homes : List HomeRow) (s : ServerE
         session = at_same (suc t) (next_in next (w zero)) rest ∙ ap (next_in next) there ∙ sym is;
         others = λ i e f. at_other (suc t) i (next_in next (w zero)) rest f ∙ at_other zero i None w e;
         used = used ∙ ap (λ (r : Option Resumed). (used_by c.counter c ∷ []) ++ resumed_for sub r) (sym none)
-            ∙ ap (λ (o : Option Context). (used_in o ++ []) ++ resumed_for sub s.resumed) (sym there);
+            ∙ ap (λ (o : Option Context). (used_in o ++ []) ++ resumed_for sub (resumed_of s)) (sym there);
       }
 
   -- ---- a challenge
@@ -427,13 +424,13 @@ module _ (set : Setting) (sub place t : ℕ) (homes : List HomeRow) (s : ServerE
       by None e = loses (homes_named s.options homes other) new notes (named_store s.options homes other place) e refl
       by (Some c) e = comes (homes_named s.options homes other) new notes c (named_store s.options homes other place) e (challenge_allowed other n sent notes c refl drawn e) refl
 
-  with_turn : (other n : ℕ) (v : Option Vector) (resynced : Option ResyncNote) (checked : Bool) (notes : Notes) → notes.number ≡ Some (number.Drew n) → waiting s s.state ≡ left
+  with_turn : (other n : ℕ) (v : Option Vector) (resynced : Option ResyncNote) (checked : Bool) (notes : Notes) → notes.number ≡ Some (number.Drew n) → waiting s.state ≡ left
       → T (homes_named s.options homes other) (challenged_with set.realm s other n v (names_given set homes s other) (noted resynced (Some (number.Drew n))) checked).0 notes
   with_turn other n None resynced checked notes drawn e =
       stays (homes_named s.options homes other) s notes (named_store s.options homes other place) (challenged_subs s.options homes other (Some (number.Drew n))) e refl
   with_turn other n (Some v) resynced checked notes drawn e = sent_turn other n v resynced checked notes drawn
 
-  challenged_turn : (other : ℕ) (checked : Bool) (resynced : Option ResyncNote) (n : Option NumberNote) (notes : Notes) → notes.number ≡ n → waiting s s.state ≡ left
+  challenged_turn : (other : ℕ) (checked : Bool) (resynced : Option ResyncNote) (n : Option NumberNote) (notes : Notes) → notes.number ≡ n → waiting s.state ≡ left
       → T (homes_challenged s.options homes other n) (challenged set homes s other checked resynced n).0 notes
   challenged_turn other checked resynced None notes drawn e = stays homes s notes refl refl e refl
   challenged_turn other checked resynced (Some (number.Drew n)) notes drawn e = with_turn other n (vector_at set s.options other n) resynced checked notes drawn e
@@ -444,7 +441,7 @@ module _ (set : Setting) (sub place t : ℕ) (homes : List HomeRow) (s : ServerE
 
   -- ---- success
 
-  won_turn : (other : ℕ) (c : Option Context) (new : ServerEnd) (notes : Notes) → left ≡ of_sub other c → waiting new new.state ≡ None → new.resumed ≡ s.resumed
+  won_turn : (other : ℕ) (c : Option Context) (new : ServerEnd) (notes : Notes) → left ≡ of_sub other c → waiting new.state ≡ None → resumed_of new ≡ resumed_of s
       → T (homes_kept s.options.method homes other c) new notes
   won_turn other None new notes before after kept = loses homes new notes refl (ap (waiting_at place homes) after) (ap (resumed_for sub) kept)
   won_turn other (Some c) new notes before after kept = at (home_place homes other) refl
@@ -470,18 +467,16 @@ module _ (set : Setting) (sub place t : ℕ) (homes : List HomeRow) (s : ServerE
       at None e = loses homes new notes refl (ap (waiting_at place homes) after) (ap (resumed_for sub) kept)
       at (Some at') e = by at' (at' == place) refl e
 
-  succeeded_turn : (c : Option Challenged) (notes : Notes) → left ≡ left_first c → waiting s s.state ≡ left → T (homes_won s.options.method homes c) (succeeded s c).0 notes
-  succeeded_turn None notes e f = stays homes s notes refl refl f refl
-  succeeded_turn (Some sent) notes e f = won_turn sent.sub (won_context sent) (succeeded s (Some sent)).0 notes e refl refl
+  succeeded_turn : (sent : Challenged) (notes : Notes) → left ≡ of_sub sent.sub (won_context sent) → T (homes_won s.options.method homes sent) (succeeded s sent).0 notes
+  succeeded_turn sent notes e = won_turn sent.sub (won_context sent) (succeeded s sent).0 notes e refl refl
 
-  renewed_turn : (c : Option Resumed) (notes : Notes) → left ≡ left_later c → waiting s s.state ≡ left → T (homes_rewon s.options.method homes c) (reauthenticated s c).0 notes
-  renewed_turn None notes e f = stays homes s notes refl refl f refl
-  renewed_turn (Some sent) notes e f = won_turn sent.sub (context_after sent) (reauthenticated s (Some sent)).0 notes e refl refl
+  renewed_turn : (sent : Resumed) (notes : Notes) → left ≡ of_sub sent.sub (context_after sent) → T (homes_rewon s.options.method homes sent) (reauthenticated s sent).0 notes
+  renewed_turn sent notes e = won_turn sent.sub (context_after sent) (reauthenticated s sent).0 notes e refl refl
 
   -- ---- a context that is taken up again
 
   resumes_by : (text : List ℕ) (packets : List (List ℕ)) (other at' : ℕ) (c : Context) (notes : Notes) (b : Bool) → (at' == place) ≡ b → home_place homes other ≡ Some at'
-      → entry_named s.options.method text (home_at homes at').store ≡ Some c → s.resumed ≡ None
+      → entry_named s.options.method text (home_at homes at').store ≡ Some c → resumed_of s ≡ None
       → T (homes_resumed s.options text homes other (Some c)) (resumed_with set (homes_left s.options.method text homes other) s text packets other (Some c)).0 notes
   resumes_by text packets other at' c notes true here e f none =
       let m = s.options.method in
@@ -521,7 +516,7 @@ module _ (set : Setting) (sub place t : ℕ) (homes : List HomeRow) (s : ServerE
       (resumed_other sub r (λ one. apart_numbers at' place away (some_place at' place (sym e ∙ ap (home_place homes) one ∙ placed))) ∙ ap (resumed_for sub) (sym none))
 
   resumed_turn : (text : List ℕ) (packets : List (List ℕ)) (other : ℕ) (at' : Option ℕ) (c : Option Context) (notes : Notes) → home_place homes other ≡ at'
-      → found_at s.options.method text homes at' ≡ c → s.resumed ≡ None → waiting s s.state ≡ left
+      → found_at s.options.method text homes at' ≡ c → resumed_of s ≡ None → waiting s.state ≡ left
       → T (homes_resumed s.options text homes other c) (resumed_with set (homes_left s.options.method text homes other) s text packets other c).0 notes
   resumed_turn text packets other at' None notes e f none g = stays homes s notes refl refl g refl
   resumed_turn text packets other None (Some c) notes e f none g = absurd cc
@@ -529,55 +524,30 @@ module _ (set : Setting) (sub place t : ℕ) (homes : List HomeRow) (s : ServerE
 
 -- ---- the rows
 
-synced_waits : (s : ServerEnd) (now : ServerState) → waiting (resynchronising s) now ≡ waiting s now
-synced_waits s state.AwaitIdentity = refl
-synced_waits s state.AwaitAny = refl
-synced_waits s state.AwaitFull = refl
-synced_waits s state.AwaitPermanent = refl
-synced_waits s state.AwaitChallenge = refl
-synced_waits s state.AwaitReauth = refl
-synced_waits s (state.Notifying why) = refl
-synced_waits s (state.Ended result) = refl
-
-identified_waits : (s : ServerEnd) (text : List ℕ) (packets : List (List ℕ)) (now : ServerState) → waiting (identified s text packets) now ≡ waiting s now
-identified_waits s text packets state.AwaitIdentity = refl
-identified_waits s text packets state.AwaitAny = refl
-identified_waits s text packets state.AwaitFull = refl
-identified_waits s text packets state.AwaitPermanent = refl
-identified_waits s text packets state.AwaitChallenge = refl
-identified_waits s text packets state.AwaitReauth = refl
-identified_waits s text packets (state.Notifying why) = refl
-identified_waits s text packets (state.Ended result) = refl
-
-nothing_asked : (s : ServerEnd) (kind : IdentityRequest) → waiting s (awaiting kind) ≡ None
-nothing_asked s asks.Any = refl
-nothing_asked s asks.Fullauth = refl
-nothing_asked s asks.Permanent = refl
-
 module _ (set : Setting) (sub place t : ℕ) (homes : List HomeRow) (s : ServerEnd) (w : Places)
-    (placed : home_place homes sub ≡ Some place) (stored : w zero ≡ entry s.options.method (home_at homes place).store) (waits : w (suc t) ≡ waiting_at place homes (waiting s s.state)) where
+    (placed : home_place homes sub ≡ Some place) (stored : w zero ≡ entry s.options.method (home_at homes place).store) (waits : w (suc t) ≡ waiting_at place homes (waiting s.state)) where
   abbrev R : List HomeRow → ServerEnd → Notes → Type 0
-  R later new notes = HomeTurn set s.options.method sub place t homes later s.resumed new notes w
+  R later new notes = HomeTurn set s.options.method sub place t homes later (resumed_of s) new notes w
 
   still : (notes : Notes) → R homes s notes
-  still notes = stays set sub place t homes s (waiting s s.state) w placed stored waits homes s notes refl refl refl refl
+  still notes = stays set sub place t homes s (waiting s.state) w placed stored waits homes s notes refl refl refl refl
 
-  ends : (later : List HomeRow) (new : ServerEnd) (notes : Notes) → (home_at later place).store ≡ (home_at homes place).store → waiting new new.state ≡ None → new.resumed ≡ s.resumed → R later new notes
+  ends : (later : List HomeRow) (new : ServerEnd) (notes : Notes) → (home_at later place).store ≡ (home_at homes place).store → waiting new.state ≡ None → resumed_of new ≡ resumed_of s → R later new notes
   ends later new notes same is kept =
-      loses set sub place t homes s (waiting s s.state) w placed stored waits later new notes same (ap (waiting_at place later) is) (ap (resumed_for sub) kept)
+      loses set sub place t homes s (waiting s.state) w placed stored waits later new notes same (ap (waiting_at place later) is) (ap (resumed_for sub) kept)
 
   asks_again : (other : ℕ) (resynced : Option ResyncNote) (notes : Notes)
       → R (homes_challenged s.options homes other notes.number) (challenged set homes (resynchronising s) other false resynced notes.number).0 notes
   asks_again other resynced notes =
-      challenged_turn set sub place t homes (resynchronising s) (waiting s s.state) w placed stored waits other false resynced notes.number notes refl (synced_waits s s.state)
+      challenged_turn set sub place t homes (resynchronising s) (waiting s.state) w placed stored waits other false resynced notes.number notes refl refl
 
   resynchronised_turn : (other : ℕ) (resynced : Option ResyncNote) (notes : Notes)
       → R (homes_challenged s.options homes other notes.number) (resynchronised set homes s other resynced notes.number).0 notes
   resynchronised_turn other None notes =
-      stays set sub place t homes s (waiting s s.state) w placed stored waits (homes_challenged s.options homes other notes.number) s notes
+      stays set sub place t homes s (waiting s.state) w placed stored waits (homes_challenged s.options homes other notes.number) s notes
       (challenged_store s.options homes other notes.number place) (challenged_subs s.options homes other notes.number) refl refl
   resynchronised_turn other (Some resync.BadAuts) notes =
-      stays set sub place t homes s (waiting s s.state) w placed stored waits (homes_challenged s.options homes other notes.number) s notes
+      stays set sub place t homes s (waiting s.state) w placed stored waits (homes_challenged s.options homes other notes.number) s notes
       (challenged_store s.options homes other notes.number place) (challenged_subs s.options homes other notes.number) refl refl
   resynchronised_turn other (Some (resync.Beyond seen seq)) notes =
       ends (homes_challenged s.options homes other notes.number) (resynchronised set homes s other (Some (resync.Beyond seen seq)) notes.number).0 notes
@@ -585,50 +555,48 @@ module _ (set : Setting) (sub place t : ℕ) (homes : List HomeRow) (s : ServerE
   resynchronised_turn other (Some (resync.InRange seen seq)) notes = asks_again other (Some (resync.InRange seen seq)) notes
   resynchronised_turn other (Some (resync.Moved seen seq)) notes = asks_again other (Some (resync.Moved seen seq)) notes
 
-  does_turn : (who : Option ℕ) (seen : Seen) (text : List ℕ) (packets : List (List ℕ)) (r : Row) (notes : Notes) → Says who s seen r → (awaits_identity s.state ≡ true → s.resumed ≡ None)
+  does_turn : (who : Option ℕ) (seen : Seen) (text : List ℕ) (packets : List (List ℕ)) (r : Row) (notes : Notes) → Says who s seen r
       → R (homes_done homes s text r notes) (server_does set homes s text packets r notes).0 notes
-  does_turn who seen text packets (row.Ignore cause) notes says fits = still notes
-  does_turn who seen text packets (row.Ask kind) notes says fits = ends homes (asked s text packets kind).0 notes refl (nothing_asked (asked s text packets kind).0 kind) refl
-  does_turn who seen text packets row.UnknownIdentity notes says fits = ends homes (unknown s text packets).0 notes refl refl refl
-  does_turn who seen text packets (row.Challenge other) notes says fits =
-      challenged_turn set sub place t homes (identified s text packets) (waiting s s.state) w placed stored waits other false None notes.number notes refl (identified_waits s text packets s.state)
-  does_turn who seen text packets (row.Resume other) notes says fits =
-      resumed_turn set sub place t homes s (waiting s s.state) w placed stored waits text packets other (home_place homes other) (context_in s.options.method text homes other) notes refl refl
-      (fits says) refl
-  does_turn who seen text packets (row.TooSmall other) notes says fits =
-      challenged_turn set sub place t homes s (waiting s s.state) w placed stored waits other true None notes.number notes refl refl
-  does_turn who seen text packets row.WrongCounter notes says fits = ends homes (notified s why.WrongCounter silent true).0 notes refl refl refl
-  does_turn who seen text packets row.Reauthenticated notes says fits =
-      renewed_turn set sub place t homes s (waiting s s.state) w placed stored waits s.resumed notes (ap (waiting s) says.waits) refl
-  does_turn who seen text packets row.WrongMac notes says fits = ends homes (notified s why.WrongMac silent false).0 notes refl refl refl
-  does_turn who seen text packets row.WrongRes notes says fits = ends homes (notified s why.WrongRes silent true).0 notes refl refl refl
-  does_turn who seen text packets row.WrongCheckcode notes says fits = ends homes (notified s why.WrongCheckcode silent true).0 notes refl refl refl
-  does_turn who seen text packets row.Success notes says fits =
-      succeeded_turn set sub place t homes s (waiting s s.state) w placed stored waits s.challenged notes (ap (waiting s) says.waits) refl
-  does_turn who seen text packets row.SecondSync notes says fits = ends homes (notified s why.SecondSync silent false).0 notes refl refl refl
-  does_turn who seen text packets row.BadAuts notes says fits = ends homes (notified s why.BadAuts (noted (Some resync.BadAuts) None) false).0 notes refl refl refl
-  does_turn who seen text packets (row.Resynchronise other seq) notes says fits = resynchronised_turn other notes.resync notes
-  does_turn who seen text packets row.Rejected notes says fits = ends homes (failed s why.Rejected).0 notes refl refl refl
-  does_turn who seen text packets (row.ClientError code) notes says fits = ends homes (failed s (why.ClientError code)).0 notes refl refl refl
-  does_turn who seen text packets (row.Notified cause) notes says fits = ends homes (failed s cause).0 notes refl refl refl
+  does_turn who seen text packets (row.Ignore cause) notes says = still notes
+  does_turn who seen text packets (row.Ask kind) notes says = ends homes (asked s text packets kind).0 notes refl refl (sym (none_resumed s says))
+  does_turn who seen text packets row.UnknownIdentity notes says = ends homes (unknown s text packets).0 notes refl refl refl
+  does_turn who seen text packets (row.Challenge other) notes says =
+      challenged_turn set sub place t homes (identified s text packets) (waiting s.state) w placed stored waits other false None notes.number notes refl refl
+  does_turn who seen text packets (row.Resume other) notes says =
+      resumed_turn set sub place t homes s (waiting s.state) w placed stored waits text packets other (home_place homes other) (context_in s.options.method text homes other) notes refl refl
+      (none_resumed s says) refl
+  does_turn who seen text packets (row.TooSmall other) notes says =
+      challenged_turn set sub place t homes s (waiting s.state) w placed stored waits other true None notes.number notes refl refl
+  does_turn who seen text packets row.WrongCounter notes says = ends homes (notified s why.WrongCounter silent true).0 notes refl refl refl
+  does_turn who seen text packets (row.Reauthenticated sent) notes says =
+      renewed_turn set sub place t homes s (waiting s.state) w placed stored waits sent notes (ap waiting says.waits)
+  does_turn who seen text packets row.WrongMac notes says = ends homes (notified s why.WrongMac silent false).0 notes refl refl refl
+  does_turn who seen text packets row.WrongRes notes says = ends homes (notified s why.WrongRes silent true).0 notes refl refl refl
+  does_turn who seen text packets row.WrongCheckcode notes says = ends homes (notified s why.WrongCheckcode silent true).0 notes refl refl refl
+  does_turn who seen text packets (row.Success sent) notes says =
+      succeeded_turn set sub place t homes s (waiting s.state) w placed stored waits sent notes (ap waiting says.waits)
+  does_turn who seen text packets row.SecondSync notes says = ends homes (notified s why.SecondSync silent false).0 notes refl refl refl
+  does_turn who seen text packets row.BadAuts notes says = ends homes (notified s why.BadAuts (noted (Some resync.BadAuts) None) false).0 notes refl refl refl
+  does_turn who seen text packets (row.Resynchronise other seq) notes says = resynchronised_turn other notes.resync notes
+  does_turn who seen text packets row.Rejected notes says = ends homes (failed s why.Rejected).0 notes refl refl refl
+  does_turn who seen text packets (row.ClientError code) notes says = ends homes (failed s (why.ClientError code)).0 notes refl refl refl
+  does_turn who seen text packets (row.Notified cause) notes says = ends homes (failed s cause).0 notes refl refl refl
 
   -- each turn
-  pub turn_moves_home : (seen : Seen) (said : Reply) (notes : Notes) → (awaits_identity s.state ≡ true → s.resumed ≡ None)
+  pub turn_moves_home : (seen : Seen) (said : Reply) (notes : Notes)
       → R (homes_after set homes s seen said notes) (server_step set homes s seen said notes).0 notes
-  turn_moves_home seen said notes fits =
+  turn_moves_home seen said notes =
       does_turn (subscriber_in s.options.method set homes (text_in seen.reading)) seen (text_in seen.reading)
-      (packets_after s seen (server_row set homes s seen said)) (server_row set homes s seen said) notes (says_row set homes s seen said) fits
+      (packets_after s seen (server_row set homes s seen said)) (server_row set homes s seen said) notes (says_row set homes s seen said)
 
   -- a server gives up, or its session has ended before
   pub giving_up_moves_home : (now : ServerState) (notes : Notes) → s.state ≡ now → R homes (gave_up s now).0 notes
-  giving_up_moves_home (state.Ended result) notes e = still notes
+  giving_up_moves_home (state.Ended result last) notes e = still notes
   giving_up_moves_home state.AwaitIdentity notes e = ends homes (gave_up s state.AwaitIdentity).0 notes refl refl refl
-  giving_up_moves_home state.AwaitAny notes e = ends homes (gave_up s state.AwaitAny).0 notes refl refl refl
-  giving_up_moves_home state.AwaitFull notes e = ends homes (gave_up s state.AwaitFull).0 notes refl refl refl
-  giving_up_moves_home state.AwaitPermanent notes e = ends homes (gave_up s state.AwaitPermanent).0 notes refl refl refl
-  giving_up_moves_home state.AwaitChallenge notes e = ends homes (gave_up s state.AwaitChallenge).0 notes refl refl refl
-  giving_up_moves_home state.AwaitReauth notes e = ends homes (gave_up s state.AwaitReauth).0 notes refl refl refl
-  giving_up_moves_home (state.Notifying cause) notes e = ends homes (gave_up s (state.Notifying cause)).0 notes refl refl refl
+  giving_up_moves_home (state.Await kind) notes e = ends homes (gave_up s (state.Await kind)).0 notes refl refl refl
+  giving_up_moves_home (state.AwaitChallenge sent before) notes e = ends homes (gave_up s (state.AwaitChallenge sent before)).0 notes refl refl refl
+  giving_up_moves_home (state.AwaitReauth sent) notes e = ends homes (gave_up s (state.AwaitReauth sent)).0 notes refl refl refl
+  giving_up_moves_home (state.Notifying cause last) notes e = ends homes (gave_up s (state.Notifying cause last)).0 notes refl refl refl
 
 -- ---- the other method
 
@@ -655,13 +623,11 @@ module _ (m : Method) (place : ℕ) where
       at None = refl
       at (Some at') = set_entry m homes at' place (with_context by c (home_at homes at')) (entry_other by m (Some c) (home_at homes at').store e)
 
-  won_leaves : (by : Method) (homes : List HomeRow) (c : Option Challenged) → m ≢ by → Leaves homes (homes_won by homes c)
-  won_leaves by homes None e = refl
-  won_leaves by homes (Some sent) e = kept_leaves by homes sent.sub (won_context sent) e
+  won_leaves : (by : Method) (homes : List HomeRow) (sent : Challenged) → m ≢ by → Leaves homes (homes_won by homes sent)
+  won_leaves by homes sent e = kept_leaves by homes sent.sub (won_context sent) e
 
-  rewon_leaves : (by : Method) (homes : List HomeRow) (c : Option Resumed) → m ≢ by → Leaves homes (homes_rewon by homes c)
-  rewon_leaves by homes None e = refl
-  rewon_leaves by homes (Some sent) e = kept_leaves by homes sent.sub (context_after sent) e
+  rewon_leaves : (by : Method) (homes : List HomeRow) (sent : Resumed) → m ≢ by → Leaves homes (homes_rewon by homes sent)
+  rewon_leaves by homes sent e = kept_leaves by homes sent.sub (context_after sent) e
 
   left_leaves : (by : Method) (text : List ℕ) (homes : List HomeRow) (p : Option ℕ) → m ≢ by → Leaves homes (without_at by text homes p)
   left_leaves by text homes None e = refl
@@ -677,8 +643,8 @@ module _ (m : Method) (place : ℕ) where
   done_leaves homes s text (row.TooSmall sub) notes e = challenged_leaves s.options homes sub notes.number
   done_leaves homes s text (row.Resynchronise sub seq) notes e = challenged_leaves s.options homes sub notes.number
   done_leaves homes s text (row.Resume sub) notes e = resumed_leaves s.options text homes sub (context_in s.options.method text homes sub) e
-  done_leaves homes s text row.Success notes e = won_leaves s.options.method homes s.challenged e
-  done_leaves homes s text row.Reauthenticated notes e = rewon_leaves s.options.method homes s.resumed e
+  done_leaves homes s text (row.Success sent) notes e = won_leaves s.options.method homes sent e
+  done_leaves homes s text (row.Reauthenticated sent) notes e = rewon_leaves s.options.method homes sent e
   done_leaves homes s text (row.Ignore cause) notes e = refl
   done_leaves homes s text (row.Ask kind) notes e = refl
   done_leaves homes s text row.UnknownIdentity notes e = refl

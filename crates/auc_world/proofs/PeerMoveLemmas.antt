@@ -13,15 +13,16 @@ use Rattle.auc_peer.specs.Attributes.{checkcode, differs}
 use Rattle.auc_peer.specs.Places.{place_in, place_of}
 use Rattle.auc_peer.specs.Rows.{peer_row}
 use Rattle.auc_peer.specs.Subscription.{Subscription}
-use Rattle.auc_peer.specs.Table.{text_or_none, accepted, accepting, again, by_answer, challenged, client, context_from, context_named, gave_up, genuine, keys_at, master_at, new_peer, opened, own_code, peer_does, peer_step, reauthenticated, succeeded, taken}
+use Rattle.auc_peer.specs.Table.{text_or_none, accepted, accepting, by_answer, challenged, client, context_from, context_named, gave_up, genuine, keys_at, master_at, new_peer, opened, own_code, peer_does, peer_step, reauthenticated, succeeded, taken}
 use Rattle.auc_peer.specs.Told as peer_told
 use Rattle.auc_peer.specs.declared.decrypted.Decrypted.{Decrypted}
 use Rattle.auc_peer.specs.declared.decrypted.Decrypted.TheVariants as decrypted
 use Rattle.auc_peer.specs.declared.next.NextContext.{NextContext}
 use Rattle.auc_peer.specs.declared.next.NextContext.TheVariants as next
 use Rattle.auc_peer.specs.declared.peer.Challenge.{Challenge}
-use Rattle.auc_peer.specs.declared.peer.Last.{Last}
 use Rattle.auc_peer.specs.declared.peer.Peer.{Peer}
+use Rattle.auc_peer.specs.declared.peer.Source.{Source}
+use Rattle.auc_peer.specs.Peer.{resumed_from}
 use Rattle.auc_peer.specs.declared.peer.PeerState.{PeerState}
 use Rattle.auc_peer.specs.declared.peer.PeerState.TheVariants as state
 use Rattle.auc_peer.specs.declared.rows.Row.{Row}
@@ -72,11 +73,11 @@ quiet_none next.Same p e = refl
 quiet_none (next.New c) p e = refl
 quiet_none (next.Renamed from to) p e = absurd e
 
-accepted_same : (following : NextContext) (p q : Peer) → q.resumed ≡ p.resumed → q.inner ≡ p.inner → accepted_for following q ≡ accepted_for following p
+accepted_same : (following : NextContext) (p q : Peer) → q.source ≡ p.source → q.inner ≡ p.inner → accepted_for following q ≡ accepted_for following p
 accepted_same next.Same p q e f = refl
 accepted_same (next.New c) p q e f = refl
 accepted_same (next.Renamed from to) p q e f =
-    ap (λ (r : Option Context). counter_used r (counter_given q.inner)) e ∙ ap (λ (d : Decrypted). counter_used p.resumed (counter_given d)) f
+    ap (λ (r : Source). counter_used (resumed_from r) (counter_given q.inner)) e ∙ ap (λ (d : Decrypted). counter_used (resumed_from p.source) (counter_given d)) f
 
 refuses_waits : (cause : PeerWhy) → ◌≡◌ {A = PeerState} (state.Refusing cause) state.Waiting → ⊥
 refuses_waits cause e = cc
@@ -134,7 +135,7 @@ module _ (store : Option Context) (p : Peer) (quiet : IsQuiet p) where
   same = record { used = refl; quiet = quiet }
 
   -- the peer refuses, or its session ends
-  closes : (new : Peer) → new.identity ≡ p.identity → new.next ≡ p.next → new.resumed ≡ p.resumed → new.inner ≡ p.inner → (new.state ≡ state.Waiting → ⊥) → place_of new ≡ None → Counts store p new None
+  closes : (new : Peer) → new.identity ≡ p.identity → new.next ≡ p.next → new.source ≡ p.source → new.inner ≡ p.inner → (new.state ≡ state.Waiting → ⊥) → place_of new ≡ None → Counts store p new None
   closes new i e f g ends none = record {
     used = ap (λ (following : NextContext). accepted_for following new) e ∙ accepted_same p.next p new f g;
     quiet = record {
@@ -210,10 +211,6 @@ module _ (store : Option Context) (p : Peer) (quiet : IsQuiet p) where
 
   -- ---- the other rows
 
-  again_c : (last : Option Last) → C (again p last)
-  again_c None = same
-  again_c (Some last) = same
-
   succeeded_c : (now : PeerState) → C (succeeded p now)
   succeeded_c (state.Answered keys) = closes _ refl refl refl refl ended_waits refl
   succeeded_c state.Waiting = same
@@ -256,7 +253,7 @@ module _ (key : List ℕ) (s : Subscription) (keeps : Keeps) (p : Peer) (quiet :
 
   row_c : (seen : Seen) (r : Row) (n : Option UsimNote) (inner : Decrypted) → Waits p r → D (peer_does key s keeps p seen r n inner)
   row_c seen (row.Ignore cause) n inner w = same own p quiet
-  row_c seen row.Again n inner w = again_c own p quiet p.last
+  row_c seen row.Again n inner w = same own p quiet
   row_c seen row.First n inner w = goes_on own p quiet _ None w refl refl refl
   row_c seen (row.Identity asked) n inner w = goes_on own p quiet _ None w refl refl refl
   row_c seen (row.Client cause) n inner w = closes own p quiet _ refl refl refl refl (refuses_waits _) refl

@@ -4,7 +4,6 @@ use Rattle.std.specs.Prelude.{IsPermutation, flat_map}
 use Rattle.std.proofs.lemmas.List.Elements.{All-nil, All-push, All-set}
 use Rattle.std.proofs.lemmas.List.Sorted.{IsPermutation-append_comm, IsPermutation-append_left, IsPermutation-append_right, IsPermutation-refl, IsPermutation-trans}
 use Rattle.std.proofs.lemmas.Option.{get_or_from_slice_get, slice_get_within}
-use Rattle.auc_hmac.specs.declared.keys.KeySet.{KeySet}
 use Rattle.auc_hmac.specs.declared.method.Method.{Method}
 use Rattle.auc_hmac.specs.declared.method.Method.TheVariants as method
 use Rattle.auc_lines.specs.declared.part.End.{End}
@@ -15,22 +14,17 @@ use Rattle.auc_peer.specs.Table.{gave_up as peer_gave_up}
 use Rattle.auc_reauth.specs.Machine.{Move, Places, Used}
 use Rattle.auc_reauth.specs.Store.{entry}
 use Rattle.auc_reauth.specs.declared.context.Context.{Context}
-use Rattle.auc_server.proofs.Facts.{gave_up_options, turn_options}
+use Rattle.auc_server.proofs.Facts.{gave_up_fits, gave_up_options, started_fits, turn_options}
 use Rattle.auc_server.specs.Laws.{EachTurnFits, Fits}
 use Rattle.auc_server.specs.Moves.{moved_by, waiting, waiting_at}
 use Rattle.auc_server.specs.Ordinals.{home_at, home_place}
-use Rattle.auc_server.specs.Server.{ServerEnd, started}
+use Rattle.auc_server.specs.Server.{ServerEnd, resumed_of, started}
 use Rattle.auc_server.specs.Setting.{Setting}
 use Rattle.auc_server.specs.Table.{gave_up}
 use Rattle.auc_server.specs.declared.options.ServerOptions.{ServerOptions}
-use Rattle.auc_server.specs.declared.server.Challenged.{Challenged}
 use Rattle.auc_server.specs.declared.server.Resumed.{Resumed}
-use Rattle.auc_server.specs.declared.server.ServerState.{ServerState}
-use Rattle.auc_server.specs.declared.server.ServerState.TheVariants as state
 use Rattle.auc_server.specs.declared.setting.HomeRow.{HomeRow}
-use Rattle.auc_server.specs.declared.why.ServerWhy.TheVariants as why
 use Rattle.auc_vector.specs.declared.notes.Notes.{Notes}
-use Rattle.auc_vector.specs.declared.turn.Outcome.TheVariants as outcome
 use Rattle.auc_world.specs.Agreement.{Happening, Noted, Occurs, after, after_one}
 use Rattle.auc_world.specs.Happened.{Delivery, Told, at_place, at_session, delivered, delivery_at, delivery_of, give_up, happened, in_session, keys_won, moved, new_session, opened, peer_turn, repeat, server_gives_up, server_turn, start, to_peer, to_server, changed_in, with_copy}
 use Rattle.auc_world.specs.Net.{Net, device_place, keeps_at, packet_at, same_method, session_place}
@@ -117,46 +111,6 @@ AllFit sessions = All (λ session. FitsIn session.server) sessions
 abbrev AreAlike : List HomeRow → List HomeRow → Type 0
 AreAlike later homes = map (λ (home : HomeRow). home.sub) later ≡ map (λ (home : HomeRow). home.sub) homes
 
-no_number : (c : Challenged) → ◌≡◌ {A = Option Challenged} None (Some c) → ⊥
-no_number c e = cc
-
-no_success : (now : ServerState) (keys : KeySet) → now ≡ state.AwaitIdentity → now ≡ state.Ended (outcome.Success keys) → ⊥
-no_success now keys e f = cc
-
-not_given_up : (keys : KeySet) → ◌≡◌ {A = ServerState} (state.Ended (outcome.Failure why.GivenUp)) (state.Ended (outcome.Success keys)) → ⊥
-not_given_up keys e = cc
-
-started_fits : (options : ServerOptions) → Fits (started options)
-started_fits options = record {
-  first = λ e. refl;
-  before = λ e. refl;
-  keys = λ sent e. absurd (no_number sent e);
-  master = λ sent e. absurd (no_number sent e);
-  success = λ keys e. absurd (no_success state.AwaitIdentity keys refl e);
-}
-
-given_up_fits : (s : ServerEnd) (now : ServerState) → Fits s → Fits (gave_up s now).0
-given_up_fits s now f = by now
-  where
-    ended : Fits (record s { state = state.Ended (outcome.Failure why.GivenUp) })
-    ended = record {
-      first = λ e. absurd cc;
-      before = λ e. absurd cc;
-      keys = f.keys;
-      master = f.master;
-      success = λ keys e. absurd (not_given_up keys e);
-    }
-
-    by : (now : ServerState) → Fits (gave_up s now).0
-    by (state.Ended result) = f
-    by state.AwaitIdentity = ended
-    by state.AwaitAny = ended
-    by state.AwaitFull = ended
-    by state.AwaitPermanent = ended
-    by state.AwaitChallenge = ended
-    by state.AwaitReauth = ended
-    by (state.Notifying cause) = ended
-
 -- ---- a network after an event
 
 pub record HomeNext (set : Setting) (w v : Net) (notes : Notes) : Type 0 where
@@ -167,7 +121,7 @@ pub record HomeNext (set : Setting) (w v : Net) (notes : Notes) : Type 0 where
 leaves_stays : (m : Method) (place : ℕ) (homes later : List HomeRow) (o : Option ServerEnd) → AreAlike later homes → server_leaves m place later o ≡ server_leaves m place homes o
 leaves_stays m place homes later None alike = refl
 leaves_stays m place homes later (Some s) alike =
-    ap (λ (c : Option Context). cond (same_method s.options.method m) c None) (waiting_stays place homes later (waiting s s.state) alike)
+    ap (λ (c : Option Context). cond (same_method s.options.method m) c None) (waiting_stays place homes later (waiting s.state) alike)
 
 server_stays : (m : Method) (place : ℕ) (homes later : List HomeRow) (o : Option Session) → AreAlike later homes → server_at m place later o ≡ server_at m place homes o
 server_stays m place homes later None alike = refl
@@ -245,7 +199,7 @@ module _ (set : Setting) (w v : Net) (notes : Notes) (t : ℕ) (session changed 
       (ap (server_leaves m place v.homes) server ∙ leaves_stays m place w.homes v.homes session.server alike ∙ sym (here_was m place)) (λ i e f. refl) (ap (counters_in m sub) server)
 
   -- a server that waits for an identity comes
-  server_comes : (new : ServerEnd) → v.homes ≡ w.homes → session.server ≡ None → changed.server ≡ Some new → waiting new new.state ≡ None → new.resumed ≡ None → (m : Method) (sub place : ℕ)
+  server_comes : (new : ServerEnd) → v.homes ≡ w.homes → session.server ≡ None → changed.server ≡ Some new → waiting new.state ≡ None → resumed_of new ≡ None → (m : Method) (sub place : ℕ)
       → HomeMoves set m sub place w v notes
   server_comes new homes none comes nothing fresh m sub place =
       one_moves m sub place None tt (ap (λ (hs : List HomeRow). entry m (home_at hs place).store) homes)
@@ -257,37 +211,37 @@ module _ (set : Setting) (w v : Net) (notes : Notes) (t : ℕ) (session changed 
   -- a server takes a turn
   module _ (s new : ServerEnd) (is : session.server ≡ Some s) (becomes : changed.server ≡ Some new) (options : new.options ≡ s.options)
       (turn : (sub place : ℕ) (places : Places) → home_place w.homes sub ≡ Some place → places zero ≡ entry s.options.method (home_at w.homes place).store
-      → places (suc t) ≡ waiting_at place w.homes (waiting s s.state) → HomeTurn set s.options.method sub place t w.homes v.homes s.resumed new notes places)
+      → places (suc t) ≡ waiting_at place w.homes (waiting s.state) → HomeTurn set s.options.method sub place t w.homes v.homes (resumed_of s) new notes places)
       (left : (m : Method) (place : ℕ) → m ≢ s.options.method → entry m (home_at v.homes place).store ≡ entry m (home_at w.homes place).store) where
-    was : (m : Method) (place : ℕ) → home_places m place w (suc t) ≡ cond (same_method s.options.method m) (waiting_at place w.homes (waiting s s.state)) None
+    was : (m : Method) (place : ℕ) → home_places m place w (suc t) ≡ cond (same_method s.options.method m) (waiting_at place w.homes (waiting s.state)) None
     was m place = here_was m place ∙ ap (server_leaves m place w.homes) is
 
-    becoming : (m : Method) (place : ℕ) → server_leaves m place v.homes changed.server ≡ cond (same_method s.options.method m) (waiting_at place v.homes (waiting new new.state)) None
+    becoming : (m : Method) (place : ℕ) → server_leaves m place v.homes changed.server ≡ cond (same_method s.options.method m) (waiting_at place v.homes (waiting new.state)) None
     becoming m place = ap (server_leaves m place v.homes) becomes
-        ∙ ap (λ (o : ServerOptions). cond (same_method o.method m) (waiting_at place v.homes (waiting new new.state)) None) options
+        ∙ ap (λ (o : ServerOptions). cond (same_method o.method m) (waiting_at place v.homes (waiting new.state)) None) options
 
-    counted_now : (m : Method) (sub : ℕ) → counters_in m sub changed.server ≡ cond (same_method s.options.method m) (resumed_for sub new.resumed) []
-    counted_now m sub = ap (counters_in m sub) becomes ∙ ap (λ (o : ServerOptions). cond (same_method o.method m) (resumed_for sub new.resumed) []) options
+    counted_now : (m : Method) (sub : ℕ) → counters_in m sub changed.server ≡ cond (same_method s.options.method m) (resumed_for sub (resumed_of new)) []
+    counted_now m sub = ap (counters_in m sub) becomes ∙ ap (λ (o : ServerOptions). cond (same_method o.method m) (resumed_for sub (resumed_of new)) []) options
 
-    counted_was : (m : Method) (sub : ℕ) → counters_in m sub session.server ≡ cond (same_method s.options.method m) (resumed_for sub s.resumed) []
+    counted_was : (m : Method) (sub : ℕ) → counters_in m sub session.server ≡ cond (same_method s.options.method m) (resumed_for sub (resumed_of s)) []
     counted_was m sub = ap (counters_in m sub) is
 
     own_moves : (sub place : ℕ) → home_place w.homes sub ≡ Some place → HomeMoves set s.options.method sub place w v notes
     own_moves sub place placed =
         let m = s.options.method in
-        let x = turn sub place (home_places m place w) placed refl (was m place ∙ picks (same_method m m) (waiting_at place w.homes (waiting s s.state)) None (method_same m)) in
+        let x = turn sub place (home_places m place w) placed refl (was m place ∙ picks (same_method m m) (waiting_at place w.homes (waiting s.state)) None (method_same m)) in
         one_moves m sub place x.move x.allowed (sym x.store)
-        (becoming m place ∙ picks (same_method m m) (waiting_at place v.homes (waiting new new.state)) None (method_same m) ∙ sym x.session) x.others
-        (counted_now m sub ∙ picks (same_method m m) (resumed_for sub new.resumed) [] (method_same m) ∙ x.used
-        ∙ ap (λ (l : List Used). (moved_by x.move (only (home_places m place w))).used ++ l) (sym (counted_was m sub ∙ picks (same_method m m) (resumed_for sub s.resumed) [] (method_same m))))
+        (becoming m place ∙ picks (same_method m m) (waiting_at place v.homes (waiting new.state)) None (method_same m) ∙ sym x.session) x.others
+        (counted_now m sub ∙ picks (same_method m m) (resumed_for sub (resumed_of new)) [] (method_same m) ∙ x.used
+        ∙ ap (λ (l : List Used). (moved_by x.move (only (home_places m place w))).used ++ l) (sym (counted_was m sub ∙ picks (same_method m m) (resumed_for sub (resumed_of s)) [] (method_same m))))
 
     other_moves : (m : Method) (sub place : ℕ) → same_method s.options.method m ≡ false → HomeMoves set m sub place w v notes
     other_moves m sub place e =
         one_moves m sub place None tt (left m place (method_other s.options.method m e))
-        (becoming m place ∙ leaves (same_method s.options.method m) (waiting_at place v.homes (waiting new new.state)) None e
-        ∙ sym (was m place ∙ leaves (same_method s.options.method m) (waiting_at place w.homes (waiting s s.state)) None e)) (λ i e f. refl)
-        (counted_now m sub ∙ leaves (same_method s.options.method m) (resumed_for sub new.resumed) [] e
-        ∙ sym (counted_was m sub ∙ leaves (same_method s.options.method m) (resumed_for sub s.resumed) [] e))
+        (becoming m place ∙ leaves (same_method s.options.method m) (waiting_at place v.homes (waiting new.state)) None e
+        ∙ sym (was m place ∙ leaves (same_method s.options.method m) (waiting_at place w.homes (waiting s.state)) None e)) (λ i e f. refl)
+        (counted_now m sub ∙ leaves (same_method s.options.method m) (resumed_for sub (resumed_of new)) [] e
+        ∙ sym (counted_was m sub ∙ leaves (same_method s.options.method m) (resumed_for sub (resumed_of s)) [] e))
 
     server_moves : (m : Method) (sub place : ℕ) → home_place w.homes sub ≡ Some place → HomeMoves set m sub place w v notes
     server_moves m sub place placed = by (same_method s.options.method m) refl
@@ -317,7 +271,7 @@ to_server_next law set w d told (Some s) is there =
           let f = fits_at w.sessions d.place d.session (Some s) h there is in
           server_moves set w v told.notes d.place d.session changed there refl (turn_keeps_subs set w.homes s told.seen told.reply told.notes) s turn.0 is refl
           (turn_options set w.homes s told.seen told.reply told.notes)
-          (λ i p places here stored waits. turn_moves_home set i p d.place w.homes s places here stored waits told.seen told.reply told.notes f.before)
+          (λ i p places here stored waits. turn_moves_home set i p d.place w.homes s places here stored waits told.seen told.reply told.notes)
           (λ k p e. turn_leaves_other k p set w.homes s told.seen told.reply told.notes e) m sub place placed;
     }
 
@@ -382,7 +336,7 @@ server_ends set w notes t session (Some s) is there =
     let new = (gave_up s s.state).0 in
     let changed : Session = record session { server = Some new } in record {
       alike = refl;
-      fits = λ h. set_fits w.sessions t changed (given_up_fits s s.state (fits_at w.sessions t session (Some s) h there is)) h;
+      fits = λ h. set_fits w.sessions t changed (gave_up_fits s s.state (fits_at w.sessions t session (Some s) h there is)) h;
       moves = λ h m sub place placed.
           server_moves set w (server_gives_up w t session (Some s)) notes t session changed there refl refl s new is refl (gave_up_options s)
           (λ i p places here stored waits. giving_up_moves_home set i p t w.homes s places here stored waits s.state notes refl) (λ k p e. refl) m sub place placed;

@@ -38,7 +38,7 @@ use Rattle.auc_server.proofs.Facts.{is_small, reauth_encryptable, reauth_may}
 use Rattle.auc_server.specs.InnerMessages.{IsName}
 use Rattle.auc_server.specs.Messages.{reauth_bytes, reauth_draft, reauth_in}
 use Rattle.auc_server.specs.Rounds.{checkcode}
-use Rattle.auc_server.specs.Rows.{if_resumed, on_method, server_row}
+use Rattle.auc_server.specs.Rows.{on_method, server_row}
 use Rattle.auc_server.specs.Server.{ServerEnd}
 use Rattle.auc_server.specs.Setting.{Setting}
 use Rattle.auc_server.specs.Steps.{asking}
@@ -260,7 +260,7 @@ small_leads set opening number s home keeps id next q p text packets r bytes of 
       way = server_sends set Again Late number (with_ends s q p) device keeps bytes q 1 next took c.q c.notes (challenge_with set o s.sub home text (next_id id) c.n c.given packets) c.checked took.spare.later tt c.is;
     })
     (λ (refused : IsRefused (server_step set took.homes q told.seen told.reply told.notes)). absurd (refused_ends set number device next (with_ends s q p) q keeps bytes 1 took refused))
-    (refused_or_small set took.homes q told.seen told.reply told.notes awaits.awaits_is)
+    (refused_or_small set took.homes q r told.seen told.reply told.notes awaits.awaits_is)
 
 -- ---- an error of the peer
 
@@ -275,16 +275,15 @@ error_length = refl
 error_may : (m : Method) (id : ℕ) → MayBeWritten (client_error m id)
 error_may m id = record { attrs = error_writable; size = omega (arith, error_length) }
 
-pub reauth_later : IsLater state.AwaitReauth
-reauth_later = record { headed = λ set homes q seen said. refl; typed = λ m. refl; read = λ set homes q seen said r. refl }
+pub reauth_later : (sent : Resumed) → IsLater (state.AwaitReauth sent)
+reauth_later sent = record { headed = λ set homes q seen said. refl; typed = λ m. refl; read = λ set homes q seen said r. refl }
 
 error_row : (set : Setting) (homes : List HomeRow) (q : ServerEnd) (seen : Seen) (said : Reply) (o : ServerOptions) (text : List ℕ) (id : ℕ) (r : Resumed) (packets : List (List ℕ)) → AwaitsReply q o text id r packets
     → Is seen (client_error o.method id) → server_row set homes q seen said ≡ row.ClientError 0
 error_row set homes q seen said o text id r packets w is =
     let list = attr.ClientErrorCode 0 ∷ [] in
-    server_awaited set homes q seen said o state.AwaitReauth id subtype.ClientError list reauth_later w.options_are w.awaits_is w.id_is is
-    ∙ ap (on_method set homes q state.AwaitReauth seen said) is.packet_is
-    ∙ ap (λ (x : Option Resumed). if_resumed q x seen said subtype.ClientError list) w.resumed_is
+    server_awaited set homes q seen said o (state.AwaitReauth r) id subtype.ClientError list (reauth_later r) w.options_are w.awaits_is w.id_is is
+    ∙ ap (on_method set homes q (state.AwaitReauth r) seen said) is.packet_is
 
 no_small : (sub : ℕ) (r : Row) → r ≡ row.ClientError 0 → r ≡ row.TooSmall sub → ⊥
 no_small sub r e f = differ (sym e ∙ f)
@@ -306,7 +305,7 @@ error_ends set opening number s home keeps id next q p text packets r laws await
     ⊎_elim
     (λ (t : (sub : ℕ) × (server_row set took.homes q told.seen told.reply ≡ row.TooSmall sub)). no_small t.0 (server_row set took.homes q told.seen told.reply) own t.1)
     (λ (refused : IsRefused (server_step set took.homes q told.seen told.reply told.notes)). refused_ends set number device next (with_ends s q p) q keeps bytes 1 took refused)
-    (refused_or_small set took.homes q told.seen told.reply told.notes awaits.awaits_is)
+    (refused_or_small set took.homes q r told.seen told.reply told.notes awaits.awaits_is)
 
 -- ---- each case
 

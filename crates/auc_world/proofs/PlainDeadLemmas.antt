@@ -16,11 +16,10 @@ use Rattle.auc_packet.specs.declared.subtype.Subtype.TheVariants as subtype
 use Rattle.auc_peer.specs.Asking.{answer_noted}
 use Rattle.auc_peer.specs.Attributes.{attrs_in, checkcode as code_in, differs as differs_own}
 use Rattle.auc_peer.specs.Subscription.{Subscription}
-use Rattle.auc_peer.specs.Table.{accepting, again, by_answer, by_counter, challenged, client, context_of, disclosed, keys_at, master_at, opened, own_code, peer_does, resumed_by, resuming, small, succeeded, taken, with_inner}
+use Rattle.auc_peer.specs.Table.{accepting, by_answer, by_counter, challenged, client, context_of, disclosed, keys_at, master_at, opened, own_code, peer_does, resumed_by, resuming, small, succeeded, taken, with_inner}
 use Rattle.auc_peer.specs.declared.decrypted.Decrypted.{Decrypted}
 use Rattle.auc_peer.specs.declared.decrypted.Decrypted.TheVariants as decrypted
 use Rattle.auc_peer.specs.declared.peer.Challenge.{Challenge}
-use Rattle.auc_peer.specs.declared.peer.Last.{Last}
 use Rattle.auc_peer.specs.declared.peer.Peer.{Peer}
 use Rattle.auc_peer.specs.declared.peer.PeerState.{PeerState}
 use Rattle.auc_peer.specs.declared.peer.PeerState.TheVariants as peer_state
@@ -33,13 +32,14 @@ use Rattle.auc_reauth.specs.Store.{entry}
 use Rattle.auc_reauth.specs.declared.context.Context.{Context}
 use Rattle.auc_server.specs.Attributes.{checkcode_of, error_code_of, first_of}
 use Rattle.auc_server.specs.Rounds.{checkcode}
-use Rattle.auc_server.specs.Rows.{differs, if_resumed, in_state, is_type, is_wrong, on_client_error, on_error_code, on_head, on_method, on_reading, on_reauth, says_small, server_row, text_in, type_awaited}
+use Rattle.auc_server.specs.Rows.{differs, in_state, is_type, is_wrong, on_client_error, on_error_code, on_head, on_method, on_reading, on_reauth, on_resumed, says_small, server_row, text_in, type_awaited}
 use Rattle.auc_server.specs.Server.{ServerEnd}
 use Rattle.auc_server.specs.Setting.{Setting}
 use Rattle.auc_server.specs.Table.{failed, ignored, notified, packets_after, reauthenticated, server_does, server_step, silent}
 use Rattle.auc_server.specs.declared.reply.Reply.{Reply}
 use Rattle.auc_server.specs.declared.rows.Row.{Row}
 use Rattle.auc_server.specs.declared.rows.Row.TheVariants as row
+use Rattle.auc_server.specs.declared.server.Last.{Last as Left}
 use Rattle.auc_server.specs.declared.server.Resumed.{Resumed}
 use Rattle.auc_server.specs.declared.server.ServerState.{ServerState}
 use Rattle.auc_server.specs.declared.server.ServerState.TheVariants as state
@@ -59,8 +59,8 @@ use Rattle.auc_vector.specs.declared.turn.Reason.TheVariants as reason
 
 -- a server that has refused, or has ended
 abbrev pub is_closed : ServerState → Bool
-is_closed (state.Notifying cause) = true
-is_closed (state.Ended result) = true
+is_closed (state.Notifying cause last) = true
+is_closed (state.Ended result last) = true
 is_closed other = false
 
 -- the rows into which it falls
@@ -74,14 +74,14 @@ either_row : (b : Bool) (x y : Row) → IsClosing x → IsClosing y → IsClosin
 either_row true x y one two = one
 either_row false x y one two = two
 
-notified_only : (set : Setting) (homes : List HomeRow) (q : ServerEnd) (cause : ServerWhy) (seen : Seen) (said : Reply) (r : Reading) → IsClosing (on_method set homes q (state.Notifying cause) seen said r)
-notified_only set homes q cause seen said (reading.Fault fault) = ignores reason.Malformed
-notified_only set homes q cause seen said (reading.Read (packet.Success id)) = ignores reason.Malformed
-notified_only set homes q cause seen said (reading.Read (packet.Failure id)) = ignores reason.Malformed
-notified_only set homes q cause seen said (reading.Read (packet.Identity request id text)) = ignores reason.Malformed
-notified_only set homes q cause seen said (reading.Read (packet.Aka request id m kind list)) = by kind
+notified_only : (set : Setting) (homes : List HomeRow) (q : ServerEnd) (cause : ServerWhy) (last : Left) (seen : Seen) (said : Reply) (r : Reading) → IsClosing (on_method set homes q (state.Notifying cause last) seen said r)
+notified_only set homes q cause last seen said (reading.Fault fault) = ignores reason.Malformed
+notified_only set homes q cause last seen said (reading.Read (packet.Success id)) = ignores reason.Malformed
+notified_only set homes q cause last seen said (reading.Read (packet.Failure id)) = ignores reason.Malformed
+notified_only set homes q cause last seen said (reading.Read (packet.Identity request id text)) = ignores reason.Malformed
+notified_only set homes q cause last seen said (reading.Read (packet.Aka request id m kind list)) = by kind
   where
-    by : (s : Subtype) → IsClosing (on_method set homes q (state.Notifying cause) seen said (reading.Read (packet.Aka request id m s list)))
+    by : (s : Subtype) → IsClosing (on_method set homes q (state.Notifying cause last) seen said (reading.Read (packet.Aka request id m s list)))
     by subtype.Challenge = either_row (is_malformed subtype.Challenge false q.options.method list) (row.Ignore reason.Malformed) (row.Ignore reason.Unexpected) (ignores reason.Malformed) (ignores reason.Unexpected)
     by subtype.AuthenticationReject =
         either_row (is_malformed subtype.AuthenticationReject false q.options.method list) (row.Ignore reason.Malformed) (row.Ignore reason.Unexpected) (ignores reason.Malformed) (ignores reason.Unexpected)
@@ -99,24 +99,22 @@ closed_false e = cc
 pub closed_row : (set : Setting) (homes : List HomeRow) (q : ServerEnd) (seen : Seen) (said : Reply) → is_closed q.state ≡ true → IsClosing (server_row set homes q seen said)
 closed_row set homes q seen said closed = by q.state refl closed
   where
-    headed : (cause : ServerWhy) → q.state ≡ state.Notifying cause → (head : Option Head) → IsClosing (on_head set homes q seen said head)
-    headed cause now None = ignores reason.NotForMe
-    headed cause now (Some head) =
+    headed : (cause : ServerWhy) (last : Left) → q.state ≡ state.Notifying cause last → (head : Option Head) → IsClosing (on_head set homes q seen said head)
+    headed cause last now None = ignores reason.NotForMe
+    headed cause last now (Some head) =
         let inside : ServerState → Row = λ s. if not (is_type (type_awaited q.options.method s) head.kind) then row.Ignore reason.OtherType else on_reading set homes q s seen said seen.reading in
         either_row (not (head.code == 2) || not (head.id == q.id)) (row.Ignore reason.NotForMe) (inside q.state) (ignores reason.NotForMe)
         (subst (λ (s : ServerState). IsClosing (inside s)) (sym now)
-        (either_row (not (is_type (type_awaited q.options.method (state.Notifying cause)) head.kind)) (row.Ignore reason.OtherType) (on_method set homes q (state.Notifying cause) seen said seen.reading) (ignores reason.OtherType)
-        (notified_only set homes q cause seen said seen.reading)))
+        (either_row (not (is_type (type_awaited q.options.method (state.Notifying cause last)) head.kind)) (row.Ignore reason.OtherType) (on_method set homes q (state.Notifying cause last) seen said seen.reading) (ignores reason.OtherType)
+        (notified_only set homes q cause last seen said seen.reading)))
 
     by : (now : ServerState) → q.state ≡ now → is_closed now ≡ true → IsClosing (in_state set homes q seen said q.state)
     by state.AwaitIdentity now closed = absurd (closed_false closed)
-    by state.AwaitAny now closed = absurd (closed_false closed)
-    by state.AwaitFull now closed = absurd (closed_false closed)
-    by state.AwaitPermanent now closed = absurd (closed_false closed)
-    by state.AwaitChallenge now closed = absurd (closed_false closed)
-    by state.AwaitReauth now closed = absurd (closed_false closed)
-    by (state.Notifying cause) now closed = subst (λ (s : ServerState). IsClosing (in_state set homes q seen said s)) (sym now) (headed cause now (head_at seen.bytes))
-    by (state.Ended result) now closed = subst (λ (s : ServerState). IsClosing (in_state set homes q seen said s)) (sym now) (ignores reason.Closed)
+    by (state.Await kind) now closed = absurd (closed_false closed)
+    by (state.AwaitChallenge sent before) now closed = absurd (closed_false closed)
+    by (state.AwaitReauth sent) now closed = absurd (closed_false closed)
+    by (state.Notifying cause last) now closed = subst (λ (s : ServerState). IsClosing (in_state set homes q seen said s)) (sym now) (headed cause last now (head_at seen.bytes))
+    by (state.Ended result last) now closed = subst (λ (s : ServerState). IsClosing (in_state set homes q seen said s)) (sym now) (ignores reason.Closed)
 
 -- ---- what its turn is
 
@@ -137,9 +135,8 @@ refused_failed q cause = record { quiet = silent_quiet; closes = inr refl }
 refused_notified : (q : ServerEnd) (cause : ServerWhy) (checked : Bool) → IsRefused (notified q cause silent checked)
 refused_notified q cause checked = record { quiet = silent_quiet; closes = inr refl }
 
-refused_reauthenticated : (q : ServerEnd) (r : Option Resumed) → IsRefused (reauthenticated q r)
-refused_reauthenticated q None = refused_ignored q reason.Unexpected
-refused_reauthenticated q (Some r) = record { quiet = silent_quiet; closes = inr refl }
+refused_reauthenticated : (q : ServerEnd) (r : Resumed) → IsRefused (reauthenticated q r)
+refused_reauthenticated q r = record { quiet = silent_quiet; closes = inr refl }
 
 pub closed_turn : (set : Setting) (homes : List HomeRow) (q : ServerEnd) (seen : Seen) (said : Reply) (notes : Notes) → is_closed q.state ≡ true → IsRefused (server_step set homes q seen said notes)
 closed_turn set homes q seen said notes closed =
@@ -157,7 +154,7 @@ pub data IsReplied (r : Row) : Type 0 where
   WrongMac : r ≡ row.WrongMac → IsReplied r
   WrongCounter : r ≡ row.WrongCounter → IsReplied r
   WrongCheckcode : r ≡ row.WrongCheckcode → IsReplied r
-  Reauthenticated : r ≡ row.Reauthenticated → IsReplied r
+  Reauthenticated : (sent : Resumed) → r ≡ row.Reauthenticated sent → IsReplied r
   ClientError : (code : ℕ) → r ≡ row.ClientError code → IsReplied r
   TooSmall : (sub : ℕ) → r ≡ row.TooSmall sub → IsReplied r
 
@@ -175,7 +172,7 @@ replied_error list =
 
 replied_reauth : (m : Method) (packets : List (List ℕ)) (sent : Resumed) (seen : Seen) (said : Reply) (list : List Attr) → IsReplied (on_reauth m packets sent seen said list)
 replied_reauth m packets sent seen said list =
-    let last : Row = if differs (checkcode m packets) (first_of checkcode_of list) then row.WrongCheckcode else row.Reauthenticated in
+    let last : Row = if differs (checkcode m packets) (first_of checkcode_of list) then row.WrongCheckcode else row.Reauthenticated sent in
     let small : Row = if says_small said then row.TooSmall sent.sub else last in
     let counted : Row = if is_wrong said then row.WrongCounter else small in
     let genuine : Row = if not (is_sealed m sent.context.k_aut sent.nonce seen) then row.WrongMac else counted in
@@ -183,42 +180,41 @@ replied_reauth m packets sent seen said list =
     (replied_if (not (is_sealed m sent.context.k_aut sent.nonce seen)) row.WrongMac counted (WrongMac refl)
     (replied_if (is_wrong said) row.WrongCounter small (WrongCounter refl)
     (replied_if (says_small said) (row.TooSmall sent.sub) last (TooSmall sent.sub refl)
-    (replied_if (differs (checkcode m packets) (first_of checkcode_of list)) row.WrongCheckcode row.Reauthenticated (WrongCheckcode refl) (Reauthenticated refl)))))
+    (replied_if (differs (checkcode m packets) (first_of checkcode_of list)) row.WrongCheckcode (row.Reauthenticated sent) (WrongCheckcode refl) (Reauthenticated sent refl)))))
 
-replied_message : (q : ServerEnd) (r : Option Resumed) (seen : Seen) (said : Reply) (kind : Subtype) (list : List Attr) → IsReplied (if_resumed q r seen said kind list)
-replied_message q None seen said kind list = Ignored reason.Unexpected refl
-replied_message q (Some r) seen said subtype.Challenge list = Ignored reason.Unexpected refl
-replied_message q (Some r) seen said subtype.AuthenticationReject list = Ignored reason.Unexpected refl
-replied_message q (Some r) seen said subtype.SynchronizationFailure list = Ignored reason.Unexpected refl
-replied_message q (Some r) seen said subtype.Identity list = Ignored reason.Unexpected refl
-replied_message q (Some r) seen said subtype.Notification list = Ignored reason.Unexpected refl
-replied_message q (Some r) seen said subtype.Reauthentication list = replied_reauth q.options.method q.packets r seen said list
-replied_message q (Some r) seen said subtype.ClientError list = replied_error list
+replied_message : (q : ServerEnd) (r : Resumed) (seen : Seen) (said : Reply) (kind : Subtype) (list : List Attr) → IsReplied (on_resumed q r seen said kind list)
+replied_message q r seen said subtype.Challenge list = Ignored reason.Unexpected refl
+replied_message q r seen said subtype.AuthenticationReject list = Ignored reason.Unexpected refl
+replied_message q r seen said subtype.SynchronizationFailure list = Ignored reason.Unexpected refl
+replied_message q r seen said subtype.Identity list = Ignored reason.Unexpected refl
+replied_message q r seen said subtype.Notification list = Ignored reason.Unexpected refl
+replied_message q r seen said subtype.Reauthentication list = replied_reauth q.options.method q.packets r seen said list
+replied_message q r seen said subtype.ClientError list = replied_error list
 
-replied_read : (set : Setting) (homes : List HomeRow) (q : ServerEnd) (seen : Seen) (said : Reply) (r : Reading) → IsReplied (on_method set homes q state.AwaitReauth seen said r)
-replied_read set homes q seen said (reading.Fault fault) = Ignored reason.Malformed refl
-replied_read set homes q seen said (reading.Read (packet.Success id)) = Ignored reason.Malformed refl
-replied_read set homes q seen said (reading.Read (packet.Failure id)) = Ignored reason.Malformed refl
-replied_read set homes q seen said (reading.Read (packet.Identity request id text)) = Ignored reason.Malformed refl
-replied_read set homes q seen said (reading.Read (packet.Aka request id m kind list)) =
-    replied_if (is_malformed kind false q.options.method list) (row.Ignore reason.Malformed) (if_resumed q q.resumed seen said kind list) (Ignored reason.Malformed refl) (replied_message q q.resumed seen said kind list)
+replied_read : (set : Setting) (homes : List HomeRow) (q : ServerEnd) (sent : Resumed) (seen : Seen) (said : Reply) (r : Reading) → IsReplied (on_method set homes q (state.AwaitReauth sent) seen said r)
+replied_read set homes q sent seen said (reading.Fault fault) = Ignored reason.Malformed refl
+replied_read set homes q sent seen said (reading.Read (packet.Success id)) = Ignored reason.Malformed refl
+replied_read set homes q sent seen said (reading.Read (packet.Failure id)) = Ignored reason.Malformed refl
+replied_read set homes q sent seen said (reading.Read (packet.Identity request id text)) = Ignored reason.Malformed refl
+replied_read set homes q sent seen said (reading.Read (packet.Aka request id m kind list)) =
+    replied_if (is_malformed kind false q.options.method list) (row.Ignore reason.Malformed) (on_resumed q sent seen said kind list) (Ignored reason.Malformed refl) (replied_message q sent seen said kind list)
 
-replied_head : (set : Setting) (homes : List HomeRow) (q : ServerEnd) (seen : Seen) (said : Reply) → q.state ≡ state.AwaitReauth → (head : Option Head) → IsReplied (on_head set homes q seen said head)
-replied_head set homes q seen said now None = Ignored reason.NotForMe refl
-replied_head set homes q seen said now (Some head) =
+replied_head : (set : Setting) (homes : List HomeRow) (q : ServerEnd) (sent : Resumed) (seen : Seen) (said : Reply) → q.state ≡ state.AwaitReauth sent → (head : Option Head) → IsReplied (on_head set homes q seen said head)
+replied_head set homes q sent seen said now None = Ignored reason.NotForMe refl
+replied_head set homes q sent seen said now (Some head) =
     let inside : ServerState → Row = λ s. if not (is_type (type_awaited q.options.method s) head.kind) then row.Ignore reason.OtherType else on_reading set homes q s seen said seen.reading in
     replied_if (not (head.code == 2) || not (head.id == q.id)) (row.Ignore reason.NotForMe) (inside q.state) (Ignored reason.NotForMe refl)
     (subst (λ (s : ServerState). IsReplied (inside s)) (sym now)
-    (replied_if (not (is_type (type_awaited q.options.method state.AwaitReauth) head.kind)) (row.Ignore reason.OtherType) (on_method set homes q state.AwaitReauth seen said seen.reading) (Ignored reason.OtherType refl)
-    (replied_read set homes q seen said seen.reading)))
+    (replied_if (not (is_type (type_awaited q.options.method (state.AwaitReauth sent)) head.kind)) (row.Ignore reason.OtherType) (on_method set homes q (state.AwaitReauth sent) seen said seen.reading) (Ignored reason.OtherType refl)
+    (replied_read set homes q sent seen said seen.reading)))
 
-pub replied_row : (set : Setting) (homes : List HomeRow) (q : ServerEnd) (seen : Seen) (said : Reply) → q.state ≡ state.AwaitReauth → IsReplied (server_row set homes q seen said)
-replied_row set homes q seen said now = subst (λ (s : ServerState). IsReplied (in_state set homes q seen said s)) (sym now) (replied_head set homes q seen said now (head_at seen.bytes))
+pub replied_row : (set : Setting) (homes : List HomeRow) (q : ServerEnd) (sent : Resumed) (seen : Seen) (said : Reply) → q.state ≡ state.AwaitReauth sent → IsReplied (server_row set homes q seen said)
+replied_row set homes q sent seen said now = subst (λ (s : ServerState). IsReplied (in_state set homes q seen said s)) (sym now) (replied_head set homes q sent seen said now (head_at seen.bytes))
 
 -- unless the counter was too small, it is refused, or the session ends
-pub refused_or_small : (set : Setting) (homes : List HomeRow) (q : ServerEnd) (seen : Seen) (said : Reply) (notes : Notes) → q.state ≡ state.AwaitReauth
+pub refused_or_small : (set : Setting) (homes : List HomeRow) (q : ServerEnd) (sent : Resumed) (seen : Seen) (said : Reply) (notes : Notes) → q.state ≡ state.AwaitReauth sent
     → ((sub : ℕ) × (server_row set homes q seen said ≡ row.TooSmall sub)) ⊎ IsRefused (server_step set homes q seen said notes)
-refused_or_small set homes q seen said notes now = by (replied_row set homes q seen said now)
+refused_or_small set homes q sent seen said notes now = by (replied_row set homes q sent seen said now)
   where
     does : Row → ServerEnd × Turn ServerWhy
     does r = server_does set homes q (text_in seen.reading) (packets_after q seen r) r notes
@@ -231,7 +227,7 @@ refused_or_small set homes q seen said notes now = by (replied_row set homes q s
     by (WrongMac e) = turns row.WrongMac e (refused_notified q why.WrongMac false)
     by (WrongCounter e) = turns row.WrongCounter e (refused_notified q why.WrongCounter true)
     by (WrongCheckcode e) = turns row.WrongCheckcode e (refused_notified q why.WrongCheckcode true)
-    by (Reauthenticated e) = turns row.Reauthenticated e (refused_reauthenticated q q.resumed)
+    by (Reauthenticated r e) = turns (row.Reauthenticated r) e (refused_reauthenticated q r)
     by (ClientError code e) = turns (row.ClientError code) e (refused_failed q (why.ClientError code))
     by (TooSmall sub e) = inl (sub, e)
 
@@ -286,10 +282,6 @@ peer_challenged : (s : Subscription) (p : Peer) (seen : Seen) (c : Challenge) (n
 peer_challenged s p seen c None inner = (refl, refl)
 peer_challenged s p seen c (Some n) inner = peer_answers p seen c (answer_noted s.secret c n) inner
 
-peer_again : (p : Peer) (last : Option Last) → IsOfPeer (again p last)
-peer_again p None = (refl, refl)
-peer_again p (Some last) = (refl, refl)
-
 peer_succeeded : (p : Peer) (s : PeerState) → IsOfPeer (succeeded p s)
 peer_succeeded p peer_state.Waiting = (refl, refl)
 peer_succeeded p (peer_state.Answered keys) = (refl, refl)
@@ -298,7 +290,7 @@ peer_succeeded p peer_state.Ended = (refl, refl)
 
 pub peer_notes : (key : List ℕ) (s : Subscription) (keeps : Keeps) (p : Peer) (seen : Seen) (r : PeerRow) (n : Option UsimNote) (inner : Decrypted) → IsOfPeer (peer_does key s keeps p seen r n inner)
 peer_notes key s keeps p seen (peer_row.Ignore cause) n inner = (refl, refl)
-peer_notes key s keeps p seen peer_row.Again n inner = peer_again p p.last
+peer_notes key s keeps p seen peer_row.Again n inner = (refl, refl)
 peer_notes key s keeps p seen peer_row.First n inner = (refl, refl)
 peer_notes key s keeps p seen (peer_row.Identity asked) n inner = (refl, refl)
 peer_notes key s keeps p seen (peer_row.Client cause) n inner = (refl, refl)

@@ -15,7 +15,7 @@ use Rattle.auc_peer.specs.Messages.{identity_response}
 use Rattle.auc_request.specs.declared.identities.IdentityRequest.TheVariants as request
 use Rattle.auc_server.specs.Rounds.{heard}
 use Rattle.auc_server.specs.Rows.{challenge_or, is_type, on_first, on_head, server_row, text_in}
-use Rattle.auc_server.specs.Server.{ServerEnd, started}
+use Rattle.auc_server.specs.Server.{ServerEnd, resumed_of, started}
 use Rattle.auc_server.specs.Setting.{Setting}
 use Rattle.auc_server.specs.Table.{challenged, challenged_with, identified, names_given, noted, server_does, vector_at}
 use Rattle.auc_server.specs.declared.naming.GivenNames.{GivenNames}
@@ -103,7 +103,7 @@ first_received o set homes seen said text received e = by (head_row o set homes 
 
 -- it sends nothing, or a state follows in which none is; what was taken up before stays
 pub record Leaves (q : ServerEnd) (turn : ServerEnd × Turn ServerWhy) : Type 0 where
-  pub same : turn.0.resumed ≡ q.resumed
+  pub same : resumed_of turn.0 ≡ resumed_of q
   pub passes : (sent_by turn.1.step ≡ None) ⊎ (is_past turn.0.state ≡ true)
 
 leaves_vector : (realm : List ℕ) (q : ServerEnd) (sub n : ℕ) (v : Option Vector) (given : Option GivenNames) (notes : Notes) (checked : Bool) → Leaves q (challenged_with realm q sub n v given notes checked)
@@ -122,7 +122,7 @@ leaves_ignored set homes q text packets cause notes = record { same = refl; pass
 
 -- a challenge, or a request for an identity for full authentication
 pub leaves_full : (set : Setting) (homes : List HomeRow) (q : ServerEnd) (text : List ℕ) (packets : List (List ℕ)) (found : Option ℕ) (notes : Notes)
-    → Leaves q (server_does set homes q text packets (challenge_or (row.Ask request.Fullauth) found) notes)
-leaves_full set homes q text packets None notes = record { same = refl; passes = inr refl }
-leaves_full set homes q text packets (Some sub) notes =
+    → resumed_of q ≡ None → Leaves q (server_does set homes q text packets (challenge_or (row.Ask request.Fullauth) found) notes)
+leaves_full set homes q text packets None notes none = record { same = sym none; passes = inr refl }
+leaves_full set homes q text packets (Some sub) notes none =
     let l = leaves_challenge set homes (identified q text packets) sub false None notes.number in record { same = l.same; passes = l.passes }

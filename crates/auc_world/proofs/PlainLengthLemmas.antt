@@ -20,15 +20,14 @@ use Rattle.auc_request.specs.declared.identities.IdentityRequest.TheVariants as 
 use Rattle.auc_server.specs.Attributes.{identity_in}
 use Rattle.auc_server.specs.Contexts.{context_in, homes_left}
 use Rattle.auc_server.specs.Rows.{challenge_or, context_subscriber, in_state, is_type, on_any, on_client_error, on_first, on_head, on_identity, on_message, on_method, on_reading, resume_or, server_row, subscriber_in, text_in, type_awaited}
-use Rattle.auc_server.specs.Server.{ServerEnd}
+use Rattle.auc_server.specs.Server.{ServerEnd, resumed_of}
 use Rattle.auc_server.specs.Setting.{Setting}
-use Rattle.auc_server.specs.Table.{challenged, challenged_with, identified, names_given, noted, packets_after, reauthenticated, resumed_with, resumption, resynchronised, resynchronising, server_does, server_step, succeeded, vector_at}
+use Rattle.auc_server.specs.Table.{challenged, challenged_with, identified, names_given, noted, packets_after, resumed_with, resumption, resynchronised, resynchronising, server_does, server_step, vector_at}
 use Rattle.auc_server.specs.declared.naming.GivenNames.{GivenNames}
 use Rattle.auc_server.specs.declared.options.ServerOptions.{ServerOptions}
 use Rattle.auc_server.specs.declared.reply.Reply.{Reply}
 use Rattle.auc_server.specs.declared.rows.Row.{Row}
 use Rattle.auc_server.specs.declared.rows.Row.TheVariants as row
-use Rattle.auc_server.specs.declared.server.Challenged.{Challenged}
 use Rattle.auc_server.specs.declared.server.Resumed.{Resumed}
 use Rattle.auc_server.specs.declared.server.ServerState.{ServerState}
 use Rattle.auc_server.specs.declared.server.ServerState.TheVariants as state
@@ -85,14 +84,14 @@ names_identity text answered subtype.Notification list is = tt
 names_identity text answered subtype.Reauthentication list is = tt
 
 -- in the round in which any identity was asked for
-names_read : (set : Setting) (homes : List HomeRow) (q : ServerEnd) (seen : Seen) (said : Reply) (r : Reading) → Names (text_in r) (on_method set homes q state.AwaitAny seen said r)
+names_read : (set : Setting) (homes : List HomeRow) (q : ServerEnd) (seen : Seen) (said : Reply) (r : Reading) → Names (text_in r) (on_method set homes q (state.Await request.Any) seen said r)
 names_read set homes q seen said (reading.Fault fault) = tt
 names_read set homes q seen said (reading.Read (packet.Success id)) = tt
 names_read set homes q seen said (reading.Read (packet.Failure id)) = tt
-names_read set homes q seen said (reading.Read (packet.Identity request id text)) = tt
-names_read set homes q seen said (reading.Read (packet.Aka request id m kind list)) =
+names_read set homes q seen said (reading.Read (packet.Identity asked id text)) = tt
+names_read set homes q seen said (reading.Read (packet.Aka asked id m kind list)) =
     let text = identity_in list in
-    names_if text (is_malformed kind false q.options.method list) (row.Ignore reason.Malformed) (on_message set homes q state.AwaitAny seen said kind list) tt
+    names_if text (is_malformed kind false q.options.method list) (row.Ignore reason.Malformed) (on_message set homes q (state.Await request.Any) seen said kind list) tt
     (names_identity text (on_any q.options.method set homes text) kind list (names_any q.options.method set homes text))
 
 names_first : (o : ServerOptions) (set : Setting) (homes : List HomeRow) (text : List ℕ) → Names text (on_first o set homes text)
@@ -121,16 +120,16 @@ names_row set homes q seen said = by q.state refl
     by state.AwaitIdentity is =
         subst (λ (s : ServerState). Names (text_in seen.reading) (in_state set homes q seen said s)) (sym is)
         (names_head set homes q seen said state.AwaitIdentity is (names_first q.options set homes (text_in seen.reading)) (head_at seen.bytes))
-    by state.AwaitAny is =
+    by (state.Await request.Any) is =
         subst (λ (s : ServerState). Names (text_in seen.reading) (in_state set homes q seen said s)) (sym is)
-        (names_head set homes q seen said state.AwaitAny is (names_read set homes q seen said seen.reading) (head_at seen.bytes))
+        (names_head set homes q seen said (state.Await request.Any) is (names_read set homes q seen said seen.reading) (head_at seen.bytes))
     by other is = past (ap is_past is)
 
 -- ---- the turn
 
 -- what a server took up again has 33 bytes
 abbrev IsLong : ServerEnd → Type 0
-IsLong q = (r : Resumed) → q.resumed ≡ Some r → length r.context.identity ≡ 33
+IsLong q = (r : Resumed) → resumed_of q ≡ Some r → length r.context.identity ≡ 33
 
 vector_long : (realm : List ℕ) (q : ServerEnd) (sub n : ℕ) (v : Option Vector) (given : Option GivenNames) (notes : Notes) (checked : Bool) → IsLong q → IsLong (challenged_with realm q sub n v given notes checked).0
 vector_long realm q sub n None given notes checked is = is
@@ -150,13 +149,8 @@ resync_long set homes q sub (Some (resync.Beyond seen seq)) drawn is = is
 resync_long set homes q sub (Some (resync.InRange seen seq)) drawn is = challenge_long set homes (resynchronising q) sub false (Some (resync.InRange seen seq)) drawn is
 resync_long set homes q sub (Some (resync.Moved seen seq)) drawn is = challenge_long set homes (resynchronising q) sub false (Some (resync.Moved seen seq)) drawn is
 
-success_long : (q : ServerEnd) (sent : Option Challenged) → IsLong q → IsLong (succeeded q sent).0
-success_long q None is = is
-success_long q (Some sent) is = is
-
-renewal_long : (q : ServerEnd) (r : Option Resumed) → IsLong q → IsLong (reauthenticated q r).0
-renewal_long q None is = is
-renewal_long q (Some r) is = is
+none_long : (r : Resumed) → ◌≡◌ {A = Option Resumed} None (Some r) → length r.context.identity ≡ 33
+none_long r e = absurd cc
 
 one_resumed : (a b : Resumed) → ◌≡◌ {A = Option Resumed} (Some a) (Some b) → a ≡ b
 one_resumed a b e = cc
@@ -173,8 +167,7 @@ does_long set homes q text packets (row.Resume sub) notes is names =
     resumed_long set (homes_left q.options.method text homes sub) q text packets sub (context_in q.options.method text homes sub) is
     (λ c e. ap (λ (l : List ℕ). length l) (sym (context_named q.options.method text homes sub c e)) ∙ names)
 does_long set homes q text packets (row.TooSmall sub) notes is names = challenge_long set homes q sub true None notes.number is
-does_long set homes q text packets row.Reauthenticated notes is names = renewal_long q q.resumed is
-does_long set homes q text packets row.Success notes is names = success_long q q.challenged is
+does_long set homes q text packets (row.Ask kind) notes is names = none_long
 does_long set homes q text packets (row.Resynchronise sub seq) notes is names = resync_long set homes q sub notes.resync notes.number is
 does_long set homes q text packets other notes is names = is
 
@@ -184,13 +177,13 @@ turn_long set homes q seen said notes is =
 
 -- ---- the end
 
-none_resumed : (q : ServerEnd) (r : Resumed) → q.resumed ≡ None → q.resumed ≡ Some r → ⊥
+none_resumed : (q : ServerEnd) (r : Resumed) → resumed_of q ≡ None → resumed_of q ≡ Some r → ⊥
 none_resumed q r none some = differ (sym none ∙ some)
   where
     differ : ◌≡◌ {A = Option Resumed} None (Some r) → ⊥
     differ e = cc
 
-pub resumed_size : (set : Setting) (number : ℕ) (device : Subscription) (next : Net) (to : End) (s : Session) (q : ServerEnd) (keeps : Keeps) (bytes : List ℕ) (syncs : ℕ) (r : Resumed) → s.server ≡ Some q → q.resumed ≡ None
+pub resumed_size : (set : Setting) (number : ℕ) (device : Subscription) (next : Net) (to : End) (s : Session) (q : ServerEnd) (keeps : Keeps) (bytes : List ℕ) (syncs : ℕ) (r : Resumed) → s.server ≡ Some q → resumed_of q ≡ None
     → OnWay set Free number to s device keeps bytes syncs next → HasResumed next number r → length r.context.identity ≡ 33
 resumed_size set number device next to s q keeps bytes syncs r is none way has =
     let first : IsLong q = λ x e. absurd (none_resumed q x none e) in

@@ -12,7 +12,7 @@ use Rattle.auc_peer.specs.declared.peer.Peer.{Peer}
 use Rattle.auc_peer.specs.declared.why.PeerWhy.{PeerWhy}
 use Rattle.auc_server.specs.Replies.{Replies}
 use Rattle.auc_server.specs.Rows.{server_row}
-use Rattle.auc_server.specs.Server.{ServerEnd, started}
+use Rattle.auc_server.specs.Server.{ServerEnd, challenged_of, started}
 use Rattle.auc_server.specs.Setting.{Setting}
 use Rattle.auc_server.specs.Steps.{asking}
 use Rattle.auc_reauth.specs.Device.{Keeps}
@@ -287,7 +287,7 @@ pub record ServerTook (set : Setting) (stage : Stage) (number : ℕ) (s : Sessio
   pub are : told.seen.bytes ≡ bytes
   pub homes : List HomeRow
   pub sized : IsSizedAt stage homes s.sub
-  pub replies : Replies q.resumed told.seen.reading told.reply
+  pub replies : Replies q.state told.seen.reading told.reply
   pub centre : IsCentreAsked set (asking (server_row set homes q told.seen told.reply)) told.notes
   pub notes : told.notes ≡ (server_step set homes q told.seen told.reply told.notes).1.notes
   pub e : Event
@@ -316,7 +316,7 @@ server_takes_all set stage number s device keeps bytes q syncs next is o = by o.
         let there : delivery_in w number o.packet ≡ Some d = delivers w number o.packet o.place s o.sent o.stands o.under_way in
         let turn = server_step set w.homes q told.seen told.reply told.notes in
         let asks = asking (server_row set w.homes q told.seen told.reply) in
-        let note : Note = by_server w turn.1.notes turn.1.step asks (vector_sent turn.1.notes.number turn.0.challenged) in
+        let note : Note = by_server w turn.1.notes turn.1.step asks (vector_sent turn.1.notes.number (challenged_of turn.0)) in
         let came_is : came set w e told ≡ Ok note =
         ap (λ (p : Option SentPacket). came_delivered set w end.Server told p (delivery_in w number o.packet)) o.under_way
         ∙ ap (came_delivered set w end.Server told (Some o.sent)) there ∙ ap (came_at_server set w told) is in

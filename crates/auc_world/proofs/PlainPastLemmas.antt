@@ -1,6 +1,6 @@
 -- For resumed sessions: after an identity for full authentication was asked for, no context is taken up again, and one that was
 -- stays.
-use Rattle.std.proofs.Common.{◌≡◌, ℕ, Bool, true, false, not, if◌then◌else◌, List, [], Option, Some, None, slice_get, refl, ◌==◌, ◌||◌}
+use Rattle.std.proofs.Common.{◌≡◌, ℕ, Bool, true, false, not, if◌then◌else◌, List, [], Option, Some, None, slice_get, refl, sym, ◌==◌, ◌||◌}
 use Rattle.auc_attr.specs.declared.attr.Attr.{Attr}
 use Rattle.auc_hmac.specs.declared.method.Method.{Method}
 use Rattle.auc_packet.specs.Head.{head_at}
@@ -13,12 +13,13 @@ use Rattle.auc_packet.specs.declared.received.Reading.TheVariants as reading
 use Rattle.auc_packet.specs.declared.subtype.Subtype.{Subtype}
 use Rattle.auc_packet.specs.declared.subtype.Subtype.TheVariants as subtype
 use Rattle.auc_request.specs.declared.identities.IdentityRequest.TheVariants as request
+use Rattle.auc_server.proofs.Facts.{Says, none_resumed, says_row}
 use Rattle.auc_server.specs.Attributes.{auts_of, checkcode_of, error_code_of, first_of, identity_in, res_of}
 use Rattle.auc_server.specs.Rounds.{checkcode}
-use Rattle.auc_server.specs.Rows.{by_auts, challenge_or, differs, if_challenged, if_resumed, in_state, is_expected, is_type, is_wrong, on_auts, on_client_error, on_error_code, on_full, on_head, on_identity, on_message, on_method, on_permanent, on_reading, on_reauth, on_response, on_sync_failure, permanent_subscriber, read_by, says_small, server_row, subscriber_in, text_in, type_awaited}
-use Rattle.auc_server.specs.Server.{ServerEnd}
+use Rattle.auc_server.specs.Rows.{by_auts, challenge_or, differs, in_state, is_expected, is_type, is_wrong, on_auts, on_challenged, on_client_error, on_error_code, on_full, on_head, on_identity, on_message, on_method, on_permanent, on_reading, on_reauth, on_response, on_resumed, on_sync_failure, permanent_subscriber, read_by, says_small, server_row, subscriber_in, text_in, type_awaited}
+use Rattle.auc_server.specs.Server.{ServerEnd, resumed_of}
 use Rattle.auc_server.specs.Setting.{Setting}
-use Rattle.auc_server.specs.Table.{challenged, challenged_with, first_challenge, identified, names_given, noted, packets_after, reauthenticated, resynchronised, resynchronising, server_does, server_step, succeeded, vector_at}
+use Rattle.auc_server.specs.Table.{challenged, challenged_with, first_challenge, identified, names_given, noted, packets_after, resynchronised, resynchronising, server_does, server_step, vector_at}
 use Rattle.auc_server.specs.declared.naming.GivenNames.{GivenNames}
 use Rattle.auc_server.specs.declared.reply.Reply.{Reply}
 use Rattle.auc_server.specs.declared.rows.Row.{Row}
@@ -45,7 +46,7 @@ use Rattle.auc_vector.specs.declared.turn.Turn.{Turn}
 -- a state in which no context is taken up again
 abbrev pub is_past : ServerState → Bool
 is_past state.AwaitIdentity = false
-is_past state.AwaitAny = false
+is_past (state.Await request.Any) = false
 is_past other = true
 
 -- the rows into which it falls: the permanent identity is asked for, if any
@@ -80,13 +81,13 @@ past_identity answered subtype.Reauthentication list is = tt
 
 past_response : (m : Method) (packets : List (List ℕ)) (sent : Challenged) (seen : Seen) (list : List Attr) → IsPast (on_response m packets sent seen list)
 past_response m packets sent seen list =
-    let last : Row = if differs (checkcode m packets) (first_of checkcode_of list) then row.WrongCheckcode else row.Success in
+    let last : Row = if differs (checkcode m packets) (first_of checkcode_of list) then row.WrongCheckcode else row.Success sent in
     let right : Row = if not (is_expected sent.vector.xres (first_of res_of list)) then row.WrongRes else last in
     let genuine : Row = if not (is_sealed m sent.keys.k_aut [] seen) then row.WrongMac else right in
     past_if (is_missing subtype.Challenge false list) (row.Ignore reason.Missing) genuine tt
     (past_if (not (is_sealed m sent.keys.k_aut [] seen)) row.WrongMac right tt
     (past_if (not (is_expected sent.vector.xres (first_of res_of list))) row.WrongRes last tt
-    (past_if (differs (checkcode m packets) (first_of checkcode_of list)) row.WrongCheckcode row.Success tt tt)))
+    (past_if (differs (checkcode m packets) (first_of checkcode_of list)) row.WrongCheckcode (row.Success sent) tt tt)))
 
 past_read : (sub : ℕ) (a : Auts) → IsPast (by_auts sub a)
 past_read sub auts.WrongMac = tt
@@ -106,19 +107,18 @@ past_sync set synced sent list =
     past_if (is_missing subtype.SynchronizationFailure false list) (row.Ignore reason.Missing) first tt
     (past_if synced row.SecondSync (on_auts set sent (first_of auts_of list)) tt (past_auts set sent (first_of auts_of list)))
 
-past_challenged : (set : Setting) (q : ServerEnd) (c : Option Challenged) (seen : Seen) (kind : Subtype) (list : List Attr) → IsPast (if_challenged set q c seen kind list)
-past_challenged set q None seen kind list = tt
-past_challenged set q (Some c) seen subtype.Challenge list = past_response q.options.method q.packets c seen list
-past_challenged set q (Some c) seen subtype.SynchronizationFailure list = past_sync set q.synced c list
-past_challenged set q (Some c) seen subtype.AuthenticationReject list = tt
-past_challenged set q (Some c) seen subtype.ClientError list = past_error list
-past_challenged set q (Some c) seen subtype.Identity list = tt
-past_challenged set q (Some c) seen subtype.Notification list = tt
-past_challenged set q (Some c) seen subtype.Reauthentication list = tt
+past_challenged : (set : Setting) (q : ServerEnd) (c : Challenged) (seen : Seen) (kind : Subtype) (list : List Attr) → IsPast (on_challenged set q c seen kind list)
+past_challenged set q c seen subtype.Challenge list = past_response q.options.method q.packets c seen list
+past_challenged set q c seen subtype.SynchronizationFailure list = past_sync set q.synced c list
+past_challenged set q c seen subtype.AuthenticationReject list = tt
+past_challenged set q c seen subtype.ClientError list = past_error list
+past_challenged set q c seen subtype.Identity list = tt
+past_challenged set q c seen subtype.Notification list = tt
+past_challenged set q c seen subtype.Reauthentication list = tt
 
 past_reauth : (m : Method) (packets : List (List ℕ)) (sent : Resumed) (seen : Seen) (said : Reply) (list : List Attr) → IsPast (on_reauth m packets sent seen said list)
 past_reauth m packets sent seen said list =
-    let last : Row = if differs (checkcode m packets) (first_of checkcode_of list) then row.WrongCheckcode else row.Reauthenticated in
+    let last : Row = if differs (checkcode m packets) (first_of checkcode_of list) then row.WrongCheckcode else row.Reauthenticated sent in
     let small : Row = if says_small said then row.TooSmall sent.sub else last in
     let counted : Row = if is_wrong said then row.WrongCounter else small in
     let genuine : Row = if not (is_sealed m sent.context.k_aut sent.nonce seen) then row.WrongMac else counted in
@@ -126,33 +126,32 @@ past_reauth m packets sent seen said list =
     (past_if (not (is_sealed m sent.context.k_aut sent.nonce seen)) row.WrongMac counted tt
     (past_if (is_wrong said) row.WrongCounter small tt
     (past_if (says_small said) (row.TooSmall sent.sub) last tt
-    (past_if (differs (checkcode m packets) (first_of checkcode_of list)) row.WrongCheckcode row.Reauthenticated tt tt))))
+    (past_if (differs (checkcode m packets) (first_of checkcode_of list)) row.WrongCheckcode (row.Reauthenticated sent) tt tt))))
 
-past_resumed : (q : ServerEnd) (r : Option Resumed) (seen : Seen) (said : Reply) (kind : Subtype) (list : List Attr) → IsPast (if_resumed q r seen said kind list)
-past_resumed q None seen said kind list = tt
-past_resumed q (Some r) seen said subtype.Reauthentication list = past_reauth q.options.method q.packets r seen said list
-past_resumed q (Some r) seen said subtype.ClientError list = past_error list
-past_resumed q (Some r) seen said subtype.Challenge list = tt
-past_resumed q (Some r) seen said subtype.AuthenticationReject list = tt
-past_resumed q (Some r) seen said subtype.SynchronizationFailure list = tt
-past_resumed q (Some r) seen said subtype.Identity list = tt
-past_resumed q (Some r) seen said subtype.Notification list = tt
+past_resumed : (q : ServerEnd) (r : Resumed) (seen : Seen) (said : Reply) (kind : Subtype) (list : List Attr) → IsPast (on_resumed q r seen said kind list)
+past_resumed q r seen said subtype.Reauthentication list = past_reauth q.options.method q.packets r seen said list
+past_resumed q r seen said subtype.ClientError list = past_error list
+past_resumed q r seen said subtype.Challenge list = tt
+past_resumed q r seen said subtype.AuthenticationReject list = tt
+past_resumed q r seen said subtype.SynchronizationFailure list = tt
+past_resumed q r seen said subtype.Identity list = tt
+past_resumed q r seen said subtype.Notification list = tt
 
 past_message : (set : Setting) (homes : List HomeRow) (q : ServerEnd) (now : ServerState) (seen : Seen) (said : Reply) (kind : Subtype) (list : List Attr) → is_past now ≡ true
     → IsPast (on_message set homes q now seen said kind list)
 past_message set homes q state.AwaitIdentity seen said kind list past = absurd cc
-past_message set homes q state.AwaitAny seen said kind list past = absurd cc
-past_message set homes q state.AwaitFull seen said kind list past =
+past_message set homes q (state.Await request.Any) seen said kind list past = absurd cc
+past_message set homes q (state.Await request.Fullauth) seen said kind list past =
     let text = identity_in list in
     past_identity (on_full q.options.method set homes text) kind list (past_challenge (row.Ask request.Permanent) (subscriber_in q.options.method set homes text) refl)
-past_message set homes q state.AwaitPermanent seen said kind list past =
+past_message set homes q (state.Await request.Permanent) seen said kind list past =
     let text = identity_in list in
     past_identity (on_permanent q.options.method set homes text) kind list (past_challenge row.UnknownIdentity (permanent_subscriber q.options.method set homes text) tt)
-past_message set homes q state.AwaitChallenge seen said kind list past = past_challenged set q q.challenged seen kind list
-past_message set homes q state.AwaitReauth seen said kind list past = past_resumed q q.resumed seen said kind list
-past_message set homes q (state.Notifying cause) seen said kind list past = by kind
+past_message set homes q (state.AwaitChallenge sent before) seen said kind list past = past_challenged set q sent seen kind list
+past_message set homes q (state.AwaitReauth sent) seen said kind list past = past_resumed q sent seen said kind list
+past_message set homes q (state.Notifying cause last) seen said kind list past = by kind
   where
-    by : (s : Subtype) → IsPast (on_message set homes q (state.Notifying cause) seen said s list)
+    by : (s : Subtype) → IsPast (on_message set homes q (state.Notifying cause last) seen said s list)
     by subtype.Challenge = tt
     by subtype.AuthenticationReject = tt
     by subtype.SynchronizationFailure = tt
@@ -160,7 +159,7 @@ past_message set homes q (state.Notifying cause) seen said kind list past = by k
     by subtype.Notification = tt
     by subtype.Reauthentication = tt
     by subtype.ClientError = tt
-past_message set homes q (state.Ended result) seen said kind list past = tt
+past_message set homes q (state.Ended result last) seen said kind list past = tt
 
 past_method : (set : Setting) (homes : List HomeRow) (q : ServerEnd) (now : ServerState) (seen : Seen) (said : Reply) (r : Reading) → is_past now ≡ true → IsPast (on_method set homes q now seen said r)
 past_method set homes q now seen said (reading.Fault fault) past = tt
@@ -172,13 +171,11 @@ past_method set homes q now seen said (reading.Read (packet.Aka request id m kin
 
 past_reading : (set : Setting) (homes : List HomeRow) (q : ServerEnd) (now : ServerState) (seen : Seen) (said : Reply) (r : Reading) → is_past now ≡ true → IsPast (on_reading set homes q now seen said r)
 past_reading set homes q state.AwaitIdentity seen said r past = absurd cc
-past_reading set homes q state.AwaitAny seen said r past = past_method set homes q state.AwaitAny seen said r past
-past_reading set homes q state.AwaitFull seen said r past = past_method set homes q state.AwaitFull seen said r past
-past_reading set homes q state.AwaitPermanent seen said r past = past_method set homes q state.AwaitPermanent seen said r past
-past_reading set homes q state.AwaitChallenge seen said r past = past_method set homes q state.AwaitChallenge seen said r past
-past_reading set homes q state.AwaitReauth seen said r past = past_method set homes q state.AwaitReauth seen said r past
-past_reading set homes q (state.Notifying cause) seen said r past = past_method set homes q (state.Notifying cause) seen said r past
-past_reading set homes q (state.Ended result) seen said r past = past_method set homes q (state.Ended result) seen said r past
+past_reading set homes q (state.Await kind) seen said r past = past_method set homes q (state.Await kind) seen said r past
+past_reading set homes q (state.AwaitChallenge sent before) seen said r past = past_method set homes q (state.AwaitChallenge sent before) seen said r past
+past_reading set homes q (state.AwaitReauth sent) seen said r past = past_method set homes q (state.AwaitReauth sent) seen said r past
+past_reading set homes q (state.Notifying cause last) seen said r past = past_method set homes q (state.Notifying cause last) seen said r past
+past_reading set homes q (state.Ended result last) seen said r past = past_method set homes q (state.Ended result last) seen said r past
 
 past_head : (set : Setting) (homes : List HomeRow) (q : ServerEnd) (seen : Seen) (said : Reply) → is_past q.state ≡ true → (head : Option Head) → IsPast (on_head set homes q seen said head)
 past_head set homes q seen said past None = tt
@@ -195,20 +192,18 @@ past_row set homes q seen said past = by q.state
 
     by : (now : ServerState) → IsPast (in_state set homes q seen said now)
     by state.AwaitIdentity = headed
-    by state.AwaitAny = headed
-    by state.AwaitFull = headed
-    by state.AwaitPermanent = headed
-    by state.AwaitChallenge = headed
-    by state.AwaitReauth = headed
-    by (state.Notifying cause) = headed
-    by (state.Ended result) = tt
+    by (state.Await kind) = headed
+    by (state.AwaitChallenge sent before) = headed
+    by (state.AwaitReauth sent) = headed
+    by (state.Notifying cause last) = headed
+    by (state.Ended result last) = tt
 
 -- ---- its turns
 
 -- such a state follows, and what was taken up again stays
 pub record StaysPast (q : ServerEnd) (turn : ServerEnd × Turn ServerWhy) : Type 0 where
   pub past : is_past turn.0.state ≡ true
-  pub same : turn.0.resumed ≡ q.resumed
+  pub same : resumed_of turn.0 ≡ resumed_of q
 
 vector_past : (realm : List ℕ) (q : ServerEnd) (sub n : ℕ) (v : Option Vector) (given : Option GivenNames) (notes : Notes) (checked : Bool) → is_past q.state ≡ true → StaysPast q (challenged_with realm q sub n v given notes checked)
 vector_past realm q sub n None given notes checked past = record { past = past; same = refl }
@@ -236,36 +231,30 @@ resync_past set homes q sub (Some (resync.InRange seen seq)) drawn past =
 resync_past set homes q sub (Some (resync.Moved seen seq)) drawn past =
     let t = challenge_past set homes (resynchronising q) sub false (Some (resync.Moved seen seq)) drawn past in record { past = t.past; same = t.same }
 
-success_past : (q : ServerEnd) (sent : Option Challenged) → is_past q.state ≡ true → StaysPast q (succeeded q sent)
-success_past q None past = record { past = past; same = refl }
-success_past q (Some sent) past = record { past = refl; same = refl }
-
-renewal_past : (q : ServerEnd) (r : Option Resumed) → is_past q.state ≡ true → StaysPast q (reauthenticated q r)
-renewal_past q None past = record { past = past; same = refl }
-renewal_past q (Some r) past = record { past = refl; same = refl }
-
-does_past : (set : Setting) (homes : List HomeRow) (q : ServerEnd) (text : List ℕ) (packets : List (List ℕ)) (r : Row) (notes : Notes) → is_past q.state ≡ true → IsPast r → StaysPast q (server_does set homes q text packets r notes)
-does_past set homes q text packets (row.Ignore cause) notes past is = record { past = past; same = refl }
-does_past set homes q text packets (row.Ask request.Any) notes past is = absurd cc
-does_past set homes q text packets (row.Ask request.Fullauth) notes past is = absurd cc
-does_past set homes q text packets (row.Ask request.Permanent) notes past is = record { past = refl; same = refl }
-does_past set homes q text packets row.UnknownIdentity notes past is = record { past = refl; same = refl }
-does_past set homes q text packets (row.Challenge sub) notes past is = identified_past set homes q text packets sub notes.number past
-does_past set homes q text packets (row.Resume sub) notes past is = absurd is
-does_past set homes q text packets row.WrongCounter notes past is = record { past = refl; same = refl }
-does_past set homes q text packets (row.TooSmall sub) notes past is = challenge_past set homes q sub true None notes.number past
-does_past set homes q text packets row.Reauthenticated notes past is = renewal_past q q.resumed past
-does_past set homes q text packets row.WrongMac notes past is = record { past = refl; same = refl }
-does_past set homes q text packets row.WrongRes notes past is = record { past = refl; same = refl }
-does_past set homes q text packets row.WrongCheckcode notes past is = record { past = refl; same = refl }
-does_past set homes q text packets row.Success notes past is = success_past q q.challenged past
-does_past set homes q text packets row.SecondSync notes past is = record { past = refl; same = refl }
-does_past set homes q text packets row.BadAuts notes past is = record { past = refl; same = refl }
-does_past set homes q text packets (row.Resynchronise sub seq) notes past is = resync_past set homes q sub notes.resync notes.number past
-does_past set homes q text packets row.Rejected notes past is = record { past = refl; same = refl }
-does_past set homes q text packets (row.ClientError code) notes past is = record { past = refl; same = refl }
-does_past set homes q text packets (row.Notified cause) notes past is = record { past = refl; same = refl }
+does_past : (found : Option ℕ) (set : Setting) (homes : List HomeRow) (q : ServerEnd) (seen : Seen) (text : List ℕ) (packets : List (List ℕ)) (r : Row) (notes : Notes) → is_past q.state ≡ true → IsPast r → Says found q seen r
+    → StaysPast q (server_does set homes q text packets r notes)
+does_past found set homes q seen text packets (row.Ignore cause) notes past is says = record { past = past; same = refl }
+does_past found set homes q seen text packets (row.Ask request.Any) notes past is says = absurd cc
+does_past found set homes q seen text packets (row.Ask request.Fullauth) notes past is says = absurd cc
+does_past found set homes q seen text packets (row.Ask request.Permanent) notes past is says = record { past = refl; same = sym (none_resumed q says) }
+does_past found set homes q seen text packets row.UnknownIdentity notes past is says = record { past = refl; same = refl }
+does_past found set homes q seen text packets (row.Challenge sub) notes past is says = identified_past set homes q text packets sub notes.number past
+does_past found set homes q seen text packets (row.Resume sub) notes past is says = absurd is
+does_past found set homes q seen text packets row.WrongCounter notes past is says = record { past = refl; same = refl }
+does_past found set homes q seen text packets (row.TooSmall sub) notes past is says = challenge_past set homes q sub true None notes.number past
+does_past found set homes q seen text packets (row.Reauthenticated sent) notes past is says = record { past = refl; same = refl }
+does_past found set homes q seen text packets row.WrongMac notes past is says = record { past = refl; same = refl }
+does_past found set homes q seen text packets row.WrongRes notes past is says = record { past = refl; same = refl }
+does_past found set homes q seen text packets row.WrongCheckcode notes past is says = record { past = refl; same = refl }
+does_past found set homes q seen text packets (row.Success sent) notes past is says = record { past = refl; same = refl }
+does_past found set homes q seen text packets row.SecondSync notes past is says = record { past = refl; same = refl }
+does_past found set homes q seen text packets row.BadAuts notes past is says = record { past = refl; same = refl }
+does_past found set homes q seen text packets (row.Resynchronise sub seq) notes past is says = resync_past set homes q sub notes.resync notes.number past
+does_past found set homes q seen text packets row.Rejected notes past is says = record { past = refl; same = refl }
+does_past found set homes q seen text packets (row.ClientError code) notes past is says = record { past = refl; same = refl }
+does_past found set homes q seen text packets (row.Notified cause) notes past is says = record { past = refl; same = refl }
 
 pub past_turn : (set : Setting) (homes : List HomeRow) (q : ServerEnd) (seen : Seen) (said : Reply) (notes : Notes) → is_past q.state ≡ true → StaysPast q (server_step set homes q seen said notes)
 past_turn set homes q seen said notes past =
-    let r = server_row set homes q seen said in does_past set homes q (text_in seen.reading) (packets_after q seen r) r notes past (past_row set homes q seen said past)
+    let r = server_row set homes q seen said in
+    does_past (subscriber_in q.options.method set homes (text_in seen.reading)) set homes q seen (text_in seen.reading) (packets_after q seen r) r notes past (past_row set homes q seen said past) (says_row set homes q seen said)

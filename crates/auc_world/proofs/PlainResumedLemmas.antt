@@ -19,11 +19,11 @@ use Rattle.auc_reauth.specs.Device.{Keeps}
 use Rattle.auc_reauth.specs.declared.context.Context.{Context}
 use Rattle.auc_request.specs.declared.identities.IdentityRequest.TheVariants as request
 use Rattle.auc_seal.specs.Checkcode.{counted}
-use Rattle.auc_server.proofs.Facts.{identity_may as asked_may}
+use Rattle.auc_server.proofs.Facts.{awaits_reauth, identity_may as asked_may}
 use Rattle.auc_server.specs.Messages.{aka_identity, identity_request, reauth_bytes}
 use Rattle.auc_server.specs.Rounds.{checkcode}
 use Rattle.auc_server.specs.Rows.{challenge_or, context_subscriber, on_any, resume_or, server_row, subscriber_in, text_in}
-use Rattle.auc_server.specs.Server.{ServerEnd, started}
+use Rattle.auc_server.specs.Server.{ServerEnd, resumed_of, started}
 use Rattle.auc_server.specs.Setting.{Setting}
 use Rattle.auc_server.specs.Table.{next_id, packets_after, resuming, server_does, server_step, silent}
 use Rattle.auc_server.specs.declared.options.ServerOptions.{ServerOptions}
@@ -94,13 +94,13 @@ module _ (set : Setting) (opening : SessionLine) (number : ℕ) (s : Session) (d
 
   -- ---- what contradicts that a context was taken up again
 
-  leaves_none : (w : Session) (q : ServerEnd) (bytes : List ℕ) (took : ServerTook set Free number w device keeps bytes q 1 next) → q.resumed ≡ None
+  leaves_none : (w : Session) (q : ServerEnd) (bytes : List ℕ) (took : ServerTook set Free number w device keeps bytes q 1 next) → resumed_of q ≡ None
       → Leaves q (server_step set took.homes q took.told.seen took.told.reply took.told.notes) → ⊥
   leaves_none w q bytes took none l =
       let told = took.told in
       let turn = server_step set took.homes q told.seen told.reply told.notes in
-      let without : turn.0.resumed ≡ None = l.same ∙ none in
-      let P : ServerEnd → Type 0 = λ x. x.resumed ≡ None in
+      let without : resumed_of turn.0 ≡ None = l.same ∙ none in
+      let P : ServerEnd → Type 0 = λ x. resumed_of x ≡ None in
       ⊎_elim
       (λ (quiet : sent_by turn.1.step ≡ None).
       let ends : EndsSo next number P = record {
@@ -139,7 +139,7 @@ module _ (set : Setting) (opening : SessionLine) (number : ℕ) (s : Session) (d
   -- ---- the row of an identity that may be a re-authentication identity
 
   module _ (q : ServerEnd) (p : Peer) (bytes : List ℕ) (now : ServerState) (text : List ℕ) (id : ℕ) (packets : List (List ℕ)) (took : ServerTook set Free number (with_ends s q p) device keeps bytes q 1 next)
-      (none : q.resumed ≡ None) (comes : Comes set took.homes q took.told.seen took.told.reply (server_options opening) now text id packets)
+      (none : resumed_of q ≡ None) (comes : Comes set took.homes q took.told.seen took.told.reply (server_options opening) now text id packets)
       (is : identity_row now (server_options opening) set took.homes text ≡ on_any opening.method set took.homes text) where
     full : resume_or (challenge_or (row.Ask request.Fullauth) (subscriber_in opening.method set took.homes text)) (context_subscriber opening.method set took.homes text)
         ≡ challenge_or (row.Ask request.Fullauth) (subscriber_in opening.method set took.homes text) → ⊥
@@ -150,7 +150,7 @@ module _ (set : Setting) (opening : SessionLine) (number : ℕ) (s : Session) (d
         let does : Row → ServerEnd × Turn ServerWhy = λ x. server_does set took.homes q (text_in told.seen.reading) (packets_after q told.seen x) x told.notes in
         let row_is : server_row set took.homes q told.seen told.reply ≡ instead = comes.row_is ∙ is ∙ other in
         leaves_none (with_ends s q p) q bytes took none
-        (subst (λ (x : Row). Leaves q (does x)) (sym row_is) (leaves_full set took.homes q (text_in told.seen.reading) (packets_after q told.seen instead) found told.notes))
+        (subst (λ (x : Row). Leaves q (does x)) (sym row_is) (leaves_full set took.homes q (text_in told.seen.reading) (packets_after q told.seen instead) found told.notes none))
 
     again : (sub : ℕ) → context_subscriber opening.method set took.homes text ≡ Some sub → identity_row now (server_options opening) set took.homes text ≡ row.Resume sub → WaitsOn opening p text packets id
         → Renews set opening number s device keeps r (next_id id) next
@@ -162,7 +162,7 @@ module _ (set : Setting) (opening : SessionLine) (number : ℕ) (s : Session) (d
         let sent = reauth_bytes opening.method set.realm (next_id id) n.iv n.r (checkcode opening.method packets) in
         let way : OnWay set Free number end.Peer (with_ends s n.q p) device keeps sent 1 next = server_sends set Free Free number (with_ends s q p) device keeps bytes q 1 next took n.q (resuming c.counter) sent false tt tt n.is in
         let settled = ends_so set number device next (IsSettled (Some n.r)) (settled_stays set (Some n.r)) end.Peer (with_ends s n.q p) n.q keeps sent 1 refl
-        (record { past = ap is_past n.awaits.awaits_is; resumed = n.awaits.resumed_is }) way in
+        (record { past = ap is_past n.awaits.awaits_is; resumed = awaits_reauth n.q n.r n.awaits.awaits_is }) way in
         let (last, so, resumed) = at_end next number (IsSettled (Some n.r)) r settled has in
         subst (λ (x : Resumed). Renews set opening number s device keeps x (next_id id) next) (one_resumed n.r r (sym so.resumed ∙ resumed)) (record {
           q = n.q;
@@ -190,8 +190,8 @@ module _ (set : Setting) (opening : SessionLine) (number : ℕ) (s : Session) (d
 
   -- ---- another identity was asked for
 
-  after_asked : length r.context.identity ≡ 33 → (q : ServerEnd) (p : Peer) (text : List ℕ) (packets : List (List ℕ)) (id : ℕ) → q.resumed ≡ None
-      → Expects q (server_options opening) state.AwaitAny id (counted (packet_text (aka_identity opening.method id request.Any)) packets) → Waits opening p text packets id
+  after_asked : length r.context.identity ≡ 33 → (q : ServerEnd) (p : Peer) (text : List ℕ) (packets : List (List ℕ)) (id : ℕ) → resumed_of q ≡ None
+      → Expects q (server_options opening) (state.Await request.Any) id (counted (packet_text (aka_identity opening.method id request.Any)) packets) → Waits opening p text packets id
       → OnWay set Free number end.Peer (with_ends s q p) device keeps (packet_text (aka_identity opening.method id request.Any)) 1 next → Leads
   after_asked long q p text packets id none expects waits way =
       let m = opening.method in
@@ -207,9 +207,9 @@ module _ (set : Setting) (opening : SessionLine) (number : ℕ) (s : Session) (d
       let on = peer_sends set Free number (with_ends s q p) device keeps (packet_text asking) 1 1 next took turn.z (noted None) (packet_text answer) false quiet kept turn.turn_is (omega arith) in
       let heard = server_takes set Free number (with_ends s q turn.z) device keeps (packet_text answer) q 1 next refl on in
       let seen = heard.told.seen in
-      let comes = identity_comes set heard.homes q seen heard.told.reply (server_options opening) state.AwaitAny own id (counted (packet_text asking) packets) any_round expects may
+      let comes = identity_comes set heard.homes q seen heard.told.reply (server_options opening) (state.Await request.Any) own id (counted (packet_text asking) packets) any_round expects may
       (reads_itself laws seen answer may refl heard.received heard.are) heard.are in
-      after_any q turn.z (packet_text answer) state.AwaitAny own id (packets_with opening id request.Any own packets) heard none comes refl (λ sub e. turn.waits)
+      after_any q turn.z (packet_text answer) (state.Await request.Any) own id (packets_with opening id request.Any own packets) heard none comes refl (λ sub e. turn.waits)
 
   -- ---- the first identity
 
@@ -256,7 +256,7 @@ module _ (set : Setting) (opening : SessionLine) (number : ℕ) (s : Session) (d
     first_comes comes true e =
         let ask = ap any_or e in
         let a = asks set took.homes q told.seen told.reply o state.AwaitIdentity (text_in told.seen.reading) 1 [] request.Any told.notes comes ask in
-        let none : a.q.resumed ≡ None = sym (ap (λ (t : ServerEnd × Turn ServerWhy). t.0.resumed) a.is) ∙ ap (λ (x : Row). (does x).0.resumed) (comes.row_is ∙ ask) in
+        let none : resumed_of a.q ≡ None = sym (ap (λ (t : ServerEnd × Turn ServerWhy). resumed_of t.0) a.is) ∙ ap (λ (x : Row). resumed_of (does x).0) (comes.row_is ∙ ask) in
         after_asked long a.q p text [] (next_id 1) none a.expects (waits (next_id 1) (next_differs 1))
         (server_sends set Free Free number (with_ends s q p) device keeps bytes q 1 next took a.q silent (packet_text (aka_identity opening.method (next_id 1) request.Any)) false tt tt a.is)
     first_comes comes false e = after_any q p bytes state.AwaitIdentity (text_in told.seen.reading) 1 [] took refl comes (ap any_or e) as_sent

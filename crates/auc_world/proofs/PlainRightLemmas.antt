@@ -1,5 +1,5 @@
 -- For plain sessions: the response to a re-authentication is right, and both ends end in Success under its keys (RFC 4187 §5).
-use Rattle.std.proofs.Common.{◌≡◌, ℕ, ◌-◌, ◌==◌, Bool, true, false, not, if◌then◌else◌, List, [], ◌∷◌, length, Option, Some, None, refl, ap, ◌∙◌, subst}
+use Rattle.std.proofs.Common.{◌≡◌, ℕ, ◌-◌, ◌==◌, Bool, true, false, not, if◌then◌else◌, List, [], ◌∷◌, length, Some, None, refl, ap, ◌∙◌, subst}
 use Rattle.std.proofs.lemmas.Slice.Eq.{bytes_eq-Decides}
 use Rattle.std.specs.Str.{bytes_eq}
 use Rattle.auc_attr.specs.declared.attr.Attr.TheVariants as attr
@@ -17,16 +17,19 @@ use Rattle.auc_peer.specs.Table.{noted}
 use Rattle.auc_reauth.specs.Device.{Keeps}
 use Rattle.auc_server.specs.Replies.{IsReply, Replies}
 use Rattle.auc_server.specs.Rounds.{checkcode}
-use Rattle.auc_server.specs.Rows.{if_resumed, is_wrong, on_method, on_reauth, says_small, server_row, text_in}
+use Rattle.auc_server.specs.Rows.{is_wrong, on_method, on_reauth, says_small, server_row, text_in}
 use Rattle.auc_server.specs.Server.{ServerEnd}
 use Rattle.auc_server.specs.Setting.{Setting}
-use Rattle.auc_server.specs.Table.{ended, packets_after, reauthenticated, resumed_keys, server_does, server_step}
+use Rattle.auc_server.specs.State.{last_of}
+use Rattle.auc_server.specs.Table.{ended, packets_after, resumed_keys, server_does, server_step}
 use Rattle.auc_server.specs.declared.options.ServerOptions.{ServerOptions}
 use Rattle.auc_server.specs.declared.reply.Reply.{Reply}
 use Rattle.auc_server.specs.declared.reply.Reply.TheVariants as reply
 use Rattle.auc_server.specs.declared.rows.Row.{Row}
 use Rattle.auc_server.specs.declared.rows.Row.TheVariants as row
+use Rattle.auc_server.specs.declared.server.Last.{Last}
 use Rattle.auc_server.specs.declared.server.Resumed.{Resumed}
+use Rattle.auc_server.specs.declared.server.ServerState.{ServerState}
 use Rattle.auc_server.specs.declared.server.ServerState.TheVariants as state
 use Rattle.auc_server.specs.declared.setting.HomeRow.{HomeRow}
 use Rattle.auc_server.specs.declared.why.ServerWhy.{ServerWhy}
@@ -64,19 +67,18 @@ record IsReplied (q : ServerEnd) (o : ServerOptions) (seen : Seen) (said : Reply
   said_is : said ≡ reply.Right
 
 replied_row : (set : Setting) (homes : List HomeRow) (q : ServerEnd) (o : ServerOptions) (seen : Seen) (said : Reply) (text : List ℕ) (id : ℕ) (r : Resumed) (packets : List (List ℕ)) (iv mac : List ℕ)
-    → IsReplied q o seen said text id r packets iv mac → server_row set homes q seen said ≡ row.Reauthenticated
+    → IsReplied q o seen said text id r packets iv mac → server_row set homes q seen said ≡ row.Reauthenticated r
 replied_row set homes q o seen said text id r packets iv mac h =
     let w = h.awaits in
     let m = o.method in
     let code = checkcode m packets in
     let list = list_hiding r.context.k_encr iv (attr.Counter r.context.counter ∷ []) code mac in
     let kind = subtype.Reauthentication in
-    let fourth : Bool → Row = λ b. if not b then row.WrongCheckcode else row.Reauthenticated in
+    let fourth : Bool → Row = λ b. if not b then row.WrongCheckcode else row.Reauthenticated r in
     let third : Reply → Row = λ x. if is_wrong x then row.WrongCounter else if says_small x then row.TooSmall r.sub else fourth (bytes_eq code code) in
     let first : Bool → Row = λ b. if not b then row.WrongMac else third said in
-    awaited set homes q seen said o state.AwaitReauth id kind list reauth_later w.options_are w.awaits_is w.id_is h.is
-    ∙ ap (on_method set homes q state.AwaitReauth seen said) h.is.packet_is
-    ∙ ap (λ (x : Option Resumed). if_resumed q x seen said kind list) w.resumed_is
+    awaited set homes q seen said o (state.AwaitReauth r) id kind list (reauth_later r) w.options_are w.awaits_is w.id_is h.is
+    ∙ ap (on_method set homes q (state.AwaitReauth r) seen said) h.is.packet_is
     ∙ ap (λ (x : ServerOptions). on_reauth x.method q.packets r seen said list) w.options_are
     ∙ ap (λ (l : List (List ℕ)). on_reauth m l r seen said list) w.packets_are
     ∙ ap first h.right ∙ ap third h.said_is ∙ ap fourth ((bytes_eq-Decides code code).1 refl)
@@ -87,7 +89,8 @@ record Wins (set : Setting) (homes : List HomeRow) (q : ServerEnd) (seen : Seen)
   z : ServerEnd
   won : Notes
   turn : server_step set homes q seen said notes ≡ (z, record { notes = won; step = step.Ended (outcome.Success (keys_again r text)) (packet_text (packet.Success id)); checked = true })
-  ended_is : z.state ≡ state.Ended (outcome.Success (keys_again r text))
+  last : Last
+  ended_is : z.state ≡ state.Ended (outcome.Success (keys_again r text)) last
 
 wins : (set : Setting) (homes : List HomeRow) (q : ServerEnd) (o : ServerOptions) (seen : Seen) (said : Reply) (text : List ℕ) (id : ℕ) (r : Resumed) (packets : List (List ℕ)) (iv mac : List ℕ) (notes : Notes)
     → IsReplied q o seen said text id r packets iv mac → Wins set homes q seen said text id r notes
@@ -100,8 +103,9 @@ wins set homes q o seen said text id r packets iv mac notes h =
     record {
       z = (over (keys_again r text) id).0;
       won = (over (keys_again r text) id).1.notes;
-      turn = ap (λ (x : Row). server_does set homes q (text_in seen.reading) (packets_after q seen x) x notes) row_is ∙ ap (reauthenticated q) w.resumed_is
+      turn = ap (λ (x : Row). server_does set homes q (text_in seen.reading) (packets_after q seen x) x notes) row_is
           ∙ ap (λ (k : KeySet). over k q.id) keys_are ∙ ap (over (keys_again r text)) w.id_is;
+      last = last_of q.state;
       ended_is = refl;
     }
 
@@ -121,8 +125,8 @@ finishes laws set opening number s device text packets r id q next sized own awa
     let read = reads_sealed_with laws r.context.k_aut r.nonce draft told.seen (reply_may laws m id r.context.k_encr n.iv counter check sized.k_encr n.block (checkcode_hash m packets))
     (reply_values m id r.context.k_encr n.iv counter check) took.received (took.are ∙ reply_is m id r.context.k_encr r.context.k_aut n.iv r.nonce counter check) in
     let list = list_hiding r.context.k_encr n.iv (attr.Counter counter ∷ []) check mac in
-    let replies : Replies (Some r) told.seen.reading told.reply = subst (λ (x : Option Resumed). Replies x told.seen.reading told.reply) awaits.resumed_is took.replies in
-    let replied : IsReply r.context.k_encr counter list told.reply = subst (λ (x : Reading). Replies (Some r) x told.reply) read.0.packet_is replies in
+    let replies : Replies (state.AwaitReauth r) told.seen.reading told.reply = subst (λ (x : ServerState). Replies x told.seen.reading told.reply) awaits.awaits_is took.replies in
+    let replied : IsReply r.context.k_encr counter list told.reply = subst (λ (x : Reading). Replies (state.AwaitReauth r) x told.reply) read.0.packet_is replies in
     let h : IsReplied q o told.seen told.reply text id r packets n.iv mac = record {
       awaits = awaits;
       is = read.0;

@@ -28,7 +28,7 @@ use Rattle.auc_server.specs.Rows.{challenge_or, context_subscriber, if_found, on
 use Rattle.auc_server.specs.Server.{ServerEnd}
 use Rattle.auc_server.specs.Setting.{Setting}
 use Rattle.auc_server.specs.Steps.{asking}
-use Rattle.auc_server.specs.Table.{awaiting, homes_after, homes_done, next_id, resuming, silent}
+use Rattle.auc_server.specs.Table.{homes_after, homes_done, next_id, resuming, silent}
 use Rattle.auc_server.specs.declared.rows.Row.{Row}
 use Rattle.auc_server.specs.declared.rows.Row.TheVariants as row
 use Rattle.auc_server.specs.declared.server.ServerState.{ServerState}
@@ -125,7 +125,7 @@ identified set opening number s home keeps next of way =
       way = peer_sends set Early number (with_ends s q (new_peer o)) device keeps q.last 1 1 next took turn.z (noted None) (packet_text (identity_response 1 text)) false quiet same turn.turn_is (omega arith);
     }
 
-round_of : (kind : IdentityRequest) → IsRound (awaiting kind)
+round_of : (kind : IdentityRequest) → IsRound (state.Await kind)
 round_of request.Any = any_round
 round_of request.Fullauth = full_round
 round_of request.Permanent = permanent_round
@@ -136,7 +136,7 @@ asked_values m id request.Fullauth = refl
 asked_values m id request.Permanent = refl
 
 answered : (set : Setting) (opening : SessionLine) (number : ℕ) (s : Session) (home : rows.Row) (keeps : Keeps) (kind : IdentityRequest) (id : ℕ) (next : Net) → IsOf set opening s.sub home keeps
-    → Asked set opening number s home keeps kind id next → Offers set opening number s home keeps (awaiting kind) (asked_text opening.method (device_of set home) keeps kind) id next
+    → Asked set opening number s home keeps kind id next → Offers set opening number s home keeps (state.Await kind) (asked_text opening.method (device_of set home) keeps kind) id next
 answered set opening number s home keeps kind id next of a =
     let device = device_of set home in
     let m = opening.method in
@@ -155,7 +155,7 @@ answered set opening number s home keeps kind id next of a =
       packets = packets_with opening id kind text a.packets;
       bytes = packet_text answer;
       waits = turn.waits;
-      comes = λ homes seen said received are. identity_comes set homes a.q seen said (server_options opening) (awaiting kind) text id (counted (packet_text request) a.packets) (round_of kind) a.expects may
+      comes = λ homes seen said received are. identity_comes set homes a.q seen said (server_options opening) (state.Await kind) text id (counted (packet_text request) a.packets) (round_of kind) a.expects may
           (reads_itself of.laws seen answer may refl received are) are;
       way = peer_sends set Early number (with_ends s a.q a.p) device keeps (packet_text request) 1 1 next took turn.z (noted None) (packet_text answer) false quiet same turn.turn_is (omega arith);
     }
@@ -249,22 +249,22 @@ module _ (set : Setting) (opening : SessionLine) (number : ℕ) (s : Session) (h
   either other None = inl refl
   either other (Some sub) = inr (sub, refl)
 
-  after_permanent : (id : ℕ) → Offers set opening number s home keeps state.AwaitPermanent (identity_text opening.method (device_of set home)) id next → Leads
+  after_permanent : (id : ℕ) → Offers set opening number s home keeps (state.Await request.Permanent) (identity_text opening.method (device_of set home)) id next → Leads
   after_permanent id o =
       let device = device_of set home in
       let text = identity_text opening.method device in
-      let took = took_of state.AwaitPermanent text id o in
+      let took = took_of (state.Await request.Permanent) text id o in
       let found = permanent_is of.laws opening.method set took.homes s.sub home device of.subscribers of.there refl took.sized.1 in
-      (next_id id, challenges_on state.AwaitPermanent text id o s.sub (ap (challenge_or row.UnknownIdentity) found))
+      (next_id id, challenges_on (state.Await request.Permanent) text id o s.sub (ap (challenge_or row.UnknownIdentity) found))
 
-  after_full : (text : List ℕ) (id : ℕ) → Offers set opening number s home keeps state.AwaitFull text id next → Leads
+  after_full : (text : List ℕ) (id : ℕ) → Offers set opening number s home keeps (state.Await request.Fullauth) text id next → Leads
   after_full text id o =
-      let took = took_of state.AwaitFull text id o in
+      let took = took_of (state.Await request.Fullauth) text id o in
       ⊎_elim
       (λ (ask : challenge_or (row.Ask request.Permanent) (subscriber_in opening.method set took.homes text) ≡ row.Ask request.Permanent).
-      after_permanent (next_id id) (answered set opening number s home keeps request.Permanent (next_id id) next of (asks_on state.AwaitFull text id o request.Permanent ask)))
+      after_permanent (next_id id) (answered set opening number s home keeps request.Permanent (next_id id) next of (asks_on (state.Await request.Fullauth) text id o request.Permanent ask)))
       (λ (c : (sub : ℕ) × (challenge_or (row.Ask request.Permanent) (subscriber_in opening.method set took.homes text) ≡ row.Challenge sub)).
-      (next_id id, challenges_on state.AwaitFull text id o c.0 c.1))
+      (next_id id, challenges_on (state.Await request.Fullauth) text id o c.0 c.1))
       (either (row.Ask request.Permanent) (subscriber_in opening.method set took.homes text))
 
   resume_cases : (other : Row) (found : Option ℕ) → (resume_or other found ≡ other) ⊎ ((sub : ℕ) × (found ≡ Some sub) × (resume_or other found ≡ row.Resume sub))
@@ -299,7 +299,7 @@ module _ (set : Setting) (opening : SessionLine) (number : ℕ) (s : Session) (h
       by : (b : Bool) → opening.any ≡ b → Leads
       by true e =
           let a = answered set opening number s home keeps request.Any (next_id 1) next of (asks_on state.AwaitIdentity text 1 o request.Any (ap any_or e)) in
-          after_any_by state.AwaitAny (asked_text opening.method (device_of set home) keeps request.Any) (next_id 1) a refl
+          after_any_by (state.Await request.Any) (asked_text opening.method (device_of set home) keeps request.Any) (next_id 1) a refl
       by false e = after_any_by state.AwaitIdentity text 1 o (ap any_or e)
 
   -- the server challenges the subscriber in the end

@@ -1,4 +1,5 @@
 -- For plain sessions: the turns of a server, from the Identity response to Success.
+use Rattle.auc_request.specs.declared.identities.IdentityRequest.TheVariants as request
 use Rattle.std.proofs.Common.{◌≡◌, ℕ, ◌==◌, nat_le, Bool, true, false, not, if◌then◌else◌, List, [], ◌∷◌, length, Option, Some, None, slice_get, refl, sym, ap, ◌∙◌, subst, eq-eqb}
 use Rattle.std.proofs.lemmas.Slice.Eq.{bytes_eq-Decides}
 use Rattle.std.specs.Str.{bytes_eq}
@@ -33,17 +34,19 @@ use Rattle.auc_server.specs.InnerMessages.{IsName}
 use Rattle.auc_server.specs.Messages.{aka_identity, challenge_bytes, reauth_bytes}
 use Rattle.auc_server.specs.Ordinals.{ordinal_given}
 use Rattle.auc_server.specs.Rounds.{checkcode, heard, packet_in}
-use Rattle.auc_server.specs.Rows.{by_auts, if_challenged, in_state, is_type, on_any, on_auts, on_first, on_full, on_head, on_method, on_permanent, on_reading, on_response, read_by, server_row, text_in, type_awaited}
-use Rattle.auc_server.specs.Server.{ServerEnd}
+use Rattle.auc_server.specs.Rows.{by_auts, in_state, is_type, on_any, on_auts, on_challenged, on_first, on_full, on_head, on_method, on_permanent, on_reading, on_response, read_by, server_row, text_in, type_awaited}
+use Rattle.auc_server.specs.Server.{ServerEnd, resumed_of}
 use Rattle.auc_server.specs.Setting.{Setting}
+use Rattle.auc_server.specs.State.{last_of}
 use Rattle.auc_server.specs.Steps.{asking}
-use Rattle.auc_server.specs.Table.{awaiting, challenge_of, challenged, challenged_with, ended, first_challenge, identified, identity_asked, index_after, names_given, next_given, next_id, noted, packets_after, random_at, resumed, resumed_with, resuming, resumption, resynchronised, resynchronising, sent_with, server_does, server_step, silent, succeeded, vector_of_row}
+use Rattle.auc_server.specs.Table.{challenge_of, challenged, challenged_with, ended, first_challenge, identified, identity_asked, index_after, names_given, next_given, next_id, noted, packets_after, random_at, resumed, resumed_with, resuming, resumption, resynchronised, resynchronising, sent_with, server_does, server_step, silent, vector_of_row}
 use Rattle.auc_server.specs.declared.naming.GivenNames.{GivenNames}
 use Rattle.auc_server.specs.declared.options.ServerOptions.{ServerOptions}
 use Rattle.auc_server.specs.declared.reply.Reply.{Reply}
 use Rattle.auc_server.specs.declared.rows.Row.{Row}
 use Rattle.auc_server.specs.declared.rows.Row.TheVariants as row
 use Rattle.auc_server.specs.declared.server.Challenged.{Challenged}
+use Rattle.auc_server.specs.declared.server.Last.{Last}
 use Rattle.auc_server.specs.declared.server.Resumed.{Resumed}
 use Rattle.auc_server.specs.declared.server.ServerState.{ServerState}
 use Rattle.auc_server.specs.declared.server.ServerState.TheVariants as state
@@ -82,16 +85,20 @@ vector_for set o sub home n = vector_of home.secret o.method home.amf o.name hom
 abbrev pub keys_under : ServerOptions → List ℕ → Vector → KeySet
 keys_under o text v = keys_of o.method text v.ik v.ck
 
+-- the challenge of a vector
+abbrev pub sent_as : ServerOptions → ℕ → ℕ → List ℕ → Vector → Master → Option (List ℕ) → Challenged
+sent_as o sub number text v master names = record { sub = sub; number = number; vector = v; keys = keys_under o text v; master = master; next = names }
+
 -- a server that challenged a subscriber awaits the answer
 pub record Awaits (q : ServerEnd) (o : ServerOptions) (sub : ℕ) (text : List ℕ) (id : ℕ) (v : Vector) (synced : Bool) (packets : List (List ℕ)) : Type 0 where
   pub options_are : q.options ≡ o
-  pub awaits_is : q.state ≡ state.AwaitChallenge
   pub id_is : q.id ≡ id
   pub identity_is : q.identity ≡ text
   pub number : ℕ
   pub master : Master
   pub names : Option (List ℕ)
-  pub challenged_is : q.challenged ≡ Some (record { sub = sub; number = number; vector = v; keys = keys_under o text v; master = master; next = names })
+  pub before : Option Resumed
+  pub awaits_is : q.state ≡ state.AwaitChallenge (sent_as o sub number text v master names) before
   pub synced_is : q.synced ≡ synced
   pub packets_are : q.packets ≡ packets
 
@@ -135,13 +142,13 @@ challenges set homes s sub home checked resynced (Some (number.Drew n)) there an
       is = ap (λ (o : Option Vector). challenged_with set.realm s sub n o given notes checked) (ap (vector_of_row set s.options sub n) there);
       awaits = record {
         options_are = refl;
-        awaits_is = refl;
         id_is = refl;
         identity_is = refl;
         number = n;
         master = sent.master;
         names = sent.next;
-        challenged_is = refl;
+        before = resumed_of s;
+        awaits_is = refl;
         synced_is = refl;
         packets_are = refl;
       };
@@ -172,8 +179,8 @@ pub record IsLater (now : ServerState) : Type 0 where
   pub typed : (m : Method) → type_awaited m now ≡ method_type m
   pub read : (set : Setting) (homes : List HomeRow) (q : ServerEnd) (seen : Seen) (said : Reply) (r : Reading) → on_reading set homes q now seen said r ≡ on_method set homes q now seen said r
 
-pub awaits_later : IsLater state.AwaitChallenge
-awaits_later = record { headed = λ set homes q seen said. refl; typed = λ m. refl; read = λ set homes q seen said r. refl }
+pub awaits_later : (sent : Challenged) (before : Option Resumed) → IsLater (state.AwaitChallenge sent before)
+awaits_later sent before = record { headed = λ set homes q seen said. refl; typed = λ m. refl; read = λ set homes q seen said r. refl }
 
 -- one that is received has the Identifier of the request, and the type of the method
 pub awaited : (set : Setting) (homes : List HomeRow) (q : ServerEnd) (seen : Seen) (said : Reply) (o : ServerOptions) (now : ServerState) (id : ℕ) (kind : Subtype) (list : List Attr)
@@ -202,9 +209,9 @@ pub record Expects (q : ServerEnd) (o : ServerOptions) (now : ServerState) (id :
 -- the row of an identity in a state
 abbrev pub identity_row : ServerState → ServerOptions → Setting → List HomeRow → List ℕ → Row
 identity_row state.AwaitIdentity o set homes text = on_first o set homes text
-identity_row state.AwaitAny o set homes text = on_any o.method set homes text
-identity_row state.AwaitFull o set homes text = on_full o.method set homes text
-identity_row state.AwaitPermanent o set homes text = on_permanent o.method set homes text
+identity_row (state.Await request.Any) o set homes text = on_any o.method set homes text
+identity_row (state.Await request.Fullauth) o set homes text = on_full o.method set homes text
+identity_row (state.Await request.Permanent) o set homes text = on_permanent o.method set homes text
 identity_row other o set homes text = row.Ignore reason.Unexpected
 
 -- it came, and these are the AKA-Identity packets after it
@@ -239,19 +246,19 @@ pub record IsRound (now : ServerState) : Type 0 where
   answers : (set : Setting) (homes : List HomeRow) (q : ServerEnd) (seen : Seen) (said : Reply) (id : ℕ) (m : Method) (text : List ℕ)
       → on_method set homes q now seen said (reading.Read (identity_answer m id text)) ≡ identity_row now q.options set homes text
 
-pub any_round : IsRound state.AwaitAny
+pub any_round : IsRound (state.Await request.Any)
 any_round = record {
   later = record { headed = λ set homes q seen said. refl; typed = λ m. refl; read = λ set homes q seen said r. refl };
   answers = λ set homes q seen said id m text. refl;
 }
 
-pub full_round : IsRound state.AwaitFull
+pub full_round : IsRound (state.Await request.Fullauth)
 full_round = record {
   later = record { headed = λ set homes q seen said. refl; typed = λ m. refl; read = λ set homes q seen said r. refl };
   answers = λ set homes q seen said id m text. refl;
 }
 
-pub permanent_round : IsRound state.AwaitPermanent
+pub permanent_round : IsRound (state.Await request.Permanent)
 permanent_round = record {
   later = record { headed = λ set homes q seen said. refl; typed = λ m. refl; read = λ set homes q seen said r. refl };
   answers = λ set homes q seen said id m text. refl;
@@ -279,7 +286,7 @@ identity_comes set homes q seen said o now text id packets round w may is are =
 pub record IsAsk (o : ServerOptions) (id : ℕ) (kind : IdentityRequest) (packets : List (List ℕ)) (turn : ServerEnd × Turn ServerWhy) : Type 0 where
   pub q : ServerEnd
   pub is : turn ≡ (q, record { notes = silent; step = step.Sent (packet_text (aka_identity o.method id kind)); checked = false })
-  pub expects : Expects q o (awaiting kind) id (counted (packet_text (aka_identity o.method id kind)) packets)
+  pub expects : Expects q o (state.Await kind) id (counted (packet_text (aka_identity o.method id kind)) packets)
 
 pub asks : (set : Setting) (homes : List HomeRow) (q : ServerEnd) (seen : Seen) (said : Reply) (o : ServerOptions) (now : ServerState) (text : List ℕ) (id : ℕ) (packets : List (List ℕ)) (kind : IdentityRequest) (notes : Notes)
     → Comes set homes q seen said o now text id packets → identity_row now o set homes text ≡ row.Ask kind → IsAsk o (next_id id) kind packets (server_step set homes q seen said notes)
@@ -291,7 +298,7 @@ asks set homes q seen said o now text id packets kind notes w ask =
     let after : ServerEnd = record q {
       identity = text_in seen.reading;
       packets = counted (identity_asked q kind) all;
-      state = awaiting kind;
+      state = state.Await kind;
       id = next_id q.id;
       last = identity_asked q kind;
     } in
@@ -330,10 +337,9 @@ challenges_first set homes q seen said o now text id packets sub home notes w ch
 -- a server that sent a re-authentication awaits the answer
 pub record AwaitsReply (q : ServerEnd) (o : ServerOptions) (text : List ℕ) (id : ℕ) (r : Resumed) (packets : List (List ℕ)) : Type 0 where
   pub options_are : q.options ≡ o
-  pub awaits_is : q.state ≡ state.AwaitReauth
+  pub awaits_is : q.state ≡ state.AwaitReauth r
   pub id_is : q.id ≡ id
   pub identity_is : q.identity ≡ text
-  pub resumed_is : q.resumed ≡ Some r
   pub synced_is : q.synced ≡ false
   pub packets_are : q.packets ≡ packets
 
@@ -359,7 +365,7 @@ resumes set homes q seen said o now text id packets sub c notes w resume has =
     let iv = random_at set q q.next_iv in
     let check = checkcode q.options.method packets in
     let own = reauth_bytes q.options.method set.realm (next_id q.id) iv r check in
-    let after : ServerEnd = record s { resumed = Some r; next_iv = index_after (index_after q.next_iv); state = state.AwaitReauth; id = next_id q.id; last = own } in
+    let after : ServerEnd = record s { next_iv = index_after (index_after q.next_iv); state = state.AwaitReauth r; id = next_id q.id; last = own } in
     let sends : List ℕ → ServerEnd × Turn ServerWhy = λ b. (after, record { notes = resuming c.counter; step = step.Sent b; checked = false }) in
     record {
       r = r;
@@ -381,7 +387,6 @@ resumes set homes q seen said o now text id packets sub c notes w resume has =
         awaits_is = refl;
         id_is = ap next_id w.id_is;
         identity_is = refl;
-        resumed_is = refl;
         synced_is = w.synced_is;
         packets_are = refl;
       };
@@ -403,16 +408,16 @@ challenges_small set homes q seen said o text id r packets sub home notes w row_
 
 -- RES is XRES, AT_MAC is right, and AT_CHECKCODE is of the same packets
 response_row : (set : Setting) (homes : List HomeRow) (s : ServerEnd) (seen : Seen) (said : Reply) (o : ServerOptions) (sub : ℕ) (text : List ℕ) (id : ℕ) (v : Vector) (synced : Bool) (packets : List (List ℕ)) (mac : List ℕ)
-    → Awaits s o sub text id v synced packets → Is seen (with_mac (draft_of o.method id (attr.Res v.xres ∷ attr.Checkcode (checkcode o.method packets) ∷ [])) mac)
-    → is_sealed o.method (keys_under o text v).k_aut [] seen ≡ true → server_row set homes s seen said ≡ row.Success
+    → (w : Awaits s o sub text id v synced packets) → Is seen (with_mac (draft_of o.method id (attr.Res v.xres ∷ attr.Checkcode (checkcode o.method packets) ∷ [])) mac)
+    → is_sealed o.method (keys_under o text v).k_aut [] seen ≡ true → server_row set homes s seen said ≡ row.Success (sent_as o sub w.number text v w.master w.names)
 response_row set homes s seen said o sub text id v synced packets mac w is right =
     let code = checkcode o.method packets in
     let list = attr.Res v.xres ∷ attr.Checkcode code ∷ attr.Mac mac ∷ [] in
-    let sent : Challenged = record { sub = sub; number = w.number; vector = v; keys = keys_under o text v; master = w.master; next = w.names } in
-    let wrong : Bool → Row = λ b. if not b then row.WrongCheckcode else row.Success in
+    let sent = sent_as o sub w.number text v w.master w.names in
+    let wrong : Bool → Row = λ b. if not b then row.WrongCheckcode else row.Success sent in
     let unexpected : Bool → Row = λ b. if not b then row.WrongRes else wrong (bytes_eq code code) in
-    awaited set homes s seen said o state.AwaitChallenge id subtype.Challenge list awaits_later w.options_are w.awaits_is w.id_is is ∙ ap (on_method set homes s state.AwaitChallenge seen said) is.packet_is
-    ∙ ap (λ (c : Option Challenged). if_challenged set s c seen subtype.Challenge list) w.challenged_is
+    awaited set homes s seen said o (state.AwaitChallenge sent w.before) id subtype.Challenge list (awaits_later sent w.before) w.options_are w.awaits_is w.id_is is
+    ∙ ap (on_method set homes s (state.AwaitChallenge sent w.before) seen said) is.packet_is
     ∙ ap (λ (x : ServerOptions). on_response x.method s.packets sent seen list) w.options_are
     ∙ ap (λ (l : List (List ℕ)). on_response o.method l sent seen list) w.packets_are
     ∙ ap (λ (b : Bool). if not b then row.WrongMac else unexpected (bytes_eq v.xres v.xres)) right
@@ -423,7 +428,8 @@ pub record Wins (set : Setting) (homes : List HomeRow) (s : ServerEnd) (seen : S
   pub q : ServerEnd
   pub won : Notes
   pub turn : server_step set homes s seen said notes ≡ (q, record { notes = won; step = step.Ended (outcome.Success (keys_under o text v)) (packet_text (packet.Success id)); checked = true })
-  pub ended_is : q.state ≡ state.Ended (outcome.Success (keys_under o text v))
+  pub last : Last
+  pub ended_is : q.state ≡ state.Ended (outcome.Success (keys_under o text v)) last
 
 pub wins : (set : Setting) (homes : List HomeRow) (s : ServerEnd) (seen : Seen) (said : Reply) (o : ServerOptions) (sub : ℕ) (text : List ℕ) (id : ℕ) (v : Vector) (synced : Bool) (packets : List (List ℕ)) (mac : List ℕ) (notes : Notes)
     → Awaits s o sub text id v synced packets → Is seen (with_mac (draft_of o.method id (attr.Res v.xres ∷ attr.Checkcode (checkcode o.method packets) ∷ [])) mac)
@@ -435,7 +441,8 @@ wins set homes s seen said o sub text id v synced packets mac notes w is right =
     record {
       q = (over id).0;
       won = (over id).1.notes;
-      turn = ap (λ (r : Row). server_does set homes s (text_in seen.reading) (packets_after s seen r) r notes) row_is ∙ ap (succeeded s) w.challenged_is ∙ ap over w.id_is;
+      turn = ap (λ (r : Row). server_does set homes s (text_in seen.reading) (packets_after s seen r) r notes) row_is ∙ ap over w.id_is;
+      last = last_of s.state;
       ended_is = refl;
     }
 
@@ -457,12 +464,12 @@ sync_row set homes s seen said o sub home text id n packets sqn w there is =
     let v = vector_for set o sub home n in
     let answer = auts home.secret.k home.secret.opc (rand_of set.key sub n) sqn in
     let list = attr.Auts answer ∷ own_kdf o.method in
-    let sent : Challenged = record { sub = sub; number = w.number; vector = v; keys = keys_under o text v; master = w.master; next = w.names } in
+    let sent = sent_as o sub w.number text v w.master w.names in
     let kind = subtype.SynchronizationFailure in
-    awaited set homes s seen said o state.AwaitChallenge id kind list awaits_later w.options_are w.awaits_is w.id_is is ∙ ap (on_method set homes s state.AwaitChallenge seen said) is.packet_is
-    ∙ ap (λ (x : ServerOptions). if is_malformed kind false x.method list then row.Ignore reason.Malformed else if_challenged set s s.challenged seen kind list) w.options_are
-    ∙ ap (λ (b : Bool). if b then row.Ignore reason.Malformed else if_challenged set s s.challenged seen kind list) (sync_sound o.method answer)
-    ∙ ap (λ (c : Option Challenged). if_challenged set s c seen kind list) w.challenged_is
+    awaited set homes s seen said o (state.AwaitChallenge sent w.before) id kind list (awaits_later sent w.before) w.options_are w.awaits_is w.id_is is
+    ∙ ap (on_method set homes s (state.AwaitChallenge sent w.before) seen said) is.packet_is
+    ∙ ap (λ (x : ServerOptions). if is_malformed kind false x.method list then row.Ignore reason.Malformed else on_challenged set s sent seen kind list) w.options_are
+    ∙ ap (λ (b : Bool). if b then row.Ignore reason.Malformed else on_challenged set s sent seen kind list) (sync_sound o.method answer)
     ∙ ap (λ (b : Bool). if b then row.SecondSync else on_auts set sent (Some answer)) w.synced_is
     ∙ ap (read_by sent answer) there
 

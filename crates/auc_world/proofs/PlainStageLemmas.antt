@@ -16,11 +16,12 @@ use Rattle.auc_server.specs.Messages.{aka_identity, reauth_bytes}
 use Rattle.auc_server.specs.Rounds.{checkcode}
 use Rattle.auc_server.specs.Server.{ServerEnd, started}
 use Rattle.auc_server.specs.Setting.{Setting}
-use Rattle.auc_server.specs.Table.{awaiting, next_id}
+use Rattle.auc_server.specs.Table.{next_id}
 use Rattle.auc_server.specs.declared.naming.GivenNames.{GivenNames}
 use Rattle.auc_server.specs.declared.reply.Reply.{Reply}
 use Rattle.auc_server.specs.declared.server.Resumed.{Resumed}
 use Rattle.auc_server.specs.declared.server.ServerState.{ServerState}
+use Rattle.auc_server.specs.declared.server.ServerState.TheVariants as state
 use Rattle.auc_server.specs.declared.setting.HomeRow.{HomeRow}
 use Rattle.auc_subs.specs.Subscriber.{AreSubscribers, IsRow}
 use Rattle.auc_subs.specs.declared.row.Row as rows
@@ -79,7 +80,7 @@ pub record Asked (set : Setting) (opening : SessionLine) (number : ℕ) (s : Ses
   pub p : Peer
   pub text : List ℕ
   pub packets : List (List ℕ)
-  pub expects : Expects q (server_options opening) (awaiting kind) id (counted (packet_text (aka_identity opening.method id kind)) packets)
+  pub expects : Expects q (server_options opening) (state.Await kind) id (counted (packet_text (aka_identity opening.method id kind)) packets)
   pub waits : Waits opening p text packets id
   pub way : OnWay set Early number end.Peer (with_ends s q p) (device_of set home) keeps (packet_text (aka_identity opening.method id kind)) 1 next
 

@@ -7,7 +7,7 @@ use Rattle.auc_packet.specs.Received.{Seen}
 use Rattle.auc_peer.specs.Subscription.{Subscription}
 use Rattle.auc_peer.specs.Table.{peer_step}
 use Rattle.auc_reauth.specs.Device.{Keeps}
-use Rattle.auc_server.specs.Server.{ServerEnd}
+use Rattle.auc_server.specs.Server.{ServerEnd, resumed_of}
 use Rattle.auc_server.specs.Setting.{Setting}
 use Rattle.auc_server.specs.Table.{server_step}
 use Rattle.auc_server.specs.declared.reply.Reply.{Reply}
@@ -42,7 +42,7 @@ one_server : (a b : ServerEnd) → ◌≡◌ {A = Option ServerEnd} (Some a) (So
 one_server a b e = cc
 
 -- so is the one that took a context up again
-pub at_end : (next : Net) (number : ℕ) (P : ServerEnd → Type 0) (r : Resumed) → EndsSo next number P → HasResumed next number r → (q : ServerEnd) × P q × (q.resumed ≡ Some r)
+pub at_end : (next : Net) (number : ℕ) (P : ServerEnd → Type 0) (r : Resumed) → EndsSo next number P → HasResumed next number r → (q : ServerEnd) × P q × (resumed_of q ≡ Some r)
 at_end next number P r ends has =
     let same = one_session ends.own has.own (sym ends.is ∙ has.is) in
     let server = one_server ends.server has.server (sym ends.started ∙ ap (λ (s : Session). s.server) same ∙ has.started) in
@@ -113,7 +113,7 @@ module _ (set : Setting) (number : ℕ) (device : Subscription) (next : Net) (P 
 -- a server that takes up no context any more, with what it took up before
 pub record IsSettled (r : Option Resumed) (q : ServerEnd) : Type 0 where
   pub past : is_past q.state ≡ true
-  pub resumed : q.resumed ≡ r
+  pub resumed : resumed_of q ≡ r
 
 pub settled_stays : (set : Setting) (r : Option Resumed) → IsKept set (IsSettled r)
 settled_stays set r homes q seen said notes so =

@@ -9,7 +9,7 @@ use Rattle.auc_server.specs.Table.{vector_at}
 use Rattle.auc_server.specs.declared.server.Resumed.{Resumed}
 use Rattle.auc_subs.specs.Subscriber.{AreSubscribers, top_at}
 use Rattle.auc_world.specs.Agreement.{AreOfOneChallenge, AreReleasedOnce, AreSized, AreTold, Happening, HaveSecrets, IsFresh, IsRealm, PeerWon, ServerWon, after}
-use Rattle.auc_world.specs.Net.{Net, inputs_accepted, inputs_of_peer}
+use Rattle.auc_world.specs.Net.{Net, inputs_of_peer}
 use Rattle.auc_world.specs.Resumption.{resumptions}
 use Rattle.auc_world.specs.Setting.{Setting}
 use Rattle.auc_world.specs.declared.net.FastInputs.{FastInputs}
@@ -18,7 +18,7 @@ use Rattle.auc_world.specs.declared.net.Inputs.TheVariants as inputs_of
 use Rattle.auc_world.specs.declared.net.Session.{Session}
 use Rattle.auc_world.proofs.AgainLemmas.{AgainOf, AllLaws, at_place_of, begins_again, both_hold, peer_inputs, server_inputs}
 use Rattle.auc_world.proofs.AgainListLemmas.{is_resumed}
-use Rattle.auc_world.proofs.AgreementLemmas.{HoldsOf, IsDrawn, IsPosted, Laws, SessionFine, begins, inputs_at, not_resumed, one_full, one_number}
+use Rattle.auc_world.proofs.AgreementLemmas.{HoldsOf, IsDrawn, IsPosted, Laws, SessionFine, accepted_inputs, begins, inputs_at, not_resumed, one_full, one_number}
 use Rattle.auc_world.proofs.PremiseLemmas.{honest_run}
 
 -- what holds of a network after an unbroken run from its beginning
@@ -47,8 +47,7 @@ peer_success_is_drawn set w b keys j h there won =
     let c = done.is.challenge in
     let p = b.peer in
     let same : inputs_at b.sub c p ≡ j = one_full (inputs_of_peer b.sub p) (inputs_at b.sub c p) j
-    (ap (λ (x : Option Challenge). inputs_accepted p.options.method p.network b.sub p.identity x p.resumed) done.is.was_accepted
-    ∙ ap (λ (x : Option Context). inputs_accepted p.options.method p.network b.sub p.identity (Some c) x) alone) won.inputs in
+    (accepted_inputs p b.sub c done.is.was_accepted) won.inputs in
     h.drawn j (subst (IsPosted w.packets) same done.is.was_posted)
 
 -- inputs of a re-authentication are those of one that a server of the job took up

@@ -13,7 +13,7 @@ use Rattle.auc_released.specs.declared.numbers.Number.{Number}
 use Rattle.auc_server.proofs.Facts.{IsReported, asked_is, sub_asked}
 use Rattle.auc_server.specs.Asked.{asked_after}
 use Rattle.auc_server.specs.Rows.{server_row}
-use Rattle.auc_server.specs.Server.{ServerEnd}
+use Rattle.auc_server.specs.Server.{ServerEnd, challenged_of}
 use Rattle.auc_server.specs.Setting.{Setting}
 use Rattle.auc_server.specs.Steps.{Steps, asking}
 use Rattle.auc_server.specs.Table.{homes_after, silent}
@@ -89,10 +89,10 @@ has_packet packets (suc place) first last =
 pub end_missing : (packets : List SentPacket) (packet : ℕ) → 1 ≤ packet → packet ≤ length packets → refused.NoSuchEnd ≡ refusal_of (packet_at packets packet)
 end_missing packets packet first last = ap refusal_of (sym (has_packet packets packet first last).of_number)
 
--- the place of a packet that is there
-pub near_within : (packet : ℕ) (read packets : List SentPacket) → read ≡ packets → 1 ≤ packet → packet ≤ length packets → packet - 1 < length read
-near_within packet read packets same first last =
-    let size : length read ≡ length packets = ap (λ (ps : List SentPacket). length ps) same in omega (arith, first, last, size)
+-- the number of a packet that is there
+pub reaches_last : (packet : ℕ) (read packets : List SentPacket) → read ≡ packets → packet ≤ length packets → packet ≤ length read
+reaches_last packet read packets same last =
+    let size : length read ≡ length packets = ap (λ (ps : List SentPacket). length ps) same in omega (arith, last, size)
 
 -- a packet that was read at its place
 pub packet_read : (packets read : List SentPacket) (packet : ℕ) (sent : SentPacket) → read ≡ packets → 1 ≤ packet → packet ≤ length packets → sent ≡ get_or read (packet - 1) sent
@@ -150,7 +150,7 @@ module _ {S : Type 0} (goes : S → ℕ → List Entry → List (ℕ × Stop) �
     asked_for : asked_after set homes new turn.notes.resync turn.notes.number ≡ asked_sub asks
     asked_for =
         ap (λ (x : ServerEnd × Turn ServerWhy). asked_after set homes x.0 turn.notes.resync turn.notes.number) steps.same
-        ∙ asked_is set homes s steps.seen steps.reply turn.notes fits steps.drawn (reported_of asks turn.notes before after steps.asked) (ap (λ (x : ServerEnd × Turn ServerWhy). x.1.notes) (sym steps.same))
+        ∙ asked_is set homes s steps.seen steps.reply turn.notes steps.drawn (reported_of asks turn.notes before after steps.asked) (ap (λ (x : ServerEnd × Turn ServerWhy). x.1.notes) (sym steps.same))
         ∙ same_sub asks
 
     -- the network after a turn
@@ -168,7 +168,7 @@ module _ {S : Type 0} (goes : S → ℕ → List Entry → List (ℕ × Stop) �
         → asked ≡ asked_after set served new turn.notes.resync turn.notes.number → released' ≡ noted ++ released_for asked turn.notes.number
         → broken' ≡ judged looked broken (Some (record { checked = turn.checked; inputs = inputs_before; bytes = bytes; delivery = breach_at d0 end.Server }))
         → sessions' ≡ slice_set sessions place (record session { server = Some new })
-        → (vector : Option Vector) → vector ≡ vector_sent turn.notes.number new.challenged
+        → (vector : Option Vector) → vector ≡ vector_sent turn.notes.number (challenged_of new)
         → (note : Note) → note ≡ record { notes = turn.notes; step = did.Server turn.step; packet = posted_as; asked = asked; device = None; vector = vector }
         → Serves goes kept top set old d0 before (state_of packets' sessions' released' homes' broken' devices) (Ok note) after
     serves read looked packets' sessions' noted released' served homes' broken' inputs inputs_before sent asked posted_as is_read is_looked is_noted is_served is_homes is_before is_inputs is_sent is_packets is_posted is_asked is_released is_broken is_sessions vector is_vector note is_note =
@@ -189,11 +189,11 @@ module _ {S : Type 0} (goes : S → ℕ → List Entry → List (ℕ × Stop) �
         let number_is : posted_as ≡ packet_number old.net (sent_by turn.step) =
         is_posted ∙ ap (λ (ps : List SentPacket). number_after ps sent) is_read ∙ ap (number_after packets) is_sent ∙ sym (numbered old.net packets (sent_by turn.step) refl) in
         let note_is : record { notes = turn.notes; step = did.Server turn.step; packet = posted_as; asked = asked; device = None; vector = vector }
-        ≡ by_server old.net turn.notes turn.step asks (vector_sent turn.notes.number new.challenged) =
+        ≡ by_server old.net turn.notes turn.step asks (vector_sent turn.notes.number (challenged_of new)) =
         λ j. record { notes = turn.notes; step = did.Server turn.step; packet = number_is j; asked = for_whom j; device = None; vector = is_vector j } in
         record {
           told = told;
-          is = ap (λ (n : Note). Ok n) (is_note ∙ note_is) ∙ ap (λ (x : ServerEnd × Turn ServerWhy). Ok (by_server old.net x.1.notes x.1.step asks (vector_sent x.1.notes.number x.0.challenged))) steps.same ∙ ap (came_at_server set old.net told) (sym is);
+          is = ap (λ (n : Note). Ok n) (is_note ∙ note_is) ∙ ap (λ (x : ServerEnd × Turn ServerWhy). Ok (by_server old.net x.1.notes x.1.step asks (vector_sent x.1.notes.number (challenged_of x.0)))) steps.same ∙ ap (came_at_server set old.net told) (sym is);
           leads = net_is ∙ ap after_turn steps.same
               ∙ ap (λ (o : Option ServerEnd). record (to_server set old.net d0 told o) { broken = judged packets broken (server_finds set old.net d0 told o) }) (sym is);
           received = subst (λ (o : Option ServerEnd). AreReceived (received_by sent_packet.bytes o) steps.seen) (sym is) (steps.received, steps.of ∙ of_packet);

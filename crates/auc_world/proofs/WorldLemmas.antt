@@ -1,5 +1,5 @@
 -- For `acting` and `world`: networks in which one session or one device changes.
-use Rattle.std.proofs.Common.{◌≡◌, ◌≤◌, ℕ, ◌==◌, true, false, List, [], ◌∷◌, ◌++◌, length, map, zero, suc, Option, Some, None, Result, Ok, Err, is_some, true≢false, refl, sym, ap, ◌∙◌, subst, arith, All}
+use Rattle.std.proofs.Common.{◌≡◌, ℕ, ◌==◌, true, false, List, [], ◌∷◌, ◌++◌, map, zero, suc, Option, Some, None, Result, Ok, Err, is_some, true≢false, refl, sym, ap, ◌∙◌, subst, arith, All}
 use Rattle.std.specs.Prelude.{OnErr, slice_get, slice_set}
 use Rattle.std.specs.List.{position, position_or_len}
 use Rattle.std.proofs.lemmas.Bool.Decides.{nat_tests}
@@ -28,7 +28,7 @@ use Rattle.auc_world.specs.declared.event.WorldRefusal.TheVariants as refused
 use Rattle.auc_world.specs.declared.net.Breach.{Breach}
 use Rattle.auc_world.specs.declared.net.SentPacket.{SentPacket}
 use Rattle.auc_world.specs.declared.net.Session.{Session}
-use Rattle.auc_world.specs.declared.places.DeviceKey.{DeviceKey}
+use Rattle.auc_edge.specs.declared.identity_key.IdentityKey.{IdentityKey}
 
 -- ---- lists
 
@@ -93,7 +93,7 @@ module _ (w : Net) (number place : ℕ) (session changed : Session) (sent : List
 
 -- ---- what is kept
 
-module _ (numbers : List ℕ) (found : DeviceKey → Option ℕ) (packets : List SentPacket) (sessions : List Session) (released : List Number) (homes : List HomeRow)
+module _ (numbers : List ℕ) (found : IdentityKey → Option ℕ) (packets : List SentPacket) (sessions : List Session) (released : List Number) (homes : List HomeRow)
     (broken : Option Breach) (devices : List Device) (kept : IsKept numbers found (state_of packets sessions released homes broken devices)) where
   -- a session changes, but not its number
   pub kept_session : (numbers' : List ℕ) (packets' : List SentPacket) (sessions' : List Session) (released' : List Number) (broken' : Option Breach) (place : ℕ) (session changed : Session)
@@ -103,7 +103,6 @@ module _ (numbers : List ℕ) (found : DeviceKey → Option ℕ) (packets : List
     world = record {
       subscriptions = refl;
       stores = refl;
-      realms = kept.world.realms;
       held = subst (All (λ s. HasHeld homes s.server)) (sym same_sessions) (All-set (λ s. HasHeld homes s.server) sessions place changed held kept.world.held);
       names = subst (All (λ s. IsName s.options.name)) (sym same_sessions)
           (All-set (λ s. IsName s.options.name) sessions place changed
@@ -121,9 +120,6 @@ module _ (numbers : List ℕ) (found : DeviceKey → Option ℕ) (packets : List
     world = record {
       subscriptions = refl;
       stores = refl;
-      realms = All-set (λ d. length d.realm ≤ 255) devices place card
-          (subst (λ (realm : List ℕ). length realm ≤ 255) (ap (λ (s : Subscription). s.realm) (sym same)) (of_all (λ (d : Device). length d.realm ≤ 255) devices place device kept.world.realms there))
-          kept.world.realms;
       held = kept.world.held;
       names = kept.world.names;
     };
@@ -245,7 +241,7 @@ module _ (packets : List SentPacket) (sessions : List Session) (released : List 
       ∙ ap (λ (p : Option ℕ). record now { net = opened now.net opening None p }) here
       ∙ ap (λ (f : Option ℕ). record now { net = opened now.net opening f place }) (sym none_now)
 
-pub kept_opened : (numbers : List ℕ) (found : DeviceKey → Option ℕ) (packets : List SentPacket) (sessions : List Session) (released : List Number) (homes : List HomeRow)
+pub kept_opened : (numbers : List ℕ) (found : IdentityKey → Option ℕ) (packets : List SentPacket) (sessions : List Session) (released : List Number) (homes : List HomeRow)
     (broken : Option Breach) (devices : List Device) → IsKept numbers found (state_of packets sessions released homes broken devices)
     → (numbers' : List ℕ) (sessions' : List Session) (session : Session) → numbers' ≡ numbers ++ session.number ∷ [] → sessions' ≡ sessions ++ session ∷ [] → session.server ≡ None
     → IsName session.options.name
@@ -254,7 +250,6 @@ kept_opened numbers found packets sessions released homes broken devices kept nu
   world = record {
     subscriptions = refl;
     stores = refl;
-    realms = kept.world.realms;
     held = subst (All (λ (s : Session). HasHeld homes s.server)) (sym same_sessions)
         (All-push (λ (s : Session). HasHeld homes s.server) sessions session kept.world.held (subst (HasHeld homes) (sym none) tt));
     names = subst (All (λ (s : Session). IsName s.options.name)) (sym same_sessions)
@@ -284,21 +279,20 @@ pub served_states : (packets packets' : List SentPacket) (sessions sessions' : L
 served_states packets packets' sessions sessions' released released' homes homes' broken devices p s r h = λ j. state_of (p j) (s j) (r j) (h j) broken devices
 
 -- the homes stay
-pub kept_homes : (numbers : List ℕ) (found : DeviceKey → Option ℕ) (packets : List SentPacket) (sessions : List Session) (released : List Number) (homes homes' : List HomeRow)
+pub kept_homes : (numbers : List ℕ) (found : IdentityKey → Option ℕ) (packets : List SentPacket) (sessions : List Session) (released : List Number) (homes homes' : List HomeRow)
     (broken : Option Breach) (devices : List Device) → homes' ≡ homes → IsKept numbers found (state_of packets sessions released homes broken devices)
     → IsKept numbers found (state_of packets sessions released homes' broken devices)
 kept_homes numbers found packets sessions released homes homes' broken devices same kept =
     subst (λ (h : List HomeRow). IsKept numbers found (state_of packets sessions released h broken devices)) (sym same) kept
 
 -- or are those of the same subscribers
-pub kept_alike : (numbers : List ℕ) (found : DeviceKey → Option ℕ) (packets : List SentPacket) (sessions : List Session) (released : List Number) (homes homes' : List HomeRow)
+pub kept_alike : (numbers : List ℕ) (found : IdentityKey → Option ℕ) (packets : List SentPacket) (sessions : List Session) (released : List Number) (homes homes' : List HomeRow)
     (broken : Option Breach) (devices : List Device) → AreOfSame homes homes' → IsKept numbers found (state_of packets sessions released homes broken devices)
     → IsKept numbers found (state_of packets sessions released homes' broken devices)
 kept_alike numbers found packets sessions released homes homes' broken devices same kept = record {
   world = record {
     subscriptions = refl;
     stores = refl;
-    realms = kept.world.realms;
     held = All-weaker (λ (s : Session). HasHeld homes s.server) (λ (s : Session). HasHeld homes' s.server) (λ s held. held_alike homes homes' s.server same held) sessions kept.world.held;
     names = kept.world.names;
   };

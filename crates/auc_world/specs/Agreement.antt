@@ -12,6 +12,7 @@ use Rattle.auc_reauth.specs.declared.context.Context.{Context}
 use Rattle.auc_server.specs.Ordinals.{home_at}
 use Rattle.auc_server.specs.Server.{ServerEnd}
 use Rattle.auc_server.specs.Setting.{Setting}
+use Rattle.auc_server.specs.declared.server.Last.{Last}
 use Rattle.auc_server.specs.declared.server.ServerState.TheVariants as state
 use Rattle.auc_server.specs.declared.setting.HomeRow.{HomeRow}
 use Rattle.auc_subs.specs.Subscriber.{AreSubscribers, top_at}
@@ -172,7 +173,8 @@ AreOfOne i j = ⊥
 pub record ServerWon (a : Session) (keys : KeySet) (i : Inputs) : Type 0 where
   pub server : ServerEnd
   pub is : a.server ≡ Some server
-  pub won : server.state ≡ state.Ended (outcome.Success keys)
+  pub last : Last
+  pub won : server.state ≡ state.Ended (outcome.Success keys) last
   pub inputs : inputs_of_server server ≡ Some i
 
 -- and so did the peer of a session

@@ -11,7 +11,7 @@ use Rattle.auc_peer.specs.declared.peer.Challenge.{Challenge}
 use Rattle.auc_peer.specs.declared.why.PeerWhy.{PeerWhy}
 use Rattle.auc_server.specs.Replies.{Replies}
 use Rattle.auc_server.specs.Rows.{server_row}
-use Rattle.auc_server.specs.Server.{ServerEnd, started}
+use Rattle.auc_server.specs.Server.{ServerEnd, challenged_of, started}
 use Rattle.auc_server.specs.Setting.{Setting}
 use Rattle.auc_server.specs.Steps.{AsksAsNeeded, asking}
 use Rattle.auc_server.specs.Table.{gave_up as server_gave_up, repeated, silent}
@@ -91,7 +91,7 @@ abbrev pub came_at_server : Setting → Net → Told → Option ServerEnd → Ca
 came_at_server set w told None = Err refused.NoSuchEnd
 came_at_server set w told (Some s) =
     let turn = server_turn set w s told in
-    Ok (by_server w turn.1.notes turn.1.step (asking_at set w told (Some s)) (vector_sent turn.1.notes.number turn.0.challenged))
+    Ok (by_server w turn.1.notes turn.1.step (asking_at set w told (Some s)) (vector_sent turn.1.notes.number (challenged_of turn.0)))
 
 abbrev pub came_at_peer : Setting → Net → Delivery → Told → Option Subscription → Came
 came_at_peer set w d told None = Err refused.NoSuchEnd
@@ -226,7 +226,7 @@ AsksWhatItNeeds set w other told = Unit {0}
 -- what a server that received something made of the reply to its re-authentication
 abbrev pub RepliesAt : Told → Option ServerEnd → Type 0
 RepliesAt told None = Unit {0}
-RepliesAt told (Some s) = Replies s.resumed told.seen.reading told.reply
+RepliesAt told (Some s) = Replies s.state told.seen.reading told.reply
 
 abbrev pub RepliesIn : End → Told → Option Delivery → Type 0
 RepliesIn at' told None = Unit {0}

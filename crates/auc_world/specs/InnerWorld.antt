@@ -1,8 +1,10 @@
 -- What only private contracts of this crate cite: how a job's network is kept, and what an end does by itself.
-use Rattle.std.specs.Prelude.{ℕ, ◌≡◌, ◌<◌, ◌≤◌, ◌+◌, ◌-◌, ◌^◌, ◌==◌, ◌&&◌, Bool, List, [], ◌∷◌, map, length, position, Option, Some, None, slice_get, slice_set, take}
+use Rattle.std.specs.Prelude.{ℕ, ◌≡◌, ◌<◌, ◌≤◌, ◌+◌, ◌-◌, ◌^◌, List, [], ◌∷◌, map, length, position, Option, Some, None, slice_get, slice_set, take}
 use Rattle.std.specs.Global.{Vec}
 use Rattle.std.specs.Vec.{vec_len, vec_capacity}
 use Rattle.auc_edge.specs.Identity.{Identity}
+pub use Rattle.auc_edge.specs.IdentityKey.{is_key, key_of}
+use Rattle.auc_edge.specs.declared.identity_key.IdentityKey.{IdentityKey}
 use Rattle.auc_edge.specs.declared.stop.Stop.{Stop}
 use Rattle.auc_history.specs.declared.entry.Entry.{Entry}
 use Rattle.auc_peer.specs.Subscription.{Subscription, subscription_of}
@@ -27,7 +29,6 @@ use Rattle.auc_world.specs.declared.event.WorldRefusal.TheVariants as refused
 use Rattle.auc_world.specs.declared.net.Breach.{Breach}
 use Rattle.auc_world.specs.declared.net.SentPacket.{SentPacket}
 use Rattle.auc_world.specs.declared.net.Session.{Session}
-use Rattle.auc_world.specs.declared.places.DeviceKey.{DeviceKey}
 
 -- ---- places
 
@@ -35,19 +36,12 @@ use Rattle.auc_world.specs.declared.places.DeviceKey.{DeviceKey}
 abbrev pub AreNumbered : List ℕ → List Session → Type 0
 AreNumbered numbers sessions = numbers ≡ map (λ s. s.number) sessions
 
-abbrev pub key_of : Identity → DeviceKey
-key_of imsi = record { digits = imsi.digits; number = imsi.number }
-
--- whether two keys are one
-abbrev pub is_key : DeviceKey → DeviceKey → Bool
-is_key a b = (a.digits == b.digits) && (a.number == b.number)
-
 -- the first device with an identity
 abbrev pub device_with : List Subscription → Identity → Option ℕ
 device_with devices imsi = position (λ device. same_identity device.imsi imsi) devices
 
 -- look-ups by an identity's key find the first device with it
-abbrev pub ArePlaced : (DeviceKey → Option ℕ) → List Subscription → Type 0
+abbrev pub ArePlaced : (IdentityKey → Option ℕ) → List Subscription → Type 0
 ArePlaced found devices = (imsi : Identity) → found (key_of imsi) ≡ device_with devices imsi
 
 -- ---- a job's network with its devices, as it is kept
@@ -67,7 +61,7 @@ state_of packets sessions released homes broken devices = record {
 }
 
 -- sessions are found by their numbers, and devices by their identities' keys
-pub record IsKept (numbers : List ℕ) (found : DeviceKey → Option ℕ) (w : WorldState) : Type 0 where
+pub record IsKept (numbers : List ℕ) (found : IdentityKey → Option ℕ) (w : WorldState) : Type 0 where
   pub world : IsWorld w
   pub numbered : AreNumbered numbers w.net.sessions
   pub placed : ArePlaced found w.net.devices

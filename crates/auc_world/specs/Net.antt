@@ -8,11 +8,12 @@ use Rattle.auc_hmac.specs.declared.method.Method.{Method}
 use Rattle.auc_hmac.specs.declared.method.Method.TheVariants as method
 use Rattle.auc_peer.specs.Subscription.{Subscription}
 use Rattle.auc_peer.specs.Table.{text_or_none}
-use Rattle.auc_peer.specs.declared.peer.Challenge.{Challenge}
 use Rattle.auc_peer.specs.declared.peer.Peer.{Peer}
+use Rattle.auc_peer.specs.declared.peer.Source.{Source}
+use Rattle.auc_peer.specs.declared.peer.Source.TheVariants as source
 use Rattle.auc_reauth.specs.Device.{Keeps, nothing_kept}
 use Rattle.auc_reauth.specs.declared.context.Context.{Context}
-use Rattle.auc_server.specs.Server.{ServerEnd}
+use Rattle.auc_server.specs.Server.{ServerEnd, challenged_of, resumed_of}
 use Rattle.auc_server.specs.declared.server.Challenged.{Challenged}
 use Rattle.auc_server.specs.declared.server.Resumed.{Resumed}
 use Rattle.auc_server.specs.declared.setting.HomeRow.{HomeRow}
@@ -73,24 +74,24 @@ inputs_sent m name text (Some sent) r = Some (inputs.Full (record {
 }))
 
 abbrev pub inputs_of_server : ServerEnd → Option Inputs
-inputs_of_server s = inputs_sent s.options.method s.options.name s.identity s.challenged s.resumed
+inputs_of_server s = inputs_sent s.options.method s.options.name s.identity (challenged_of s) (resumed_of s)
 
--- a peer's, at its subscriber's device: those of the context under which it found a right MAC, if it did so after the challenge
--- that it accepted last; else those of that challenge, by its method and the name in that challenge
-abbrev pub inputs_accepted : Method → List ℕ → ℕ → Option (List ℕ) → Option Challenge → Option Context → Option Inputs
-inputs_accepted m name sub text accepted (Some c) = Some (inputs.Fast (inputs_of_context m sub (text_or_none text) c))
-inputs_accepted m name sub text None None = None
-inputs_accepted m name sub text (Some c) None = Some (inputs.Full (record {
+-- a peer's, at its subscriber's device: those of the context under which it found a right MAC, or of the challenge that it
+-- accepted, by its method and the name in that challenge, whichever came last
+abbrev pub inputs_from : Method → ℕ → List ℕ → Source → Option Inputs
+inputs_from m sub text source.Nothing = None
+inputs_from m sub text (source.Challenge c name) = Some (inputs.Full (record {
   method = m;
   name = name;
   sub = sub;
   rand = c.rand;
   autn = c.autn;
-  identity = text_or_none text;
+  identity = text;
 }))
+inputs_from m sub text (source.Context c) = Some (inputs.Fast (inputs_of_context m sub text c))
 
 abbrev pub inputs_of_peer : ℕ → Peer → Option Inputs
-inputs_of_peer sub p = inputs_accepted p.options.method p.network sub p.identity p.accepted p.resumed
+inputs_of_peer sub p = inputs_from p.options.method sub (text_or_none p.identity) p.source
 
 -- ---- packets
 

@@ -25,7 +25,7 @@ use Rattle.auc_world.specs.declared.net.Session.{Session}
 
 abbrev pub server_leaves : Method → ℕ → List HomeRow → Option ServerEnd → Option Context
 server_leaves m place homes None = None
-server_leaves m place homes (Some s) = if same_method s.options.method m then waiting_at place homes (waiting s s.state) else None
+server_leaves m place homes (Some s) = if same_method s.options.method m then waiting_at place homes (waiting s.state) else None
 
 -- the context that the server of a session leaves in the home of a place, if it succeeds next
 abbrev pub server_at : Method → ℕ → List HomeRow → Option Session → Option Context

@@ -15,7 +15,7 @@ use Rattle.auc_reauth.specs.Device.{Keeps}
 use Rattle.auc_reauth.specs.Store.{entry}
 use Rattle.auc_reauth.specs.declared.context.Context.{Context}
 use Rattle.auc_server.specs.Rows.{is_held}
-use Rattle.auc_server.specs.Server.{ServerEnd}
+use Rattle.auc_server.specs.Server.{ServerEnd, resumed_of}
 use Rattle.auc_server.specs.Setting.{Setting}
 use Rattle.auc_server.specs.declared.server.Resumed.{Resumed}
 use Rattle.auc_subs.specs.Subscriber.{AreSubscribers}
@@ -140,7 +140,7 @@ pub record HasResumed (net : Net) (session : ℕ) (r : Resumed) : Type 0 where
   pub is : session_of net session ≡ Some own
   pub server : ServerEnd
   pub started : own.server ≡ Some server
-  pub resumed : server.resumed ≡ Some r
+  pub resumed : resumed_of server ≡ Some r
 
 -- it ended in Success at both ends under the same keys, and its verdict says so
 pub record Succeeds (net : Net) (session : ℕ) : Type 0 where

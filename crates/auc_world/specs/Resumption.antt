@@ -8,10 +8,11 @@ use Rattle.auc_peer.specs.declared.decrypted.Decrypted.{Decrypted}
 use Rattle.auc_peer.specs.declared.decrypted.Decrypted.TheVariants as decrypted
 use Rattle.auc_peer.specs.declared.next.NextContext.{NextContext}
 use Rattle.auc_peer.specs.declared.next.NextContext.TheVariants as next
+use Rattle.auc_peer.specs.Peer.{resumed_from}
 use Rattle.auc_peer.specs.declared.peer.Peer.{Peer}
 use Rattle.auc_reauth.specs.Machine.{Used, used_by}
 use Rattle.auc_reauth.specs.declared.context.Context.{Context}
-use Rattle.auc_server.specs.Server.{ServerEnd}
+use Rattle.auc_server.specs.Server.{ServerEnd, resumed_of}
 use Rattle.auc_server.specs.Setting.{Setting}
 use Rattle.auc_server.specs.declared.server.Resumed.{Resumed}
 use Rattle.auc_vector.specs.declared.notes.CounterNote.TheVariants as counts
@@ -24,7 +25,7 @@ use Rattle.auc_world.specs.declared.net.Session.{Session}
 -- what a server took up again, if it did: it does so once at most, and never forgets it
 abbrev pub resumed_in : Option ServerEnd → List Resumed
 resumed_in None = []
-resumed_in (Some s) = option_to_list s.resumed
+resumed_in (Some s) = option_to_list (resumed_of s)
 
 -- what the servers of some sessions took up again
 abbrev pub resumptions : List Session → List Resumed
@@ -45,7 +46,7 @@ resumed_for sub (Some r) = if r.sub == sub then used_by r.context.counter r.cont
 -- the counters of one method of a subscriber that servers resumed
 abbrev pub counters_in : Method → ℕ → Option ServerEnd → List Used
 counters_in m sub None = []
-counters_in m sub (Some s) = if same_method s.options.method m then resumed_for sub s.resumed else []
+counters_in m sub (Some s) = if same_method s.options.method m then resumed_for sub (resumed_of s) else []
 
 abbrev pub counters_resumed : Method → ℕ → List Session → List Used
 counters_resumed m sub sessions = flat_map (λ session. counters_in m sub session.server) sessions
@@ -65,7 +66,7 @@ counter_used _ _ = []
 abbrev pub accepted_for : NextContext → Peer → List Used
 accepted_for next.Same p = []
 accepted_for (next.New c) p = []
-accepted_for (next.Renamed from to) p = counter_used p.resumed (counter_given p.inner)
+accepted_for (next.Renamed from to) p = counter_used (resumed_from p.source) (counter_given p.inner)
 
 -- the counter of one method that the peer of a session accepted at the device of a subscriber
 abbrev pub accepted_of : Method → ℕ → Session → List Used

@@ -23,15 +23,13 @@ same_keys a b =
 
 -- the keys under which a server ended in Success
 abbrev pub keys_in : ServerState → Option KeySet
-keys_in (state.Ended (outcome.Success keys)) = Some keys
-keys_in (state.Ended (outcome.Failure why)) = None
+keys_in (state.Ended (outcome.Success keys) last) = Some keys
+keys_in (state.Ended (outcome.Failure why) last) = None
 keys_in state.AwaitIdentity = None
-keys_in state.AwaitAny = None
-keys_in state.AwaitFull = None
-keys_in state.AwaitPermanent = None
-keys_in state.AwaitChallenge = None
-keys_in state.AwaitReauth = None
-keys_in (state.Notifying why) = None
+keys_in (state.Await kind) = None
+keys_in (state.AwaitChallenge sent before) = None
+keys_in (state.AwaitReauth sent) = None
+keys_in (state.Notifying why last) = None
 
 abbrev pub server_keys : Option ServerEnd → Option KeySet
 server_keys None = None

@@ -7,7 +7,7 @@ use Rattle.auc_peer.specs.Subscription.{subscription_of}
 use Rattle.auc_peer.specs.Turn.{Asked as AsksDevice, Decrypts}
 use Rattle.auc_peer.specs.declared.device.Device.{Device}
 use Rattle.auc_server.specs.Laws.{Fits}
-use Rattle.auc_server.specs.Server.{ServerEnd}
+use Rattle.auc_server.specs.Server.{ServerEnd, challenged_of, resumed_of}
 use Rattle.auc_server.specs.Setting.{Setting}
 use Rattle.auc_server.specs.Steps.{IsHeld, IsHeldToo, IsHome}
 use Rattle.auc_server.specs.declared.setting.HomeRow.{HomeRow}
@@ -45,18 +45,17 @@ usim_of rows w sub = usim_at w.devices (device_place rows w.net.devices sub)
 -- inputs
 abbrev pub HasHeld : List HomeRow → Option ServerEnd → Type 0
 HasHeld homes None = Unit {0}
-HasHeld homes (Some s) = IsHeld homes s.challenged × IsHeldToo homes s.resumed × Fits s
+HasHeld homes (Some s) = IsHeld homes (challenged_of s) × IsHeldToo homes (resumed_of s) × Fits s
 
 -- a network's name has at most 255 bytes
 abbrev pub IsName : List ℕ → Type 0
 IsName name = length name ≤ 255
 
--- a world: its network has the subscriptions of the devices, whose realms aren't too long, and what they keep, its servers
+-- a world: its network has the subscriptions of the devices and what they keep, its servers
 -- serve the homes, and its sessions are of networks with names
 pub record IsWorld (w : WorldState) : Type 0 where
   pub subscriptions : w.net.devices ≡ map subscription_of w.devices
   pub stores : w.net.stores ≡ map (λ device. device.store) w.devices
-  pub realms : All (λ device. length device.realm ≤ 255) w.devices
   pub held : All (λ s. HasHeld w.net.homes s.server) w.net.sessions
   pub names : All (λ s. IsName s.options.name) w.net.sessions
 

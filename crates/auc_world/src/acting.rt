@@ -119,7 +119,7 @@ fn repeat(alloc: Global, packets: &mut Vec<SentPacket>, session: &Session) -> Re
     let Some(server) = &session.server else {
         return Ok(Err(WorldRefusal::NoSuchEnd));
     };
-    let step = server.repeat(alloc)?;
+    let step = server.repeat()?;
     let sent = copy_sent(alloc, &step)?;
     let inputs = server_inputs(alloc, server)?;
     make_place(packets)?;
@@ -128,13 +128,13 @@ fn repeat(alloc: Global, packets: &mut Vec<SentPacket>, session: &Session) -> Re
 }
 
 /// A session's server gives up. It sends nothing.
-fn give_up_server(alloc: Global, packets: &[SentPacket], session: &mut Session) -> Came
+fn give_up_server(packets: &[SentPacket], session: &mut Session) -> Came
     ensures { Acts (deed.GiveUp end.Server) packets.now session.old packets.now session.new result }
 {
     let Some(server) = &mut session.server else {
         return Err(WorldRefusal::NoSuchEnd);
     };
-    Ok(note(NoteStep::Server(server.give_up(alloc)), None))
+    Ok(note(NoteStep::Server(server.give_up()), None))
 }
 
 /// A session's peer gives up. It sends nothing.
@@ -159,7 +159,7 @@ pub(crate) fn act(
     match deed {
         Deed::Start => start(alloc, packets, session),
         Deed::Repeat => repeat(alloc, packets, session),
-        Deed::GiveUp(End::Server) => Ok(give_up_server(alloc, packets, session)),
+        Deed::GiveUp(End::Server) => Ok(give_up_server(packets, session)),
         Deed::GiveUp(End::Peer) => Ok(give_up_peer(alloc, packets, session)),
     }
 }

@@ -1,9 +1,8 @@
 //! What ends derive their keys from, and whether a delivery breaks the premise that a right MAC is of a packet that was sent
 //! with the same inputs.
 
-ghost use Rattle.std.specs.Prelude.{◌≡◌, ◌≤◌, ◌<◌, ◌&&◌, [], length, Some, IfOk};
+ghost use Rattle.std.specs.Prelude.{◌≡◌, ◌≤◌, ◌&&◌, [], length, Some, IfOk};
 ghost use Rattle.std.specs.Str.{bytes_eq};
-ghost use Rattle.auc_peer.specs.Table.{text_or_none};
 ghost use Rattle.auc_world.specs.Net.{inputs_of_context, inputs_of_peer, inputs_of_server, inputs_sent, is_sender, judged, other, same_challenge, same_end, same_fast, same_full, same_inputs, same_fast_keys, same_master, same_method, share_inputs, was_sent};
 
 use crate::copying::copy_of;
@@ -11,7 +10,7 @@ use crate::net::{Breach, FastInputs, FullInputs, Inputs, SentPacket};
 use auc_edge::{NoMemory, Octets, Room};
 use auc_hmac::{Master, Method};
 use auc_lines::End;
-use auc_peer::{Challenge, Peer};
+use auc_peer::{Challenge, Peer, Source};
 use auc_reauth::Context;
 use auc_server::{Challenged, Resumed, Server};
 use auc_vector::Vector;
@@ -96,44 +95,63 @@ pub(crate) fn server_inputs(alloc: Global, server: &Server) -> Result<Option<Inp
     Ok(put_server_inputs(room, name, server))
 }
 
-/// The identity that a peer sent last, empty if it has sent none.
-fn text(peer: &Peer) -> &[u8]
-    ensures { result.now ≡ text_or_none peer.now.identity }
-{
-    match &peer.identity {
-        Some(text) => text.as_slice(),
-        None => &[],
+/// Memory for the texts that a peer derives its keys from: its identity, and the name of its network.
+#[derive(Drop)]
+pub(crate) struct PeerRooms {
+    pub(crate) identity: Room,
+    pub(crate) name: Room,
+}
+
+impl PeerRooms {
+    /// Memory for the longest identity and the longest name.
+    pub(crate) fn new(alloc: Global) -> Result<PeerRooms, NoMemory>
+        ensures identity { IfOk result (λ rooms. rooms.identity ≡ record { written = []; left = 511 }) }
+        ensures name { IfOk result (λ rooms. rooms.name ≡ record { written = []; left = 1016 }) }
+    {
+        Ok(PeerRooms {
+            identity: Room::new(alloc, 511)?,
+            name: Room::new(alloc, 1016)?,
+        })
     }
 }
 
-/// The method of a peer.
-fn method_of(peer: &Peer) -> Method
-    ensures { result ≡ peer.now.options.method }
+/// What a subscriber's peer derives its keys from, in memory that was taken before.
+pub(crate) fn put_peer_inputs(rooms: PeerRooms, sub: u32, peer: &Peer) -> Option<Inputs>
+    requires identity { rooms.identity ≡ record { written = []; left = 511 } }
+    requires name { rooms.name ≡ record { written = []; left = 1016 } }
+    ensures { result ≡ inputs_of_peer sub peer.now }
 {
-    peer.options.method
+    let PeerRooms { identity, name } = rooms;
+    let identity = text_in(identity, peer.identity());
+    let method = peer.method();
+    match peer.source() {
+        Source::Nothing => None,
+        Source::Challenge(challenge, network) => {
+            let Challenge { rand, autn } = *challenge;
+            Some(Inputs::Full(FullInputs {
+                method,
+                name: text_in(name, network.as_slice()),
+                sub,
+                rand,
+                autn,
+                identity,
+            }))
+        }
+        Source::Context(context) => Some(Inputs::Fast(inputs_of_context(
+            method, sub, identity, *context,
+        ))),
+    }
 }
 
-/// What a subscriber's peer derives its keys from.
-pub(crate) fn peer_inputs(alloc: Global, sub: u32, peer: &Peer) -> Result<Option<Inputs>, NoMemory>
-    ensures { IfOk result (λ inputs. inputs ≡ inputs_of_peer sub peer.now) }
+/// A text in memory that was taken before.
+fn text_in(room: Room, text: &[u8]) -> Octets
+    requires empty { room.written ≡ [] }
+    requires left { length text.now ≤ room.left }
+    ensures { result ≡ text.now }
 {
-    let method = method_of(peer);
-    if let Some(context) = peer.resumed {
-        let identity = Octets::copied_from(alloc, text(peer))?;
-        return Ok(Some(Inputs::Fast(inputs_of_context(method, sub, identity, context))));
-    }
-    let Some(challenge) = peer.accepted else {
-        return Ok(None);
-    };
-    let Challenge { rand, autn } = challenge;
-    Ok(Some(Inputs::Full(FullInputs {
-        method,
-        name: copy_of(alloc, &peer.network)?,
-        sub,
-        rand,
-        autn,
-        identity: Octets::copied_from(alloc, text(peer))?,
-    })))
+    let mut room = room;
+    room.put(text);
+    room.into_octets()
 }
 
 /// Whether an end sends to another.
@@ -248,18 +266,18 @@ fn was_sent(packets: &[SentPacket], to: End, inputs: &Option<Inputs>, bytes: &[u
     false
 }
 
-/// The first breach of the premise, with a delivery of some bytes in which an end found a right MAC or not. The packet at the
-/// place `near` is looked at first: it nearly always was sent so.
+/// The first breach of the premise, with a delivery of some bytes in which an end found a right MAC or not. The packet that
+/// was delivered is looked at first: it nearly always was sent so.
 pub(crate) fn judged(
     packets: &[SentPacket],
-    near: usize,
     broken: Option<Breach>,
     checked: bool,
     inputs: &Option<Inputs>,
     bytes: &[u8],
     delivery: Breach,
 ) -> Option<Breach>
-    requires { near < length packets.now }
+    requires first { 1 ≤ delivery.packet }
+    requires last { delivery.packet ≤ length packets.now }
     ensures { result ≡ judged packets.now broken
         (Some (record { checked = checked; inputs = inputs.now; bytes = bytes.now; delivery = delivery })) }
 {
@@ -267,6 +285,7 @@ pub(crate) fn judged(
         return broken;
     }
     let to = delivery.end;
+    let near = delivery.packet as usize - 1;
     if is_sent(&packets[near], to, inputs, bytes) || was_sent(packets, to, inputs, bytes) {
         return None;
     }

@@ -65,10 +65,8 @@ fn add(packets: &mut Vec<SentPacket>, packet: SentPacket) -> u32
     ensures added { packets.new.items ≡ packets.old.items ++ packet ∷ [] }
     ensures number { result ≡ length packets.old.items + 1 }
 {
-    match packets.push(packet) {
-        Ok(()) => packets.len() as u32,
-        Err(_) => unreachable!(),
-    }
+    packets.push_reserved(packet);
+    packets.len() as u32
 }
 
 /// Posts what an end sent, if it sent something, and answers the packet's number.

@@ -31,7 +31,7 @@ fn add_verdict(verdicts: &mut Items<SessionVerdict>, session: &Session) -> Resul
         return Ok(());
     };
     match (server.state(), &session.peer_keys) {
-        (ServerState::Ended(Outcome::Success(a)), Some(b)) => verdicts.push(SessionVerdict {
+        (ServerState::Ended(Outcome::Success(a), _), Some(b)) => verdicts.push(SessionVerdict {
             session: session.number,
             agree: same_keys(&a, b),
         }),

@@ -1,6 +1,6 @@
 //! A job's network, with the devices of its subscribers.
 
-ghost use Rattle.std.specs.Prelude.{◌≡◌, ◌≤◌, ◌<◌, ◌++◌, ℕ, [], Some, None, All, length, map, IfOk, IfErr, IfSome, OnErr, OnOk, is_some, true, vec_capacity, vec_len};
+ghost use Rattle.std.specs.Prelude.{◌≡◌, ◌≤◌, ◌<◌, ◌++◌, ℕ, [], Some, None, length, map, IfOk, IfErr, IfSome, OnErr, OnOk, is_some, true, vec_capacity, vec_len};
 ghost use Rattle.auc_world.specs.Came.{came_changed, came_in, came_opened, session_of, vector_sent};
 ghost use Rattle.auc_world.specs.Event.{asked_in};
 ghost use Rattle.auc_world.specs.Happened.{Delivery, at_session, delivery_at, opened, with_copy};
@@ -9,6 +9,7 @@ ghost use Rattle.auc_world.specs.Net.{device_place, packet_at, posted, session_p
 ghost use Rattle.auc_lines.specs.Part.{IsShortIdentity};
 ghost use Rattle.auc_lines.specs.declared.part.End.TheVariants as end;
 ghost use Rattle.auc_peer.specs.Subscription.{subscription_of};
+ghost use Rattle.auc_server.specs.Steps.{OnlyAsks};
 ghost use Rattle.auc_subs.specs.Subscriber.{AreSubscribers};
 ghost use Rattle.auc_world.specs.Sessions.{job_sessions};
 ghost use Rattle.auc_world.specs.declared.event.NoteStep.TheVariants as did;
@@ -20,14 +21,14 @@ use crate::event::{Event, Note, NoteStep, WorldRefusal};
 use crate::inputs::judged;
 use crate::net::{Breach, SentPacket, Session};
 use crate::opening::{add_session, new_session};
-use crate::places::{DevicePlaces, key, places};
+use crate::places::{DevicePlaces, places};
 use crate::posting::{make_place, post};
 use crate::record::JobSessions;
 use crate::turning::{Served, Taken, answer, keys_won, serve};
 use crate::verdicts::job_verdicts;
 use auc_edge::NoMemory;
 use auc_lines::{End, SessionLine};
-use auc_peer::Device;
+use auc_peer::{Challenge, Device};
 use auc_released::Number;
 use auc_server::{Challenged, HomeRow, Setting};
 use auc_usim::Answer;
@@ -71,7 +72,6 @@ impl Model for World {
 impl World {
     /// A network in which nothing has happened.
     pub fn new(alloc: Global, homes: HomeList, devices: DeviceList) -> Result<World, NoMemory>
-        requires { All (λ device. length device.realm ≤ 255) devices.items }
         ensures { IfOk result (λ w. w ≡ record {
           net = record {
             packets = [];
@@ -123,7 +123,7 @@ impl World {
         requires { sub < length set.now.rows }
         ensures { result ≡ device_place set.now.rows self.now.net.devices sub }
     {
-        let key = key(set.subs.row(sub).imsi);
+        let key = set.subs.row(sub).imsi.key();
         self.places.get(&key).copied()
     }
 
@@ -139,10 +139,8 @@ impl World {
         let Some(place) = self.device_of(set, sub) else {
             unreachable!()
         };
-        match self.devices.get_mut(place as usize) {
-            Some(device) => device.usim.challenge(rand, autn),
-            None => unreachable!(),
-        }
+        let device = &mut self.devices[place as usize];
+        device.ask(Challenge { rand, autn })
     }
 
     /// Makes an event happen (RFC 4187 §3). A packet stays where it was sent, and may be delivered again. If memory runs
@@ -157,7 +155,6 @@ impl World {
     ) -> Result<Result<Note, WorldRefusal>, NoMemory>
         requires known { IsKnownEvent (length set.now.rows) event.now }
         requires homes { AreHomes set.now.rows (C.subs centre.old) (C.top centre.old) self.old.net.homes }
-        requires realm { length set.now.realm ≤ 255 }
 
         ensures applied { IfOk result (λ came. RememberPasts self.old.devices
             → Applies C.goes C.kept C.top set.now self.old event.now centre.old self.new came centre.new) }
@@ -270,16 +267,13 @@ impl World {
     ) -> Result<Came, NoMemory>
         requires homes { AreHomes set.now.rows (C.subs centre.old) (C.top centre.old) self.old.net.homes }
         requires reached { IsReached self.old.net place packet }
-        requires realm { length set.now.realm ≤ 255 }
 
         ensures served { IfOk result (λ came. (d : Delivery) → delivery_at self.old.net packet (Some place) ≡ Some d
             → Serves C.goes C.kept C.top set.now self.old d centre.old self.new came centre.new) }
         ensures asked { IfOk result (λ came. IfSome (asked_in came) (λ sub. sub < length set.now.rows)) }
         ensures homes { AreOfSame self.old.net.homes self.new.net.homes }
         ensures devices { self.new.net.devices ≡ self.old.net.devices }
-        ensures subs { C.subs centre.new ≡ C.subs centre.old }
-        ensures top { (i : ℕ) → C.top centre.new i ≡ C.top centre.old i }
-        ensures name { C.name centre.new ≡ C.name centre.old }
+        ensures only { OnlyAsks C.subs C.top C.name centre.old centre.new }
 
         ensures world { OnErr result (self.new ≡ self.old) }
         ensures centre { OnErr result (centre.new ≡ centre.old) }
@@ -303,7 +297,6 @@ impl World {
         let vector = vector_sent(notes.number, server.challenged());
         self.broken = judged(
             &self.packets,
-            near,
             self.broken,
             served.turn.checked,
             &served.before,
@@ -348,7 +341,6 @@ impl World {
         session.peer_keys = keys_won(session.peer_keys, &taken.turn.step);
         self.broken = judged(
             &self.packets,
-            near,
             self.broken,
             taken.turn.checked,
             &taken.inputs,
@@ -433,8 +425,5 @@ fn release(released: &mut Vec<Number>, asked: Option<u32>, drawn: Option<NumberN
     let (Some(sub), Some(NumberNote::Drew(n))) = (asked, drawn) else {
         return;
     };
-    match released.push(Number { sub, n }) {
-        Ok(()) => {}
-        Err(_) => unreachable!(),
-    }
+    released.push_reserved(Number { sub, n });
 }

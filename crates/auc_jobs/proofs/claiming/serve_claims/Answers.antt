@@ -11,7 +11,7 @@ loop-turn-init g c = record {
 }
 
 pub serve_next-requires-clause-stands : goal.serve_next-requires-clause-stands
-serve_next-requires-clause-stands g c = (c.requires.round.begins.0, c.loop-turn.invariant.stands c.requires.round.begins.0 c.requires.round.begins.1)
+serve_next-requires-clause-stands g c = (c.requires.shared.servable.begins.0, c.loop-turn.invariant.stands c.requires.shared.servable.begins.0 c.requires.shared.servable.begins.1)
 
 pub returns-then-not-branch-clause-finished : goal.returns-then-not-branch-clause-finished
 returns-then-not-branch-clause-finished g c = finished_then _ _ _ _ _ c.in_ok-serve_next.field-0 (search rules) c.in_ok-serve_next.ensures.turn c.loop-turn.invariant.stands
@@ -27,4 +27,4 @@ loop-turn-preserved g c =
     }
 
 pub returns-clause-finished : goal.returns-clause-finished
-returns-clause-finished g c = finished_last _ _ _ c.loop-turn.invariant.claims (omega (arith, c.loop-turn.invariant.many, c.loop-turn-test.false, c.count-turn-end.ensures)) c.requires.round c.loop-turn.invariant.stands
+returns-clause-finished g c = finished_last _ _ _ c.loop-turn.invariant.claims (omega (arith, c.loop-turn.invariant.many, c.loop-turn-test.false, c.count-turn-end.ensures)) c.requires.shared.servable c.loop-turn.invariant.stands

@@ -10,5 +10,5 @@ invariant-loop-turn g l = record {
   own : IsOf l.initial.pass.id l.initial.pass.tops l.pass;
   claims : l.pass.ended ≡ None;
   many : length l.done.items ≡ l._turn;
-  stands : (early : List LineRecord) → Begins l.round early → IsBetween l.round early l.pass l.done.items;
+  stands : (early : List LineRecord) → Begins l.shared.round.now early → IsBetween l.shared.round.now early l.pass l.done.items;
 }

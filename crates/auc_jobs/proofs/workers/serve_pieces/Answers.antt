@@ -1,9 +1,11 @@
 use Rattle.std.proofs.Common.{◌≡◌, ℕ, ◌+◌, ◌≤◌, List, Option, All, ap, length, map, sym, ◌∙◌, subst, if◌then◌else◌, []}
+use Rattle.std.specs.Prelude.{IfOk}
 use Rattle.std.specs.Global.{Vec}
 use Rattle.std.proofs.lemmas.List.{length-map}
+use Rattle.auc_draw.specs.Values.{BookValue}
 use Rattle.auc_edge.specs.Identity.{Identity}
 use Rattle.auc_edge.specs.declared.stop.Stop.{Stop}
-use Rattle.auc_journal.specs.Journal.{limits_of}
+use Rattle.auc_journal.specs.Journal.{JournalState, limits_of}
 use Rattle.auc_sqn.specs.Number.{max_seq}
 use Rattle.auc_subs.specs.Subscriber.{tops_of}
 use Rattle.auc_subs.specs.declared.row.Row.{Row}
@@ -11,87 +13,88 @@ use Rattle.auc_subs.proofs.Facts.{top_at-within}
 use Rattle.auc_world.specs.Vectors.{vectors_in}
 use Rattle.auc_world.specs.declared.record.LineRecord.{LineRecord}
 use Rattle.auc_jobs.specs.declared.claiming.WorkerJobs.{WorkerJobs}
-use Rattle.auc_jobs.specs.InnerClaims.{ClosesAs, IsDone}
+use Rattle.auc_jobs.specs.declared.workers.RoundPieces.{RoundPieces}
+use Rattle.auc_jobs.specs.InnerClaims.{ClosesAs, HaveWorked, IsDone}
 use Rattle.auc_jobs.specs.InnerKeeping.{StaysNear, TellsStop}
 use Rattle.auc_jobs.specs.InnerPreparing.{AreReservable}
 use Rattle.auc_jobs.specs.InnerRound.{AreServed, GoesByLimits}
 use Rattle.auc_jobs.specs.InnerSharing.{Begins}
-use Rattle.auc_jobs.proofs.KeepingLemmas.{all_worked, can_keep, if_ok_map, stays_near, stop_told, unserved_leaves, worked_leaves}
+use Rattle.auc_jobs.proofs.KeepingLemmas.{can_keep, have_worked, if_ok_map, opened_for, stays_near, stop_told, unserved_leaves, worked_leaves}
 use Rattle.auc_jobs.proofs.PreparingLemmas.{are_reservable}
 use Rattle.auc_jobs.proofs.workers.serve_pieces.Goals as goal
 
+pub work_all-worked-requires-clause-shared : goal.work_all-worked-requires-clause-shared
+work_all-worked-requires-clause-shared g c = λ lifetimes within.
+    let opened = c.in-Ok.opened in
+    opened_for c.args.round.now c.args.journal opened.book opened.passes.items opened.keeper c.requires.round c.requires.journal c.in-Ok.ensures.opens
+
 pub work_all-worked-requires-clause-keeper : goal.work_all-worked-requires-clause-keeper
 work_all-worked-requires-clause-keeper g c = λ lifetimes within.
-    can_keep c.args.round.now.set.rows c.args.openings.now (tops_of c.args.round.now.set.rows) c.args.workers c.args.journal c.in-Ok.opened.0 c.in-Ok.opened.1.items c.in-Ok.opened.2 c.requires.subscribers c.requires.journal c.in-Ok.ensures.opens
+    let opened = c.in-Ok.opened in
+    can_keep c.args.round.now.set.rows c.args.round.now.state.words (tops_of c.args.round.now.set.rows) c.args.round.now.workers c.args.journal opened.book opened.passes.items opened.keeper
+    c.requires.round.round.subscribers c.requires.journal c.in-Ok.ensures.opens
 
 pub work_all-worked-requires-clause-needed : goal.work_all-worked-requires-clause-needed
 work_all-worked-requires-clause-needed g c = λ lifetimes within.
+    let opened = c.in-Ok.opened in
     let opens = c.in-Ok.ensures.opens in
-    let are = are_reservable c.args.round.now.jobs (tops_of c.args.round.now.set.rows) c.args.openings.now (limits_of c.args.journal) c.in-Ok.opened.2 (length c.in-Ok.opened.0.openings)
+    let are = are_reservable c.args.round.now.jobs (tops_of c.args.round.now.set.rows) c.args.round.now.state.words (limits_of c.args.journal) opened.keeper (length opened.book.openings)
     (top_at-within c.args.round.now.set.rows) opens.seen opens.reserved (ap (λ (os : List ℕ). length os) (sym opens.numbers)) in
-    subst (AreReservable (length c.in-Ok.opened.0.openings) c.in-Ok.opened.2) (sym (c.as_slice.ensures ∙ c.in-Ok.ensures.needed)) are
+    subst (AreReservable (length opened.book.openings) opened.keeper) (sym c.in-Ok.ensures.needed) are
 
-pub settle-requires-clause-all : goal.settle-requires-clause-all
-settle-requires-clause-all g c =
-    if_ok_map (λ (all : Vec WorkerJobs). (length all.items ≡ length c.in-Ok.opened.1.items) × All (IsDone c.in-Ok.opened.0.id c.in-Ok.opened.0.tops c.args.round.now) all.items)
-    (λ all. (1 ≤ length all.items) × (c.work_all-worked.result.keeper.passes ≡ length all.items) × All (IsDone c.in-Ok.opened.0.id c.in-Ok.opened.0.tops c.args.round.now) all.items) c.work_all-worked.result.all
+pub settle-requires-clause-worked : goal.settle-requires-clause-worked
+settle-requires-clause-worked g c =
+    let opened = c.in-Ok.opened in
+    let worked = c.work_all-worked.result in
+    if_ok_map (λ (all : Vec WorkerJobs). (length all.items ≡ length opened.passes.items) × All (IsDone opened.book.id opened.book.tops c.args.round.now) all.items)
+    (λ all. HaveWorked c.args.round.now worked.book all.items worked.keeper worked.stop) worked.all
     (λ all done.
-    all_worked c.in-Ok.opened.0.id c.in-Ok.opened.0.tops c.args.round.now c.args.openings.now (tops_of c.args.round.now.set.rows) (limits_of c.args.journal) c.args.workers c.in-Ok.opened.0 c.in-Ok.opened.1.items c.in-Ok.opened.2 c.work_all-worked.result.keeper all.items
-    c.in-Ok.ensures.opens c.requires.workers.0 c.work_all-worked.ensures.own.1 done)
+    subst (λ (book : BookValue). HaveWorked c.args.round.now book all.items worked.keeper worked.stop) (sym c.work_all-worked.ensures.book)
+    (have_worked c.args.round.now (limits_of c.args.journal) opened.book opened.passes.items opened.keeper worked.keeper worked.stop all.items
+    c.requires.round c.in-Ok.ensures.opens c.work_all-worked.ensures.own.0 c.work_all-worked.ensures.own.1 c.work_all-worked.ensures.stop done))
     c.work_all-worked.ensures.all
 
-pub returns-in-Ok-clause-served : goal.returns-in-Ok-clause-served
-returns-in-Ok-clause-served g c =
-    if_ok_map (ClosesAs c.args.round.now c.in-Ok.opened.0 c.work_all-worked.result.keeper)
-    (λ done. (early : List LineRecord) → Begins c.args.round.now early
-    → AreServed c.args.round.now.set early c.args.round.now.stores c.args.openings.now c.args.round.now.jobs done.jobs.records done.jobs.devices done.jobs.sessions done.words) c.settle.result.result
-    (λ done closes early begins.
-    subst (λ (os : List ℕ). AreServed c.args.round.now.set early c.args.round.now.stores os c.args.round.now.jobs done.jobs.records done.jobs.devices done.jobs.sessions done.words)
-    c.in-Ok.ensures.opens.numbers (closes.served early begins))
-    c.settle.ensures.closes
-
-pub returns-in-Ok-clause-limits : goal.returns-in-Ok-clause-limits
-returns-in-Ok-clause-limits g c =
-    if_ok_map (ClosesAs c.args.round.now c.in-Ok.opened.0 c.work_all-worked.result.keeper)
-    (λ done. GoesByLimits c.args.round.now.set done.stop done.jobs.records (limits_of c.args.journal) done.words (limits_of c.settle.result.journal)) c.settle.result.result
-    (λ done closes.
-    subst (λ (ls : List ℕ). GoesByLimits c.args.round.now.set done.stop done.jobs.records ls done.words (limits_of c.settle.result.journal)) c.in-Ok.ensures.opens.limits
-    (subst (λ (ls : List ℕ). GoesByLimits c.args.round.now.set done.stop done.jobs.records c.in-Ok.opened.0.limits done.words ls)
-    (c.work_all-worked.ensures.since.limits ∙ ap limits_of (sym c.settle.ensures.journal)) closes.limits))
-    c.settle.ensures.closes
-
-pub returns-in-Ok-clause-vectors : goal.returns-in-Ok-clause-vectors
-returns-in-Ok-clause-vectors g c =
-    if_ok_map (ClosesAs c.args.round.now c.in-Ok.opened.0 c.work_all-worked.result.keeper)
-    (λ done. done.jobs.vectors ≡ (if c.args.round.now.full then map (vectors_in c.args.round.now.set) done.jobs.records else [])) c.settle.result.result
-    (λ done closes. closes.vectors) c.settle.ensures.closes
-
-pub returns-in-Ok-clause-bound : goal.returns-in-Ok-clause-bound
-returns-in-Ok-clause-bound g c =
-    if_ok_map (ClosesAs c.args.round.now c.in-Ok.opened.0 c.work_all-worked.result.keeper) (λ done. All (λ word. word ≤ max_seq + 64) done.words) c.settle.result.result
-    (λ done closes. closes.bound) c.settle.ensures.closes
-
-pub returns-in-Ok-clause-leaves : goal.returns-in-Ok-clause-leaves
-returns-in-Ok-clause-leaves g c = rw c.settle.ensures.journal
-    (worked_leaves g.D.Disk.seen g.D.Disk.may_leave g.D.Disk.faults g.D.Disk.moment g.D.Disk.left_since c.args.journal c.work_all-worked.result.journal c.work_all-worked.result.keeper c.work_all-worked.ensures.since)
-
-pub returns-in-Ok-clause-near : goal.returns-in-Ok-clause-near
-returns-in-Ok-clause-near g c = rw c.settle.ensures.journal
-    (if_ok_map (ClosesAs c.args.round.now c.in-Ok.opened.0 c.work_all-worked.result.keeper)
-    (λ done. StaysNear g.D.Disk.seen g.D.Disk.may_leave g.D.Disk.moment g.D.Disk.left_since c.args.journal done.words c.work_all-worked.result.journal) c.settle.result.result
-    (λ done closes. stays_near g.D.Disk.seen g.D.Disk.may_leave g.D.Disk.faults g.D.Disk.moment g.D.Disk.left_since c.args.journal c.work_all-worked.result.journal c.work_all-worked.result.keeper done.words c.in-Ok.opened.0.openings
-    c.work_all-worked.ensures.since
-    (ap (λ (imsis : List Identity). length imsis) c.requires.journal.subscribers ∙ length-map c.args.round.now.set.rows (λ (row : Row). row.imsi) ∙ sym c.requires.openings.0
-    ∙ sym (ap (λ (os : List ℕ). length os) c.in-Ok.ensures.opens.numbers)) closes.looked)
-    c.settle.ensures.closes)
-
-pub returns-in-Ok-clause-stop : goal.returns-in-Ok-clause-stop
-returns-in-Ok-clause-stop g c = rw c.settle.ensures.journal
-    (if_ok_map (ClosesAs c.args.round.now c.in-Ok.opened.0 c.work_all-worked.result.keeper)
-    (λ done. TellsStop g.D.Disk.faults c.args.journal done.stop c.work_all-worked.result.journal) c.settle.result.result
-    (λ done closes. subst (λ (stop : Option Stop). TellsStop g.D.Disk.faults c.args.journal stop c.work_all-worked.result.journal) (sym closes.stop)
-    (stop_told g.D.Disk.seen g.D.Disk.may_leave g.D.Disk.faults g.D.Disk.moment g.D.Disk.left_since c.args.journal c.work_all-worked.result.journal c.work_all-worked.result.keeper done.jobs.records c.work_all-worked.ensures.since))
-    c.settle.ensures.closes)
+pub returns-in-Ok : goal.returns-in-Ok
+returns-in-Ok g c =
+    let round = c.args.round.now in
+    let before = c.args.journal in
+    let opened = c.in-Ok.opened in
+    let opens = c.in-Ok.ensures.opens in
+    let worked = c.work_all-worked.result in
+    let since = c.work_all-worked.ensures.since in
+    let after = c.settle.result.journal in
+    let result = c.settle.result.result in
+    let Closed : RoundPieces → Type 0 = ClosesAs round opened.book worked.keeper in
+    let closes : IfOk result Closed = subst (λ (book : BookValue). IfOk result (ClosesAs round book worked.keeper)) c.work_all-worked.ensures.book c.settle.ensures.closes in
+    record {
+      served = if_ok_map Closed
+          (λ done. (early : List LineRecord) → Begins round early → AreServed round.set early round.state.kept round.state.words round.jobs done.jobs.records done.jobs.devices done.jobs.sessions done.words) result
+          (λ done closed early begins.
+          subst (λ (os : List ℕ). AreServed round.set early round.state.kept os round.jobs done.jobs.records done.jobs.devices done.jobs.sessions done.words) opens.numbers (closed.served early begins))
+          closes;
+      limits = if_ok_map Closed (λ done. GoesByLimits round.set done.stop done.jobs.records (limits_of before) done.words (limits_of after)) result
+          (λ done closed.
+          subst (λ (ls : List ℕ). GoesByLimits round.set done.stop done.jobs.records ls done.words (limits_of after)) opens.limits
+          (subst (λ (ls : List ℕ). GoesByLimits round.set done.stop done.jobs.records opened.book.limits done.words ls) (since.limits ∙ ap limits_of (sym c.settle.ensures.journal)) closed.limits))
+          closes;
+      vectors = if_ok_map Closed (λ done. done.jobs.vectors ≡ (if round.full then map (vectors_in round.set) done.jobs.records else [])) result (λ done closed. closed.vectors) closes;
+      bound = if_ok_map Closed (λ done. All (λ word. word ≤ max_seq + 64) done.words) result (λ done closed. closed.bound) closes;
+      subscribers = ap (λ (j : JournalState g.row.D.Denot). j.imsis) c.settle.ensures.journal ∙ since.subscribers;
+      all = ap (λ (j : JournalState g.row.D.Denot). j.all) c.settle.ensures.journal ∙ since.all;
+      leaves = rw c.settle.ensures.journal (worked_leaves g.D.Disk.seen g.D.Disk.may_leave g.D.Disk.faults g.D.Disk.moment g.D.Disk.left_since before worked.journal worked.keeper since);
+      near = rw c.settle.ensures.journal
+          (if_ok_map Closed (λ done. StaysNear g.D.Disk.seen g.D.Disk.may_leave g.D.Disk.moment g.D.Disk.left_since before done.words worked.journal) result
+          (λ done closed.
+          stays_near g.D.Disk.seen g.D.Disk.may_leave g.D.Disk.faults g.D.Disk.moment g.D.Disk.left_since before worked.journal worked.keeper done.words opened.book.openings since
+          (ap (λ (imsis : List Identity). length imsis) c.requires.journal.subscribers ∙ length-map round.set.rows (λ (row : Row). row.imsi) ∙ sym c.requires.round.begins.1.subscribers.size
+          ∙ sym (ap (λ (os : List ℕ). length os) opens.numbers)) closed.looked)
+          closes);
+      stop = rw c.settle.ensures.journal
+          (if_ok_map Closed (λ done. TellsStop g.D.Disk.faults before done.stop worked.journal) result
+          (λ done closed. subst (λ (stop : Option Stop). TellsStop g.D.Disk.faults before stop worked.journal) (sym closed.stop)
+          (stop_told g.D.Disk.seen g.D.Disk.may_leave g.D.Disk.faults g.D.Disk.moment g.D.Disk.left_since before worked.journal worked.keeper done.jobs.records since))
+          closes);
+    }
 
 pub returns-in-Err-clause-leaves : goal.returns-in-Err-clause-leaves
 returns-in-Err-clause-leaves g c =

@@ -13,20 +13,20 @@ pub put_sealed-requires-clause-writable : goal.put_sealed-requires-clause-writab
 put_sealed-requires-clause-writable c =
     let h = c.args.hidden in
     subst MayBeSealed (sym c.reauth_draft-draft.ensures)
-    (reauth_may c.args.method c.args.id h.k_encr h.iv h.counter h.small c.args.has c.args.own c.counter_is_one_block.ensures c.requires.own)
+    (reauth_may c.args.heading.method c.args.heading.id h.k_encr h.iv h.counter h.small c.args.own.has c.args.own.value c.counter_is_one_block.ensures c.requires.own)
 
 pub put_sealed-requires-clause-room : goal.put_sealed-requires-clause-room
 put_sealed-requires-clause-room c =
     let h = c.args.hidden in
     le_trans (subst (λ (d : Draft). length (packet_text (with_mac d no_mac)) ≤ 104) (sym c.reauth_draft-draft.ensures)
-    (reauth_size c.args.method c.args.id h.k_encr h.iv h.counter h.small c.args.has c.args.own c.counter_is_one_block.ensures c.requires.own)) c.requires.left
+    (reauth_size c.args.heading.method c.args.heading.id h.k_encr h.iv h.counter h.small c.args.own.has c.args.own.value c.counter_is_one_block.ensures c.requires.own)) c.requires.left
 
 pub returns-clause-size : goal.returns-clause-size
 returns-clause-size c =
     let h = c.args.hidden in
-    let text : c.into_octets.result ≡ sealed c.args.k_aut.now c.args.nonce.now (reauth_draft c.args.method c.args.id h.k_encr h.iv h.counter h.small c.args.has c.args.own) =
+    let text : c.into_octets.result ≡ sealed h.k_aut h.nonce (reauth_draft c.args.heading.method c.args.heading.id h.k_encr h.iv h.counter h.small c.args.own.has c.args.own.value) =
     c.into_octets.ensures ∙ ap (λ (r : Reserved ℕ). r.written) c.put_sealed.ensures
-    ∙ ap (λ (t : List ℕ). t ++ sealed c.args.k_aut.now c.args.nonce.now c.reauth_draft-draft.result) c.requires.empty
-    ∙ ap (λ (d : Draft). sealed c.args.k_aut.now c.args.nonce.now d) c.reauth_draft-draft.ensures in
+    ∙ ap (λ (t : List ℕ). t ++ sealed h.k_aut h.nonce c.reauth_draft-draft.result) c.requires.empty
+    ∙ ap (λ (d : Draft). sealed h.k_aut h.nonce d) c.reauth_draft-draft.ensures in
     subst (λ (bytes : List ℕ). length bytes ≤ 104) (sym text)
-    (sealed_size c.args.method c.args.id c.args.k_aut.now c.args.nonce.now h.k_encr h.iv h.counter h.small c.args.has c.args.own c.counter_is_one_block.ensures c.requires.own)
+    (sealed_size c.args.heading.method c.args.heading.id h.k_aut h.nonce h.k_encr h.iv h.counter h.small c.args.own.has c.args.own.value c.counter_is_one_block.ensures c.requires.own)

@@ -9,6 +9,6 @@ use Rattle.auc_peer.proofs.messages.sealed_response.Goals as goal
 
 pub returns-clause-size : goal.returns-clause-size
 returns-clause-size c =
-    let draft = draft_of c.args.method c.args.id c.args.attrs in
+    let draft = draft_of c.args.heading.method c.args.heading.id c.args.attrs in
     written_size _ _ _ _ c.requires.empty c.put_sealed.ensures c.into_octets.ensures
-    (c.requires.short.any (draft_mac c.args.k_aut.now [] draft) (length-mac_of c.args.method c.args.k_aut.now (packet_text (with_mac draft no_mac) ++ [])))
+    (c.requires.short.any (draft_mac c.args.k_aut.now [] draft) (length-mac_of c.args.heading.method c.args.k_aut.now (packet_text (with_mac draft no_mac) ++ [])))

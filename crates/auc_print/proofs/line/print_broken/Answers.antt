@@ -3,8 +3,11 @@ use Rattle.std.proofs.lemmas.Result.{on_ok_weaker}
 use Rattle.auc_print.proofs.PieceLemmas.{broken_printed}
 use Rattle.auc_print.proofs.line.print_broken.Goals as goal
 
-pub returns-clause-printed : goal.returns-clause-printed
-returns-clause-printed c =
-    on_ok_weaker c.print_line.result
-    (λ last. broken_printed c.args.job c.args.breach _ _ _ _ _ _ c.from.ensures c.from-2.ensures c.word_of_end.ensures c.from-3.ensures last)
-    c.print_line.ensures.printed
+pub returns : goal.returns
+returns c = record {
+  printed =
+      on_ok_weaker c.print_line.result
+      (λ last. broken_printed c.args.job c.args.breach _ _ _ _ _ _ c.decimal.ensures c.decimal-2.ensures c.word_of_end.ensures c.decimal-3.ensures last)
+      c.print_line.ensures.printed;
+  grows = c.print_line.ensures.grows;
+}

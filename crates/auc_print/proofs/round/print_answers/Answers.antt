@@ -10,8 +10,8 @@ loop-answer-preserved c =
     let l = c.loop-answer in
     record {
       printed = answers_step c.args.set.now c.args.full c.args.job.now l.answer-index _ l.left.now _ l.out _ (omega arith) c.answer-item.is
-          c.in_ok-print_answer.ensures.printed c.after-left.ensures ∙ l.invariant.printed;
-      grows = front_more _ _ _ l.invariant.grows c.in_ok-print_answer.ensures.grows;
+          c.in_ok-print_answer.ensures.text.printed c.after-left.ensures ∙ l.invariant.printed;
+      grows = front_more _ _ _ l.invariant.grows c.in_ok-print_answer.ensures.text.grows;
       fits = all_more AnswerFits c.args.job.now l.answer-index _ (omega arith) c.answer-item.is l.invariant.fits c.in_ok-print_answer.ensures.fits;
     }
 

@@ -1,6 +1,7 @@
 use Rattle.std.proofs.Common.{◌∙◌, [], arith, refl}
 use Rattle.auc_run.specs.Refusal.{status_of}
 use Rattle.auc_run.specs.declared.status.Status.TheVariants as status
+use Rattle.auc_run.proofs.FaultLemmas.{done_on_disk, done_on_wire, late_on_disk, late_on_wire, so_on_disk, so_on_wire}
 use Rattle.auc_run.proofs.ServiceEnds.{ends_late, ends_more, goes_more, goes_same, serves_any, turned_goes, turned_refused, turned_stops}
 use Rattle.auc_run.proofs.blocks.serve_blocks.Goals as goal
 
@@ -51,8 +52,8 @@ loop-preserved g c =
           c.args.stand.journal c.loop.stand.journal c.serve_next-next.result.stand.journal c.loop.counter old now new before.goes
           (turned_goes g.D.Disk.seen g.D.Disk.may_leave g.D.Disk.moment g.D.Disk.left_since c.args.input.now.subs c.args.input.now.script [] c.loop.ear.waiting.items c.serve_next-next.new.ear.waiting.items c.loop.stand.number c.serve_next-next.result.stand.number c.loop.stand.state c.serve_next-next.result.stand.state
           c.loop.stand.journal c.serve_next-next.result.stand.journal c.serve_next-next.result.result now new (cc (c.in-Ok-true.is, c.in-Ok-true.field-0-test)) turned);
-      quiet = c.serve_next-next.ensures.quiet (λ same. cc (same, c.in-Ok-true.is)) (λ same. cc (same, c.in-Ok-true.is)) ∙ before.quiet;
-      quiet_store = c.serve_next-next.ensures.quiet_store (λ same. cc (same, c.in-Ok-true.is)) (λ same. cc (same, c.in-Ok-true.is)) (λ same. cc (same, c.in-Ok-true.is)) ∙ before.quiet_store;
+      quiet = c.serve_next-next.ensures.wire.same (rw c.in-Ok-true.is tt) ∙ before.quiet;
+      quiet_store = c.serve_next-next.ensures.store.same (rw c.in-Ok-true.is tt) ∙ before.quiet_store;
     }
 
 pub returns-in-Ok-false-clause-ends : goal.returns-in-Ok-false-clause-ends
@@ -68,13 +69,12 @@ returns-in-Ok-false-clause-ends g c =
     (turned_stops g.D.Disk.seen g.D.Disk.may_leave g.D.Disk.moment g.D.Disk.left_since c.args.input.now.subs c.args.input.now.script [] c.loop.ear.waiting.items c.serve_next-next.new.ear.waiting.items c.loop.stand.number c.serve_next-next.result.stand.number c.loop.stand.state c.serve_next-next.result.stand.state
     c.loop.stand.journal c.serve_next-next.result.stand.journal c.serve_next-next.result.result now new (cc (c.in-Ok-false.is, c.in-Ok-false.field-0-test)) turned))
 
-pub returns-in-Ok-false-clause-quiet : goal.returns-in-Ok-false-clause-quiet
-returns-in-Ok-false-clause-quiet g c = λ read write.
-    c.serve_next-next.ensures.quiet (λ same. cc (same, c.in-Ok-false.is)) (λ same. cc (same, c.in-Ok-false.is)) ∙ c.loop.invariant.quiet
+pub returns-in-Ok-false-clause-wire : goal.returns-in-Ok-false-clause-wire
+returns-in-Ok-false-clause-wire g c = done_on_wire _ tt _ _ refl (c.serve_next-next.ensures.wire.same (rw c.in-Ok-false.is tt) ∙ c.loop.invariant.quiet)
 
-pub returns-in-Ok-false-clause-quiet_store : goal.returns-in-Ok-false-clause-quiet_store
-returns-in-Ok-false-clause-quiet_store g c = λ fault write memory.
-    rw c.into_disk.ensures (c.serve_next-next.ensures.quiet_store (λ same. cc (same, c.in-Ok-false.is)) (λ same. cc (same, c.in-Ok-false.is)) (λ same. cc (same, c.in-Ok-false.is)) ∙ c.loop.invariant.quiet_store)
+pub returns-in-Ok-false-clause-store : goal.returns-in-Ok-false-clause-store
+returns-in-Ok-false-clause-store g c =
+    rw c.into_disk.ensures (done_on_disk _ tt _ _ refl (c.serve_next-next.ensures.store.same (rw c.in-Ok-false.is tt) ∙ c.loop.invariant.quiet_store))
 
 pub returns-in-Err-clause-ends : goal.returns-in-Err-clause-ends
 returns-in-Err-clause-ends g c =
@@ -89,22 +89,12 @@ returns-in-Err-clause-ends g c =
     (turned_refused g.D.Disk.seen g.D.Disk.may_leave g.D.Disk.moment g.D.Disk.left_since c.args.input.now.subs c.args.input.now.script [] c.loop.ear.waiting.items c.serve_next-next.new.ear.waiting.items c.loop.stand.number c.serve_next-next.result.stand.number c.loop.stand.state c.serve_next-next.result.stand.state
     c.loop.stand.journal c.serve_next-next.result.stand.journal c.serve_next-next.result.result c.in-Err.refusal now new (cc c.in-Err.is) turned))
 
-pub returns-in-Err-clause-read_fault : goal.returns-in-Err-clause-read_fault
-returns-in-Err-clause-read_fault g c = λ is. rw (← c.loop.invariant.quiet) (c.serve_next-next.ensures.read_fault (cc (is, c.in-Err.is)))
+pub returns-in-Err-clause-wire : goal.returns-in-Err-clause-wire
+returns-in-Err-clause-wire g c = so_on_wire c.serve_next-next.result.result _ c.in-Err.refusal _ _ _ (cc c.in-Err.is) refl c.loop.invariant.quiet c.serve_next-next.ensures.wire
 
-pub returns-in-Err-clause-write_fault : goal.returns-in-Err-clause-write_fault
-returns-in-Err-clause-write_fault g c = λ is. rw (← c.loop.invariant.quiet) (c.serve_next-next.ensures.write_fault (cc (is, c.in-Err.is)))
-
-pub returns-in-Err-clause-quiet : goal.returns-in-Err-clause-quiet
-returns-in-Err-clause-quiet g c = λ read write.
-    c.serve_next-next.ensures.quiet (λ same. read (cc (same, c.in-Err.is))) (λ same. write (cc (same, c.in-Err.is))) ∙ c.loop.invariant.quiet
-
-pub returns-in-Err-clause-store_fault : goal.returns-in-Err-clause-store_fault
-returns-in-Err-clause-store_fault g c = λ is. rw (c.into_disk-in-Err.ensures, ← c.loop.invariant.quiet_store) (c.serve_next-next.ensures.store_fault (cc (is, c.in-Err.is)))
-
-pub returns-in-Err-clause-quiet_store : goal.returns-in-Err-clause-quiet_store
-returns-in-Err-clause-quiet_store g c = λ fault write memory.
-    rw c.into_disk-in-Err.ensures (c.serve_next-next.ensures.quiet_store (λ same. fault (cc (same, c.in-Err.is))) (λ same. write (cc (same, c.in-Err.is))) (λ same. memory (cc (same, c.in-Err.is))) ∙ c.loop.invariant.quiet_store)
+pub returns-in-Err-clause-store : goal.returns-in-Err-clause-store
+returns-in-Err-clause-store g c =
+    rw c.into_disk-in-Err.ensures (so_on_disk c.serve_next-next.result.result _ c.in-Err.refusal _ _ _ (cc c.in-Err.is) refl c.loop.invariant.quiet_store c.serve_next-next.ensures.store)
 
 pub returns-clause-ends : goal.returns-clause-ends
 returns-clause-ends g c =
@@ -113,8 +103,8 @@ returns-clause-ends g c =
     (ends_late g.D.Disk.seen g.D.Disk.may_leave g.D.Disk.moment g.D.Disk.left_since c.args.input.now.subs c.args.input.now.script c.args.ear.now.waiting.items c.loop.ear.waiting.items c.args.stand.number c.loop.stand.number c.args.stand.state c.loop.stand.state
     c.args.stand.journal c.loop.stand.journal c.loop.counter (g.W.Wire.turns c.args.wire.now) (g.W.Wire.turns c.loop.wire) (omega (arith, over)) c.loop.invariant.goes)
 
-pub returns-clause-quiet : goal.returns-clause-quiet
-returns-clause-quiet g c = λ read write. c.loop.invariant.quiet
+pub returns-clause-wire : goal.returns-clause-wire
+returns-clause-wire g c = late_on_wire _ _ _ refl c.loop.invariant.quiet
 
-pub returns-clause-quiet_store : goal.returns-clause-quiet_store
-returns-clause-quiet_store g c = λ fault write memory. rw c.into_disk-2.ensures c.loop.invariant.quiet_store
+pub returns-clause-store : goal.returns-clause-store
+returns-clause-store g c = rw c.into_disk-2.ensures (late_on_disk _ _ _ refl c.loop.invariant.quiet_store)

@@ -1,6 +1,7 @@
 use Rattle.std.proofs.Common.{◌∷◌, ◌++◌, [], Option, inr, refl}
 use Rattle.auc_edge.specs.declared.stop.Stop.{Stop}
 use Rattle.auc_run.specs.Inner.{MakesRound}
+use Rattle.auc_run.specs.InnerFaults.{RoseInRound}
 use Rattle.auc_run.specs.Output.{setting_of}
 use Rattle.auc_run.specs.Service.{end_line}
 use Rattle.auc_run.proofs.BlockLemmas.{asked_quiet}
@@ -30,24 +31,22 @@ returns-in-Ok-clause-refused g c =
     rw (c.turned.ensures.answer, c.round_answer.ensures)
     (round_stops c.say_round-said.result c.in-Ok.stop (c.make_jobs-stand.result.stand.text ++ end_line) (g.W.Wire.turns c.args.wire.now) (g.W.Wire.turns c.say_round-said.new.wire) c.say_round-said.ensures.stopped)
 
-pub returns-in-Ok-clause-write_fault : goal.returns-in-Ok-clause-write_fault
-returns-in-Ok-clause-write_fault g c = λ is.
-    c.say_round-said.ensures.fault (round_said c.say_round-said.result c.in-Ok.stop (rw (c.turned.ensures.answer, c.round_answer.ensures) at is))
+pub returns-in-Ok-clause-wire : goal.returns-in-Ok-clause-wire
+returns-in-Ok-clause-wire g c = record {
+  rose = λ is. c.say_round-said.ensures.wire.rose (round_said c.say_round-said.result c.in-Ok.stop (rw (c.turned.ensures.answer, c.round_answer.ensures) at is));
+  same = λ other. c.say_round-said.ensures.wire.same (λ is. other (rw (c.turned.ensures.answer, c.round_answer.ensures, is) refl));
+}
 
-pub returns-in-Ok-clause-quiet : goal.returns-in-Ok-clause-quiet
-returns-in-Ok-clause-quiet g c = λ other.
-    c.say_round-said.ensures.quiet (λ is. other (rw (c.turned.ensures.answer, c.round_answer.ensures, is) refl))
-
-pub returns-in-Ok-clause-store_fault : goal.returns-in-Ok-clause-store_fault
-returns-in-Ok-clause-store_fault g c = λ is.
-    rw c.turned.ensures.stand (IfOk-ok c.make_jobs-stand.result.result c.in-Ok.stop _ (cc c.in-Ok.is) c.make_jobs-stand.ensures.store_fault
-    (round_fault c.say_round-said.result c.in-Ok.stop (c.make_jobs-stand.result.stand.text ++ end_line) (g.W.Wire.turns c.args.wire.now) (g.W.Wire.turns c.say_round-said.new.wire) c.say_round-said.ensures.stopped (rw (c.turned.ensures.answer, c.round_answer.ensures) at is)))
-
-pub returns-in-Ok-clause-quiet_store : goal.returns-in-Ok-clause-quiet_store
-returns-in-Ok-clause-quiet_store g c = λ fault write memory.
-    rw c.turned.ensures.stand (IfOk-ok c.make_jobs-stand.result.result c.in-Ok.stop _ (cc c.in-Ok.is) c.make_jobs-stand.ensures.quiet_store
-    (round_quiet c.say_round-said.result c.in-Ok.stop (c.make_jobs-stand.result.stand.text ++ end_line) (g.W.Wire.turns c.args.wire.now) (g.W.Wire.turns c.say_round-said.new.wire) c.say_round-said.ensures.stopped
-    (rw (c.turned.ensures.answer, c.round_answer.ensures) at fault) (rw (c.turned.ensures.answer, c.round_answer.ensures) at write) (rw (c.turned.ensures.answer, c.round_answer.ensures) at memory)))
+pub returns-in-Ok-clause-store : goal.returns-in-Ok-clause-store
+returns-in-Ok-clause-store g c =
+    let rose : RoseInRound c.in-Ok.stop (g.D.Disk.faults c.args.stand.journal.disk) (g.D.Disk.faults c.make_jobs-stand.result.stand.journal.disk) =
+    IfOk-ok c.make_jobs-stand.result.result c.in-Ok.stop _ (cc c.in-Ok.is) c.make_jobs-stand.ensures.store in
+    rw c.turned.ensures.stand (record {
+      rose = λ is. rose.rose (round_fault c.say_round-said.result c.in-Ok.stop (c.make_jobs-stand.result.stand.text ++ end_line) (g.W.Wire.turns c.args.wire.now) (g.W.Wire.turns c.say_round-said.new.wire) c.say_round-said.ensures.stopped
+          (rw (c.turned.ensures.answer, c.round_answer.ensures) at is));
+      same = λ quiet. rose.same (round_quiet c.say_round-said.result c.in-Ok.stop (c.make_jobs-stand.result.stand.text ++ end_line) (g.W.Wire.turns c.args.wire.now) (g.W.Wire.turns c.say_round-said.new.wire) c.say_round-said.ensures.stopped
+          (rw (c.turned.ensures.answer, c.round_answer.ensures) at quiet));
+    })
 
 pub returns-clause-turned : goal.returns-clause-turned
 returns-clause-turned g c = λ block waiting asked.

@@ -1,6 +1,6 @@
 use Rattle.std.proofs.Common.{◌∙◌, false, List, ℕ, Err, OnOk, IfErr, sym, subst, refl}
 use Rattle.auc_block.specs.Turns.{Says}
-use Rattle.auc_script.specs.declared.refusal.ScriptWhy.TheVariants as why
+use Rattle.auc_reading.specs.declared.refusal.ScriptWhy.TheVariants as why
 use Rattle.auc_run.specs.InnerService.{IsSaidUpTo, trouble_refusal, turned_by}
 use Rattle.auc_run.specs.Service.{refusal_reply}
 use Rattle.auc_run.proofs.ServiceEnds.{answered, ended, long_answer, long_rest, nothing_served, serves_block, troubled, turned_heard, turned_taken}

@@ -1,11 +1,23 @@
-use Rattle.std.proofs.Common.{◌≡◌, List, [], ◌∙◌, ap, map, rules, sym}
+use Rattle.std.proofs.Common.{◌≡◌, List, [], ◌∙◌, ap, map, rules, subst, sym}
 use Rattle.std.proofs.lemmas.Result.{IfOk-weaker}
+use Rattle.auc_subs.specs.Subscriber.{AreSubscribers}
 use Rattle.auc_subs.specs.declared.row.Row.{Row}
+use Rattle.auc_world.specs.Setting.{Setting}
 use Rattle.auc_run.proofs.LoadLemmas.{served_lawful}
 use Rattle.auc_run.proofs.load.serve_once.Goals as goal
 
 pub serve-requires-clause-state : goal.serve-requires-clause-state
 serve-requires-clause-state g c = λ κs within. ([], c.in_ok-state.ensures.stands c.args.set.now (search rules))
+
+pub serve-requires-clause-round : goal.serve-requires-clause-round
+serve-requires-clause-round g c = λ κs within. record {
+  subscribers = subst AreSubscribers (ap (λ (set : Setting). set.rows) c.set.view_is) c.in_ok-journal.ensures.subscribers;
+  realm = c.requires.realm;
+  known = c.requires.known;
+  few = c.requires.few;
+  apart = c.requires.apart;
+  many = c.requires.workers;
+}
 
 pub returns : goal.returns
 returns g c =

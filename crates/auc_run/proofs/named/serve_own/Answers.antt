@@ -1,4 +1,5 @@
-use Rattle.std.proofs.Common.{◌≡◌, ◌≢◌, ◌∙◌, ◌+◌, ◌<◌, ◌^◌, ◌↔◌, true, List, [], AllPairs, Some, ap, length, refl, subst, sym}
+use Rattle.std.proofs.Common.{◌≡◌, ◌≢◌, ◌∙◌, ◌+◌, ◌<◌, ◌^◌, ◌↔◌, true, List, [], AllPairs, Some, ap, arith, length, map, refl, rules, subst, sym}
+use Rattle.std.proofs.lemmas.List.{length-map}
 use Rattle.auc_edge.specs.Faults.{Rose}
 use Rattle.auc_edge.specs.declared.stop.Stop.TheVariants.{Fault, Full}
 use Rattle.auc_jobs.specs.Round.{LeavesMore}
@@ -6,6 +7,7 @@ use Rattle.auc_jobs.specs.State.{StandsAt}
 use Rattle.auc_journal.specs.Journal.{JournalState}
 use Rattle.auc_lines.specs.Part.{AreApart}
 use Rattle.auc_lines.specs.declared.part.Line.{Line}
+use Rattle.auc_named.specs.Named.{line_of}
 use Rattle.auc_subs.specs.declared.row.Row.{Row}
 use Rattle.auc_world.specs.Lines.{all_lines}
 use Rattle.auc_world.specs.Setting.{Setting}
@@ -23,8 +25,21 @@ name_some-requires g c =
 pub serve-journal-requires-clause-state : goal.serve-journal-requires-clause-state
 serve-journal-requires-clause-state g c = λ lifetimes within. ([], c.requires.stands _ c.subs.ensures)
 
-pub serve-journal-requires-clause-apart : goal.serve-journal-requires-clause-apart
-serve-journal-requires-clause-apart g c = λ lifetimes within. subst (λ (jobs : List (List Line)). AllPairs AreApart jobs) (sym c.jobs.ensures) (plain_apart c.args.own.named.jobs c.requires.may.2.plain)
+pub serve-journal-requires-clause-round : goal.serve-journal-requires-clause-round
+serve-journal-requires-clause-round g c = λ lifetimes within.
+    let (jobs, may, named) = c.requires.may in
+    let own = c.args.own.named.jobs in
+    let places = c.args.own.named.places in
+    let count : length c.jobs.result.now ≡ length jobs =
+    ap (λ (js : List (List Line)). length js) c.jobs.ensures ∙ sym (length-map own (λ (job : List Line). map (line_of places) job)) ∙ ap (λ (js : List (List Line)). length js) named.are in
+    record {
+      subscribers = search rules;
+      realm = search rules;
+      known = search rules;
+      few = omega (arith, count, may.few);
+      apart = subst (λ (js : List (List Line)). AllPairs AreApart js) (sym c.jobs.ensures) (plain_apart own named.plain);
+      many = search rules;
+    }
 
 pub of_all-result-requires-clause-names : goal.of_all-result-requires-clause-names
 of_all-result-requires-clause-names g c =

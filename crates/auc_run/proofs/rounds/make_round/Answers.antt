@@ -1,8 +1,10 @@
-use Rattle.std.proofs.Common.{List, subst, sym}
+use Rattle.std.proofs.Common.{List, Option, subst, sym}
+use Rattle.auc_edge.specs.declared.stop.Stop.{Stop}
 use Rattle.auc_jobs.specs.Round.{Serves}
 use Rattle.auc_lines.specs.declared.part.Line.{Line}
 use Rattle.auc_world.specs.Round.{IsLawfulRound}
 use Rattle.auc_run.specs.Inner.{EachLeads}
+use Rattle.auc_run.specs.InnerFaults.{RoseInRound}
 use Rattle.auc_run.specs.InnerNamed.{MayServe}
 use Rattle.auc_run.proofs.OutputLemmas.{IfOk-ok}
 use Rattle.auc_run.proofs.PrintableLemmas.{round_named}
@@ -76,10 +78,11 @@ returns-in-Ok-clause-ends g c =
     (IfOk-ok c.serve_start-journal.result.result c.in-Ok.ran _ (cc c.in-Ok.is) c.serve_start-journal.ensures.served known on.stands)) in
     covers_round g.D.Disk.seen g.D.Disk.may_leave g.D.Disk.moment g.D.Disk.left_since set c.args.stand.number state next journal after c.args.jobs.now round stop c.append_round-result.result each
 
-pub returns-in-Ok-clause-store_fault : goal.returns-in-Ok-clause-store_fault
-returns-in-Ok-clause-store_fault g c =
-    each_stop c.append_round-result.result c.in-Ok.ran.stop _ c.append_round-result.ensures.stop (IfOk-ok c.serve_start-journal.result.result c.in-Ok.ran _ (cc c.in-Ok.is) c.serve_start-journal.ensures.fault)
-
-pub returns-in-Ok-clause-quiet_store : goal.returns-in-Ok-clause-quiet_store
-returns-in-Ok-clause-quiet_store g c =
-    each_stop c.append_round-result.result c.in-Ok.ran.stop _ c.append_round-result.ensures.stop (IfOk-ok c.serve_start-journal.result.result c.in-Ok.ran _ (cc c.in-Ok.is) c.serve_start-journal.ensures.quiet)
+pub returns-in-Ok-clause-store : goal.returns-in-Ok-clause-store
+returns-in-Ok-clause-store g c =
+    let result = c.serve_start-journal.result.result in
+    each_stop c.append_round-result.result c.in-Ok.ran.stop (λ (stop : Option Stop). RoseInRound stop (g.D.Disk.faults c.args.stand.journal.disk) (g.D.Disk.faults c.serve_start-journal.result.journal.disk)) c.append_round-result.ensures.stop
+    (record {
+      rose = IfOk-ok result c.in-Ok.ran _ (cc c.in-Ok.is) c.serve_start-journal.ensures.fault;
+      same = IfOk-ok result c.in-Ok.ran _ (cc c.in-Ok.is) c.serve_start-journal.ensures.quiet;
+    })

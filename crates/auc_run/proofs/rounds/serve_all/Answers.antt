@@ -29,8 +29,8 @@ loop-part-preserved g c =
     let number = c.serve_part-next.ensures.number in
     record {
       number = omega (arith, before.number, number);
-      quiet = c.serve_part-next.ensures.quiet (λ same. cc (same, c.in-Ok.is)) ∙ before.quiet;
-      quiet_store = c.serve_part-next.ensures.quiet_store (rw c.in-Ok.is tt) ∙ before.quiet_store;
+      quiet = c.serve_part-next.ensures.output.same (λ same. cc (same, c.in-Ok.is)) ∙ before.quiet;
+      quiet_store = c.serve_part-next.ensures.store.same (rw c.in-Ok.is tt) ∙ before.quiet_store;
       serving = λ from reserved at on.
           let serving = before.serving from reserved at on in
           Serving-part g.D.Disk.seen g.D.Disk.may_leave g.D.Disk.moment g.D.Disk.left_since c.args.settings.now.set c.args.settings.now.full from reserved at c.loop-part.stand.number c.serve_part-next.result.stand.number

@@ -5,14 +5,32 @@ use Rattle.auc_world.specs.Limits.{opened}
 use Rattle.auc_world.specs.Setting.{Setting}
 use Rattle.auc_world.specs.declared.record.LineRecord.{LineRecord}
 use Rattle.auc_run.specs.declared.rounds.Settings.{Settings}
-use Rattle.auc_run.proofs.StepLemmas.{restart_ends, restart_goes}
+use Rattle.auc_run.proofs.StepLemmas.{part_ends, part_goes, part_store, restart_ends, restart_goes}
 use Rattle.auc_run.proofs.rounds.serve_part.Goals as goal
 
 pub returns-in-Round-clause-goes : goal.returns-in-Round-clause-goes
-returns-in-Round-clause-goes g c = rw c.in-Round.is c.serve_round.ensures.goes
+returns-in-Round-clause-goes g c =
+    let made = c.make_round.result in
+    let wrote = c.write_round.result in
+    rw (c.in-Round.is, c.write_round.ensures.number, c.make_round.ensures.number, c.write_round.ensures.state, c.write_round.ensures.journal)
+    (part_goes g.D.Disk.seen g.D.Disk.may_leave g.D.Disk.moment g.D.Disk.left_since c.args.settings.now.set c.args.settings.now.full c.args.stand.number c.args.stand.state made.stand.state c.args.stand.journal made.stand.journal
+    _ made.result wrote.result c.args.stand.text made.stand.text wrote.stand.text (g.K.Sink.written c.args.out.now) (g.K.Sink.written c.write_round.new.out) c.make_round.ensures.made c.write_round.ensures.wrote)
 
 pub returns-in-Round-clause-ends : goal.returns-in-Round-clause-ends
-returns-in-Round-clause-ends g c = rw c.in-Round.is c.serve_round.ensures.ends
+returns-in-Round-clause-ends g c =
+    let made = c.make_round.result in
+    let wrote = c.write_round.result in
+    rw (c.in-Round.is, c.write_round.ensures.journal)
+    (part_ends g.D.Disk.seen g.D.Disk.may_leave g.D.Disk.moment g.D.Disk.left_since c.args.settings.now.set c.args.settings.now.full c.args.stand.number c.args.stand.state made.stand.state c.args.stand.journal made.stand.journal
+    _ made.result wrote.result c.args.stand.text made.stand.text wrote.stand.text (g.K.Sink.written c.args.out.now) (g.K.Sink.written c.write_round.new.out) c.make_round.ensures.made c.make_round.ensures.ends c.write_round.ensures.wrote)
+
+pub returns-in-Round-clause-store : goal.returns-in-Round-clause-store
+returns-in-Round-clause-store g c =
+    let made = c.make_round.result in
+    let wrote = c.write_round.result in
+    rw c.write_round.ensures.journal
+    (part_store made.result wrote.result made.stand.text wrote.stand.text (g.K.Sink.written c.args.out.now) (g.K.Sink.written c.write_round.new.out) (g.D.Disk.faults c.args.stand.journal.disk) (g.D.Disk.faults made.stand.journal.disk)
+    c.make_round.ensures.store c.write_round.ensures.wrote)
 
 pub returns-in-Restart-clause-goes : goal.returns-in-Restart-clause-goes
 returns-in-Restart-clause-goes g c =

@@ -2,7 +2,7 @@ use Rattle.std.proofs.Common.{◌≡◌, ℕ, List, Ok, Err, sym, ◌∙◌, ap,
 use Rattle.std.proofs.lemmas.Result.{err_from_is_err_and}
 use Rattle.auc_script.specs.Reading.{header_of}
 use Rattle.auc_script.specs.declared.refusal.ScriptRefusal.TheVariants as wrong
-use Rattle.auc_script.specs.declared.refusal.ScriptWhy.TheVariants as why
+use Rattle.auc_reading.specs.declared.refusal.ScriptWhy.TheVariants as why
 use Rattle.auc_run.specs.InnerService.{IsHeaderStop}
 use Rattle.auc_run.specs.Service.{last_line}
 use Rattle.auc_run.specs.declared.refusal.Refusal.TheVariants as refused

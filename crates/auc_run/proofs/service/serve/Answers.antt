@@ -38,7 +38,7 @@ returns-in-Err-clause-read_fault g c = λ at.
     let quiet : g.W.Wire.faults c.say_refusal-in-Err.new.wire ≡ g.W.Wire.faults c.serve_words-disk.new.wire = c.say_refusal-in-Err.ensures.quiet (read_write c.say_refusal-in-Err.result at) in
     read_named (service_named c.args.words.now) (option_copied c.in-Some.form.subscribers) (g.W.Wire.faults c.args.wire.now) (g.W.Wire.faults c.serve_words-disk.new.wire) (g.W.Wire.faults c.say_refusal-in-Err.new.wire)
     (λ name. Rose (g.H.Shelf.faults c.args.shelf.now name) (g.H.Shelf.faults c.serve_words-disk.new.shelf name)) (sym c.in-Some.ensures) quiet
-    ((rw (c.in-Err.is, is) at c.serve_words-disk.ensures.read_fault) refl)
+    ((rw (c.in-Err.is, is) at c.serve_words-disk.ensures.input.read) refl)
 
 pub returns-in_default-clause-always : goal.returns-in_default-clause-always
 returns-in_default-clause-always g c =

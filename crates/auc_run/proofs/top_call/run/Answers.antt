@@ -103,13 +103,13 @@ returns-in-Err-clause-remembers g c =
 
 pub returns-in-Err-clause-quiet_shelf : goal.returns-in-Err-clause-quiet_shelf
 returns-in-Err-clause-quiet_shelf g c = λ not_read.
-    c.perform-disk.ensures.quiet_shelf (λ is. let same : c.in-Err.refusal ≡ refused.ReadFault = cc (is, c.in-Err.is) in not_read (read_told c.tell.result (g.K.Sink.written c.perform-disk.new.out) (g.K.Sink.written c.tell.new.out)
+    c.perform-disk.ensures.shelf.same (λ is. let same : c.in-Err.refusal ≡ refused.ReadFault = cc (is, c.in-Err.is) in not_read (read_told c.tell.result (g.K.Sink.written c.perform-disk.new.out) (g.K.Sink.written c.tell.new.out)
     (subst (λ (r : Refusal). Tells r c.tell.result (g.K.Sink.written c.perform-disk.new.out) (g.K.Sink.written c.tell.new.out)) same c.tell.ensures.told)))
 
 pub returns-in-Err-clause-quiet_output : goal.returns-in-Err-clause-quiet_output
 returns-in-Err-clause-quiet_output g c = λ not_write.
     c.tell.ensures.quiet not_write
-    ∙ c.perform-disk.ensures.quiet_output (λ is. let same : c.in-Err.refusal ≡ refused.WriteFault = cc (is, c.in-Err.is) in not_write (write_told c.tell.result (g.K.Sink.written c.perform-disk.new.out) (g.K.Sink.written c.tell.new.out)
+    ∙ c.perform-disk.ensures.output.same (λ is. let same : c.in-Err.refusal ≡ refused.WriteFault = cc (is, c.in-Err.is) in not_write (write_told c.tell.result (g.K.Sink.written c.perform-disk.new.out) (g.K.Sink.written c.tell.new.out)
     (subst (λ (r : Refusal). Tells r c.tell.result (g.K.Sink.written c.perform-disk.new.out) (g.K.Sink.written c.tell.new.out)) same c.tell.ensures.told)))
 
 pub returns-in-Err-clause-refused_comes : goal.returns-in-Err-clause-refused_comes

@@ -3,4 +3,4 @@ use Rattle.auc_seal.proofs.PaddingLemmas.{spelled_whole}
 use Rattle.auc_seal.proofs.encryption.put_padded.Goals as goal
 
 pub padding_for-requires : goal.padding_for-requires
-padding_for-requires c = omega (arith, spelled_whole c.args.inner.now c.requires.inner.writable, c.size_of.ensures)
+padding_for-requires c = omega (arith, spelled_whole c.args.inner.now c.requires.inner.writable, c.size.ensures)

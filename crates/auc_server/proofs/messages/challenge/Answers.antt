@@ -10,13 +10,13 @@ use Rattle.auc_server.proofs.messages.challenge.Goals as goal
 
 pub put_sealed-requires-clause-writable : goal.put_sealed-requires-clause-writable
 put_sealed-requires-clause-writable c =
-    subst MayBeSealed (sym c.challenge_draft-draft.ensures) (challenge_may c.args.options.now c.args.realm.now c.args.id c.args.sent.now.vector.rand c.args.sent.now.vector.autn c.args.sent.now.keys.k_encr c.args.given c.args.check c.requires.short c.are_blocks.ensures.key.size c.are_blocks.ensures.iv.size c.given_is_small.ensures c.requires.check)
+    subst MayBeSealed (sym c.challenge_draft-draft.ensures) (challenge_may c.args.scene.now.options.now c.args.scene.now.realm.now c.args.scene.now.id c.args.sent.now.vector.rand c.args.sent.now.vector.autn c.args.sent.now.keys.k_encr c.args.given c.args.check c.requires.short c.are_blocks.ensures.key.size c.are_blocks.ensures.iv.size c.given_is_small.ensures c.requires.check)
 
 pub put_sealed-requires-clause-room : goal.put_sealed-requires-clause-room
 put_sealed-requires-clause-room c =
     subst (λ (n : ℕ). length (packet_text (with_mac c.challenge_draft-draft.result no_mac)) ≤ n) (sym c.requires.fresh.size)
     (subst (λ (d : Draft). length (packet_text (with_mac d no_mac)) ≤ 728) (sym c.challenge_draft-draft.ensures)
-    (challenge_size c.args.options.now c.args.realm.now c.args.id c.args.sent.now.vector.rand c.args.sent.now.vector.autn c.args.sent.now.keys.k_encr c.args.given c.args.check c.requires.short c.are_blocks.ensures.key.size c.are_blocks.ensures.iv.size c.given_is_small.ensures c.requires.check))
+    (challenge_size c.args.scene.now.options.now c.args.scene.now.realm.now c.args.scene.now.id c.args.sent.now.vector.rand c.args.sent.now.vector.autn c.args.sent.now.keys.k_encr c.args.given c.args.check c.requires.short c.are_blocks.ensures.key.size c.are_blocks.ensures.iv.size c.given_is_small.ensures c.requires.check))
 
 pub returns-clause-bytes : goal.returns-clause-bytes
 unfolding challenge_bytes
@@ -27,8 +27,8 @@ returns-clause-bytes c =
 
 pub returns-clause-size : goal.returns-clause-size
 returns-clause-size c =
-    let text : c.into_octets.result ≡ sealed c.args.sent.now.keys.k_aut [] (challenge_draft c.args.options.now c.args.realm.now c.args.id c.args.sent.now.vector.rand c.args.sent.now.vector.autn c.args.sent.now.keys.k_encr c.args.given c.args.check) =
+    let text : c.into_octets.result ≡ sealed c.args.sent.now.keys.k_aut [] (challenge_draft c.args.scene.now.options.now c.args.scene.now.realm.now c.args.scene.now.id c.args.sent.now.vector.rand c.args.sent.now.vector.autn c.args.sent.now.keys.k_encr c.args.given c.args.check) =
     c.into_octets.ensures ∙ ap (λ (r : Reserved ℕ). r.written) c.put_sealed.ensures
     ∙ ap (λ (t : List ℕ). t ++ sealed c.args.sent.now.keys.k_aut [] c.challenge_draft-draft.result) c.requires.fresh.empty
     ∙ ap (λ (d : Draft). sealed c.args.sent.now.keys.k_aut [] d) c.challenge_draft-draft.ensures in
-    subst (λ (bytes : List ℕ). length bytes ≤ 728) (sym text) (sealed_size c.args.options.now c.args.realm.now c.args.sent.now.keys.k_aut c.args.id c.args.sent.now.vector.rand c.args.sent.now.vector.autn c.args.sent.now.keys.k_encr c.args.given c.args.check c.requires.short c.are_blocks.ensures.key.size c.are_blocks.ensures.iv.size c.given_is_small.ensures c.requires.check)
+    subst (λ (bytes : List ℕ). length bytes ≤ 728) (sym text) (sealed_size c.args.scene.now.options.now c.args.scene.now.realm.now c.args.sent.now.keys.k_aut c.args.scene.now.id c.args.sent.now.vector.rand c.args.sent.now.vector.autn c.args.sent.now.keys.k_encr c.args.given c.args.check c.requires.short c.are_blocks.ensures.key.size c.are_blocks.ensures.iv.size c.given_is_small.ensures c.requires.check)

@@ -1,14 +1,13 @@
-use Rattle.std.proofs.Common.{◌≡◌, ◌<◌, ℕ, List, length, map, ap, ◌∙◌, arith}
-use Rattle.std.proofs.lemmas.List.{length-map}
-use Rattle.auc_milenage.specs.Milenage.{temp_of}
-use Rattle.auc_vector.proofs.ManyLemmas.{ciphers_are}
+use Rattle.std.proofs.Common.{[], sym, ◌∙◌, arith}
+use Rattle.std.proofs.lemmas.List.{ext_get_or}
+use Rattle.auc_hmac.specs.declared.method.Method.TheVariants.{Aka}
+use Rattle.auc_vector.specs.Many.{vectors_of}
+use Rattle.auc_vector.proofs.ManyLemmas.{none, length-vectors_of, vectors_at}
 use Rattle.auc_vector.proofs.many.fill.Goals as goal
 
 pub returns : goal.returns
 returns c =
-    let temp : List ℕ → List ℕ = temp_of c.args.m.now.k c.args.m.now.opc in
-    let temps : c.temps.new.rands ≡ map temp c.args.rands.now = c.temps.ensures ∙ ap (map temp) c.copy_from_slice.ensures.after in
-    c.take_apart.ensures (λ j l.
-    let there : j < length c.temps.new.rands = omega (arith, ap length temps, length-map c.args.rands.now temp) in
-    ciphers_are c.args.m.now c.args.amf c.args.bits c.args.first (length c.args.rands.now) c.args.rands.now c.inputs-blocks.result c.encrypt.new.blocks _ j
-    (omega arith) c.encrypt.ensures l (c.inputs-blocks.ensures c.args.rands.now temps j there))
+    ext_get_or none c.loop-i.out (vectors_of c.args.m.now Aka c.args.amf [] c.args.bits c.args.first c.args.rands.now)
+    (c.loop-i.invariant.size ∙ sym (length-vectors_of c.args.m.now Aka c.args.amf [] c.args.bits c.args.first c.args.rands.now)) (λ i under.
+    c.loop-i.invariant.done c.ciphers-ciphers.ensures i (omega (arith, c.loop-i.invariant.size))
+    ∙ sym (vectors_at c.args.m.now Aka c.args.amf [] c.args.bits c.args.first c.args.rands.now i (omega (arith, c.loop-i.invariant.size))))

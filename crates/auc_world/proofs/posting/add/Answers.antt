@@ -2,7 +2,4 @@ use Rattle.std.proofs.Common.{arith}
 use Rattle.auc_world.proofs.posting.add.Goals as goal
 
 pub overflow_cast-result : goal.overflow_cast-result
-overflow_cast-result c = omega (arith, c.len.ensures, c.in-Ok.ensures.len, c.requires.1)
-
-pub unreachable-requires : goal.unreachable-requires
-unreachable-requires c = omega (arith, c.in-Err.ensures.full, c.requires.0)
+overflow_cast-result c = omega (arith, c.len.ensures, c.push_reserved.ensures.len, c.requires.1)

@@ -7,6 +7,7 @@ use Rattle.auc_server.specs.declared.why.ServerWhy.{ServerWhy}
 use Rattle.auc_vector.specs.declared.turn.Turn.{Turn}
 use Rattle.auc_world.proofs.TurningLemmas.{identity_left, name_stays, turn_subs, written_back}
 use Rattle.auc_world.proofs.turning.serve.Goals as goal
+use Rattle.auc_server.specs.Server.{challenged_of, resumed_of}
 
 pub put_served-requires-clause-left : goal.put_served-requires-clause-left
 put_served-requires-clause-left g c =
@@ -19,10 +20,10 @@ put_served-requires-clause-name g c =
     let step = c.in-Ok.ensures.step in
     name_stays c.args.set.now _ c.args.server.now c.on_bytes.new.self step.seen step.reply c.in-Ok.turn c.in_ok-rooms.rooms.name step.same c.in_ok-rooms.ensures.name
 
-pub on_bytes-requires-clause-served : goal.on_bytes-requires-clause-served
-on_bytes-requires-clause-served g c =
+pub on_bytes-requires : goal.on_bytes-requires
+on_bytes-requires g c =
     subst (λ (hs : List HomeRow). IsServed c.args.set.now.rows (g.C.Centre.subs c.args.centre.now) (g.C.Centre.top c.args.centre.now) hs c.args.server.now)
-    (sym c.as_mut_slice.ensures.value) c.requires.served
+    (sym c.as_mut_slice.ensures.value) c.requires
 
 pub returns-in-Ok-clause-step : goal.returns-in-Ok-clause-step
 returns-in-Ok-clause-step g c =
@@ -46,30 +47,30 @@ returns-in-Ok-clause-same g c =
 pub returns-in-Ok-clause-held : goal.returns-in-Ok-clause-held
 returns-in-Ok-clause-held g c =
     let back = written_back c.args.homes.now.items c.on_bytes.new.homes _ (c.on_bytes.auto.homes ∙ c.as_mut_slice.ensures.len) in
-    subst (λ (hs : List HomeRow). IsHeld hs c.on_bytes.new.self.challenged) (sym back) c.in-Ok.ensures.served.held
+    subst (λ (hs : List HomeRow). IsHeld hs (challenged_of c.on_bytes.new.self)) (sym back) c.in-Ok.ensures.served.held
 
 pub returns-in-Ok-clause-resumed : goal.returns-in-Ok-clause-resumed
 returns-in-Ok-clause-resumed g c =
     let back = written_back c.args.homes.now.items c.on_bytes.new.homes _ (c.on_bytes.auto.homes ∙ c.as_mut_slice.ensures.len) in
-    subst (λ (hs : List HomeRow). IsHeldToo hs c.on_bytes.new.self.resumed) (sym back) c.in-Ok.ensures.served.resumed
+    subst (λ (hs : List HomeRow). IsHeldToo hs (resumed_of c.on_bytes.new.self)) (sym back) c.in-Ok.ensures.served.resumed
 
 -- ---- if memory runs out
 
 pub returns-in_err-rooms-clause-held : goal.returns-in_err-rooms-clause-held
-returns-in_err-rooms-clause-held g c = c.requires.served.held
+returns-in_err-rooms-clause-held g c = c.requires.held
 
 pub returns-in_err-rooms-clause-resumed : goal.returns-in_err-rooms-clause-resumed
-returns-in_err-rooms-clause-resumed g c = c.requires.served.resumed
+returns-in_err-rooms-clause-resumed g c = c.requires.resumed
 
 pub returns-in-Err-clause-held : goal.returns-in-Err-clause-held
 returns-in-Err-clause-held g c =
     let back = written_back c.args.homes.now.items c.on_bytes.new.homes _ (c.on_bytes.auto.homes ∙ c.as_mut_slice.ensures.len) in
-    subst (λ (hs : List HomeRow). IsHeld hs c.on_bytes.new.self.challenged) (sym back) c.in-Err.ensures.served.held
+    subst (λ (hs : List HomeRow). IsHeld hs (challenged_of c.on_bytes.new.self)) (sym back) c.in-Err.ensures.served.held
 
 pub returns-in-Err-clause-resumed : goal.returns-in-Err-clause-resumed
 returns-in-Err-clause-resumed g c =
     let back = written_back c.args.homes.now.items c.on_bytes.new.homes _ (c.on_bytes.auto.homes ∙ c.as_mut_slice.ensures.len) in
-    subst (λ (hs : List HomeRow). IsHeldToo hs c.on_bytes.new.self.resumed) (sym back) c.in-Err.ensures.served.resumed
+    subst (λ (hs : List HomeRow). IsHeldToo hs (resumed_of c.on_bytes.new.self)) (sym back) c.in-Err.ensures.served.resumed
 
 pub returns-in-Err-clause-same : goal.returns-in-Err-clause-same
 returns-in-Err-clause-same g c =

@@ -14,8 +14,8 @@ returns-clause-advanced c =
     record {
       opened = same ∙ c.in_ok-opened.ensures.value;
       within = subst (λ (words : List ℕ). (sub : ℕ) → sub < length c.args.subs.now → slice_index words sub ≤ top_at c.args.subs.now sub) (sym same) c.in_ok-opened.ensures.bound;
-      put = subst (λ (s : Standing). ArePutBack s.usims c.args.devices.now c.put_back.new.self) c.self.view_is c.put_back.ensures;
-      keeps = c.put_back-2.ensures ∙ ap (λ (s : Standing). fold put_own s.kept c.args.devices.now) c.self.view_is;
+      put = subst (λ (s : Standing). ArePutBack s.usims c.args.devices.now c.put_back.new.self.usims) c.self.view_is c.put_back.ensures.usims;
+      keeps = c.put_back.ensures.kept ∙ ap (λ (s : Standing). fold put_own s.kept c.args.devices.now) c.self.view_is;
       noted = subst (λ (s : Standing). (before : List LineRecord) → AreReleased s.released before → AreReleased c.note_all.new.released (before ++ all_lines c.args.records.now)) c.self.view_is
           c.in_ok-note_all.ensures.noted;
     }

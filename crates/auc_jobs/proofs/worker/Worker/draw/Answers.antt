@@ -1,11 +1,11 @@
-use Rattle.std.proofs.Common.{◌≡◌, ◌-◌, ◌+◌, ◌∙◌, [], List, arith, refl, sym, subst, ℕ}
+use Rattle.std.proofs.Common.{◌≡◌, ◌-◌, ◌+◌, [], List, arith, refl, sym, subst, ℕ}
 use Rattle.std.proofs.Math.Nat.{sub-zero}
 use Rattle.auc_world.specs.Given.{Before, DrawGives}
 use Rattle.auc_world.specs.Setting.{Setting}
 use Rattle.auc_world.specs.declared.record.LineRecord.{LineRecord}
 use Rattle.auc_jobs.specs.InnerServing.{IsNext}
 use Rattle.auc_jobs.proofs.DrawingLemmas.{GoesOn, draw_all, draw_begins, draw_ends, draw_more}
-use Rattle.auc_jobs.proofs.WorkerLemmas.{also_serves, goes_on_more, more_serves, none_serves}
+use Rattle.auc_jobs.proofs.WorkerLemmas.{also_serves, goes_on_beside, more_serves, none_serves}
 use Rattle.auc_jobs.proofs.worker.Worker.draw.Goals as goal
 
 pub loop-init : goal.loop-init
@@ -13,10 +13,8 @@ loop-init g c = record {
   same = record {
     worker = record { borrow = refl; lent = refl; set = refl; released = refl };
     keyed = λ sub. refl;
-    homes = refl;
-    devices = refl;
+    net = refl;
   };
-  net = refl;
   drawn =
       also_serves g.C.Centre.kept g.C.Centre.goes c.args.self.now c.args.self.now (λ before lines. lines ≡ []) (λ before. GoesOn c.args.self.now.set c.args.sub (c.args.count - 0) c.args.count)
       (λ before lines none.
@@ -26,8 +24,7 @@ loop-init g c = record {
 
 pub loop-preserved : goal.loop-preserved
 loop-preserved g c = record {
-  same = goes_on_more _ _ _ c.args.self.now c.loop.self c.draw_next.new.self c.loop.invariant.same c.in_ok-draw_next.ensures.same;
-  net = c.in_ok-draw_next.ensures.net ∙ c.loop.invariant.net;
+  same = goes_on_beside _ _ _ c.args.self.now c.loop.self c.draw_next.new.self c.loop.invariant.same c.in_ok-draw_next.ensures.same;
   drawn =
       more_serves g.C.Centre.kept g.C.Centre.goes c.args.self.now c.loop.self c.draw_next.new.self (λ before. GoesOn c.args.self.now.set c.args.sub (c.args.count - c.loop.counter) c.args.count)
       (λ (s : Setting) (before : Before) (lines : List LineRecord). IsNext s c.args.sub c.in_ok-draw_next.field-0 lines)

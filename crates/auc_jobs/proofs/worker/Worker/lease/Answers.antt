@@ -14,7 +14,7 @@ use Rattle.auc_jobs.specs.InnerSim.{IsNumber}
 use Rattle.auc_jobs.specs.InnerSites.{IsLease}
 use Rattle.auc_jobs.proofs.SimLemmas.{numbers_one}
 use Rattle.auc_jobs.proofs.SiteLemmas.{LeaseGoesOn, lease_begins, lease_ends_early, lease_more, lease_whole}
-use Rattle.auc_jobs.proofs.WorkerLemmas.{also_serves, goes_on_more, more_serves, none_serves}
+use Rattle.auc_jobs.proofs.WorkerLemmas.{also_serves, goes_on_beside, more_serves, none_serves}
 use Rattle.auc_jobs.proofs.worker.Worker.lease.Goals as goal
 
 pub loop-init : goal.loop-init
@@ -22,10 +22,8 @@ loop-init g c = record {
   same = record {
     worker = record { borrow = refl; lent = refl; set = refl; released = refl };
     keyed = λ sub. refl;
-    homes = refl;
-    devices = refl;
+    net = refl;
   };
-  net = refl;
   count = rw c.new-lease.ensures refl;
   own = rw c.new-lease.ensures (g.met.C.Centre.stays c.args.self.now.centre c.args.sub);
   numbers = rw c.new-lease.ensures (All-nil (IsNumber c.args.self.now.set.rows c.args.sub));
@@ -45,8 +43,7 @@ push-requires g c = (
 
 pub loop-preserved : goal.loop-preserved
 loop-preserved g c = record {
-  same = goes_on_more _ _ _ c.args.self.now c.loop.self c.draw_next.new.self c.loop.invariant.same c.in_ok-n.ensures.same;
-  net = c.in_ok-n.ensures.net ∙ c.loop.invariant.net;
+  same = goes_on_beside _ _ _ c.args.self.now c.loop.self c.draw_next.new.self c.loop.invariant.same c.in_ok-n.ensures.same;
   count = ap length c.push.ensures ∙ length-append c.loop.lease (c.in-Some.n ∷ []) ∙ ap (λ (k : ℕ). k + 1) c.loop.invariant.count;
   own = drawn_more g.C.Centre.goes c.args.sub c.in-Some.n c.loop.lease c.push.new.self c.args.self.now.centre c.loop.self.centre c.draw_next.new.self.centre g.met.C.Centre.joins
       c.push.ensures c.loop.invariant.own (subst (λ (o : Option ℕ). IfSome o (λ n. g.C.Centre.goes c.loop.self.centre c.args.sub (Drawn n ∷ []) [] c.draw_next.new.self.centre)) c.in-Some.is c.in_ok-n.ensures.own);

@@ -1,4 +1,4 @@
-use Rattle.std.proofs.Common.{◌≡◌, ◌∙◌, ◌++◌, [], ◌∷◌, List, refl, reverse}
+use Rattle.std.proofs.Common.{◌≡◌, ◌++◌, [], ◌∷◌, List, refl, reverse}
 use Rattle.auc_world.specs.Given.{Before}
 use Rattle.auc_world.specs.Setting.{Setting}
 use Rattle.auc_world.specs.declared.further.Further.TheVariants as further
@@ -6,7 +6,7 @@ use Rattle.auc_world.specs.declared.record.LineRecord.{LineRecord}
 use Rattle.auc_world.specs.declared.record.LineRecord.TheVariants.{Further}
 use Rattle.auc_jobs.specs.InnerSim.{said_lines}
 use Rattle.auc_jobs.proofs.SimLemmas.{notes_all, notes_begin, notes_more}
-use Rattle.auc_jobs.proofs.WorkerLemmas.{also_serves, goes_on_more, more_serves, none_serves}
+use Rattle.auc_jobs.proofs.WorkerLemmas.{also_serves, goes_on_beside, more_serves, none_serves}
 use Rattle.auc_jobs.proofs.worker.Worker.say_notes.Goals as goal
 
 pub loop-note-init : goal.loop-note-init
@@ -14,10 +14,8 @@ loop-note-init g c = record {
   same = record {
     worker = record { borrow = refl; lent = refl; set = refl; released = refl };
     keyed = λ sub. refl;
-    homes = refl;
-    devices = refl;
+    net = refl;
   };
-  net = refl;
   said =
       also_serves g.C.Centre.kept g.C.Centre.goes c.args.self.now c.args.self.now (λ (before : Before) (lines : List LineRecord). lines ≡ [])
       (λ (before : Before) (lines : List LineRecord). lines ++ said_lines c.args.sub (reverse c.in_ok-left.left) ≡ said_lines c.args.sub c.args.notes)
@@ -27,8 +25,7 @@ loop-note-init g c = record {
 
 pub loop-note-preserved : goal.loop-note-preserved
 loop-note-preserved g c = record {
-  same = goes_on_more _ _ _ c.args.self.now c.loop-note.self c.say.new.self c.loop-note.invariant.same c.in_ok-say.ensures.same;
-  net = c.in_ok-say.ensures.net ∙ c.loop-note.invariant.net;
+  same = goes_on_beside _ _ _ c.args.self.now c.loop-note.self c.say.new.self c.loop-note.invariant.same c.in_ok-say.ensures.same;
   said =
       more_serves g.C.Centre.kept g.C.Centre.goes c.args.self.now c.loop-note.self c.say.new.self
       (λ (before : Before) (lines : List LineRecord). lines ++ said_lines c.args.sub (reverse c.loop-note.left) ≡ said_lines c.args.sub c.args.notes)

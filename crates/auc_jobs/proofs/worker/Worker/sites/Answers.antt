@@ -11,7 +11,7 @@ use Rattle.auc_world.specs.declared.record.LineRecord.{LineRecord}
 use Rattle.auc_world.specs.declared.record.LineRecord.TheVariants.{Further}
 use Rattle.auc_jobs.specs.InnerWorker.{WorkerServes}
 use Rattle.auc_jobs.proofs.SiteLemmas.{SitesGoOn, sites_begin, sites_end, sites_step, start_packets, start_sites}
-use Rattle.auc_jobs.proofs.WorkerLemmas.{also_serves, goes_on_more, none_serves}
+use Rattle.auc_jobs.proofs.WorkerLemmas.{also_serves, goes_on_beside, none_serves}
 use Rattle.auc_jobs.proofs.worker.Worker.sites.Goals as goal
 
 pub loop-event-init : goal.loop-event-init
@@ -19,10 +19,8 @@ loop-event-init g c = record {
   same = record {
     worker = record { borrow = refl; lent = refl; set = refl; released = refl };
     keyed = λ sub. refl;
-    homes = refl;
-    devices = refl;
+    net = refl;
   };
-  world = refl;
   sites = start_sites c.sites.result c.in_ok-net.net c.in_ok-net.ensures ∙ c.sites.ensures.value;
   packets = start_packets c.sites.result c.in_ok-net.net c.in_ok-net.ensures;
   served = (
@@ -42,9 +40,8 @@ site_event-requires-clause-room g c =
 
 pub loop-event-preserved : goal.loop-event-preserved
 loop-event-preserved g c = record {
-  same = goes_on_more _ _ _ c.args.self.now c.loop-event.self c.say.new.self c.loop-event.invariant.same
-      (goes_on_more _ _ _ c.loop-event.self c.site_event.new.self c.say.new.self c.in_ok-note.ensures.same c.in_ok-say.ensures.same);
-  world = c.in_ok-say.ensures.net ∙ c.in_ok-note.ensures.net ∙ c.loop-event.invariant.world;
+  same = goes_on_beside _ _ _ c.args.self.now c.loop-event.self c.say.new.self c.loop-event.invariant.same
+      (goes_on_beside _ _ _ c.loop-event.self c.site_event.new.self c.say.new.self c.in_ok-note.ensures.same c.in_ok-say.ensures.same);
   sites = c.in_ok-note.ensures.grows.sites ∙ c.loop-event.invariant.sites;
   packets = omega (arith, c.in_ok-note.ensures.grows.packets, c.loop-event.invariant.packets);
   served =

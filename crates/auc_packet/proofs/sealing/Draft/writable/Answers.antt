@@ -10,6 +10,6 @@ returns-then-has c = (λ t. absurd cc, λ may. let n = none_stands c.args.self.n
 
 pub returns : goal.returns
 returns c = (
-  λ t. may_be_sealed c.args.self.now (sym c.if-not-writable.ensures) (sym c.if-has.ensures) (c.are_short.ensures.0 t),
-  λ may. c.are_short.ensures.1 (omega (arith, front_small c.args.self.now may)),
+  λ t. may_be_sealed c.args.self.now (sym c.if-not-writable.ensures) (sym c.if-has.ensures) (c.is_within.ensures.0 t),
+  λ may. c.is_within.ensures.1 (omega (arith, front_small c.args.self.now may)),
 )

@@ -53,7 +53,7 @@ returns-in-Challenged-clause-step c =
     let device = c.args.device.now in
     let after = c.on_challenge.new.device in
     challenged_returns c.args.rands.now (subscription_of device) device.store c.args.self.now (seen_of c.args.received.now) c.in-Challenged.challenge device.usim.array after.usim.array c.on_challenge.new.self after.store c.on_challenge.result
-    c.requires.is (sym c.in-Challenged.is ∙ c.requires.row) c.on_challenge.ensures.store c.on_challenge.ensures.step c.on_challenge.ensures.usim c.on_challenge.ensures.decrypts
+    c.requires.is (sym c.in-Challenged.is ∙ c.requires.row) c.on_challenge.ensures.store c.on_challenge.ensures.step c.on_challenge.ensures.usim c.on_challenge.ensures.decrypts c.on_challenge.ensures.sent
 
 pub returns-in-Reauthentication-clause-step : goal.returns-in-Reauthentication-clause-step
 returns-in-Reauthentication-clause-step c =

@@ -2,8 +2,9 @@ use Rattle.std.proofs.Common.{◌≡◌, false}
 use Rattle.auc_text.specs.Text.{words_of}
 use Rattle.auc_script.specs.InnerSoFar.{scenario}
 use Rattle.auc_script.specs.Scenario.{is_block}
-use Rattle.auc_script.specs.declared.refusal.ScriptWhy.TheVariants.{NotInBlock}
-use Rattle.auc_script.proofs.SoFarLemmas.{kept_restart, must_fail, restart_becomes}
+use Rattle.auc_reading.specs.declared.refusal.ScriptWhy.TheVariants.{NotInBlock}
+use Rattle.auc_reading.proofs.Facts.{must_fail}
+use Rattle.auc_script.proofs.SoFarLemmas.{kept_restart, restart_becomes}
 use Rattle.auc_script.proofs.so_far.SoFar.put_restart.Goals as goal
 
 pub returns-clause-kept : goal.returns-clause-kept

@@ -3,8 +3,9 @@ use Rattle.std.specs.Prelude.{not}
 use Rattle.auc_text.specs.Text.{words_of}
 use Rattle.auc_script.specs.InnerSoFar.{scenario}
 use Rattle.auc_script.specs.Scenario.{is_block, is_header}
-use Rattle.auc_script.specs.declared.refusal.ScriptWhy.TheVariants.{NotInBlock, OutOfOrder}
-use Rattle.auc_script.proofs.SoFarLemmas.{first_of, kept_round, must_fail, must_hold, round_becomes, second_of}
+use Rattle.auc_reading.specs.declared.refusal.ScriptWhy.TheVariants.{NotInBlock, OutOfOrder}
+use Rattle.auc_reading.proofs.Facts.{must_fail, must_hold}
+use Rattle.auc_script.proofs.SoFarLemmas.{first_of, kept_round, round_becomes, second_of}
 use Rattle.auc_script.proofs.so_far.SoFar.put_round.Goals as goal
 use Rattle.auc_script.proofs.so_far.SoFar.put_round.Goals.{then-not-is_block, else-not-is_block}
 

@@ -1,4 +1,4 @@
-use Rattle.auc_sim.specs.Received.{sim_seen_of}
+use Rattle.auc_sim_packet.specs.Received.{sim_seen_of}
 use Rattle.auc_sim.proofs.HasRandsLemmas.{read_has_rands}
 use Rattle.auc_sim.proofs.peer.SimPeer.on_received.Goals as goal
 

@@ -219,13 +219,13 @@ pub returns-in-Ok-Server-clause-asked : goal.returns-in-Ok-Server-clause-asked
 returns-in-Ok-Server-clause-asked g c = c.to_server.ensures.asked
 
 pub returns-in-Ok-Server-clause-subs : goal.returns-in-Ok-Server-clause-subs
-returns-in-Ok-Server-clause-subs g c = c.to_server.ensures.subs
+returns-in-Ok-Server-clause-subs g c = c.to_server.ensures.only.subs_stay
 
 pub returns-in-Ok-Server-clause-top : goal.returns-in-Ok-Server-clause-top
-returns-in-Ok-Server-clause-top g c = c.to_server.ensures.top
+returns-in-Ok-Server-clause-top g c = c.to_server.ensures.only.tops_stay
 
 pub returns-in-Ok-Server-clause-name : goal.returns-in-Ok-Server-clause-name
-returns-in-Ok-Server-clause-name g c = c.to_server.ensures.name
+returns-in-Ok-Server-clause-name g c = c.to_server.ensures.only.name_stays
 
 pub returns-in-Ok-Peer-clause-homes : goal.returns-in-Ok-Peer-clause-homes
 returns-in-Ok-Peer-clause-homes g c = ap (map (λ (home : HomeRow). home.sub)) c.to_peer.ensures.homes

@@ -9,7 +9,7 @@ use Rattle.auc_peer.specs.declared.device.Device.{Device}
 use Rattle.auc_peer.specs.declared.peer.Peer.{Peer}
 use Rattle.auc_server.specs.Setting.{Setting}
 use Rattle.auc_world.proofs.AnsweringLemmas.{answers, answers_nobody, answers_now}
-use Rattle.auc_world.proofs.ServingLemmas.{has_packet, near_within, packet_read}
+use Rattle.auc_world.proofs.ServingLemmas.{has_packet, reaches_last, packet_read}
 use Rattle.auc_world.proofs.WorldLemmas.{answered_states, kept_device, kept_session, map_same, of_all, on_error, set_same, values_set}
 use Rattle.auc_world.specs.InnerWorld.{IsKept, is_key, number_after, state_of}
 use Rattle.auc_world.specs.World.{HasHeld, WorldState}
@@ -160,4 +160,4 @@ returns-clause-homes c = ap (λ (w : WorldState). w.net.homes) c.self.view_is
 pub judged-self-inside-requires : goal.judged-self-inside-requires
 judged-self-inside-requires c =
     let last : c.args.packet ≤ length c.self.inside.packets.items = subst (λ (w : WorldState). c.args.packet ≤ length w.net.packets) (sym c.self.view_is) c.requires.last in
-    near_within c.args.packet c.deref.result.now c.self.inside.packets.items (c.deref.ensures.value ∙ c.in_ok-make_place.ensures.same) c.requires.first last
+    record { first = c.requires.first; last = reaches_last c.args.packet c.deref.result.now c.self.inside.packets.items (c.deref.ensures.value ∙ c.in_ok-make_place.ensures.same) last }

@@ -2,14 +2,14 @@ use Rattle.std.proofs.Common.{◌≡◌, ℕ, ◌<◌, ◌≤◌, ◌∙◌, Lis
 use Rattle.std.specs.Prelude.{IfSome, Option, slice_set}
 use Rattle.auc_server.specs.Asked.{asked_after}
 use Rattle.auc_server.specs.declared.setting.HomeRow.{HomeRow}
-use Rattle.auc_server.specs.Server.{ServerEnd}
+use Rattle.auc_server.specs.Server.{ServerEnd, challenged_of, resumed_of}
 use Rattle.auc_released.specs.declared.numbers.Number.{Number}
 use Rattle.auc_world.proofs.AskedLemmas.{asked_listed}
 use Rattle.auc_world.proofs.FitLemmas.{turn_fits}
 use Rattle.auc_world.proofs.HomeLemmas.{asked_same, challenged_alike, held_alike, resumed_alike}
 use Rattle.indexmap.proofs.CallerLemmas.{keys-with_value_at}
 use Rattle.indexmap.specs.IndexMap.{get, keys, values}
-use Rattle.auc_world.proofs.ServingLemmas.{has_packet, near_within, packet_read, serves, serves_nobody, serves_now}
+use Rattle.auc_world.proofs.ServingLemmas.{has_packet, reaches_last, packet_read, serves, serves_nobody, serves_now}
 use Rattle.auc_world.proofs.WorldLemmas.{kept_alike, kept_homes, kept_session, of_all, on_error, same_session, served_states, served_there, set_same, values_set}
 use Rattle.auc_world.specs.Came.{vector_sent}
 use Rattle.auc_world.specs.InnerWorld.{IsKept, is_key, number_after, state_of}
@@ -43,8 +43,8 @@ returns-in_default-clause-served g c =
     (serves_nobody g.C.Centre.goes g.C.Centre.kept g.C.Centre.top c.args.set.now inside.packets.items (values inside.sessions) inside.released.items inside.homes.items inside.broken inside.devices.items
     c.args.place c.args.packet session there.sent c.args.centre.now g.met.C.Centre.stays c.in_default.is _ same)
 
-pub serve-requires-clause-served : goal.serve-requires-clause-served
-serve-requires-clause-served g c =
+pub serve-requires : goal.serve-requires
+serve-requires g c =
     let inside = c.self.inside in
     let session = c.index_mut-session.result.now in
     served_there c.args.set.now.rows _ _ inside.homes.items session c.in-Some.server c.in-Some.is
@@ -119,8 +119,8 @@ returns-clause-asked g c =
     ∙ asked_same c.args.set.now inside.homes.items c.serve.new.homes.items c.serve.new.server notes.resync notes.number c.in_ok-served.ensures.same in
     subst (λ (o : Option ℕ). IfSome o (λ sub. sub < length c.args.set.now.rows)) (sym asked)
     (asked_listed c.args.set.now (g.C.Centre.subs c.args.centre.now) (g.C.Centre.top c.args.centre.now) inside.homes.items c.serve.new.server notes.resync notes.number homes
-    (challenged_alike c.serve.new.homes.items inside.homes.items c.serve.new.server.challenged (sym c.in_ok-served.ensures.same) c.in_ok-served.ensures.held)
-    (resumed_alike c.serve.new.homes.items inside.homes.items c.serve.new.server.resumed (sym c.in_ok-served.ensures.same) c.in_ok-served.ensures.resumed))
+    (challenged_alike c.serve.new.homes.items inside.homes.items (challenged_of c.serve.new.server) (sym c.in_ok-served.ensures.same) c.in_ok-served.ensures.held)
+    (resumed_alike c.serve.new.homes.items inside.homes.items (resumed_of c.serve.new.server) (sym c.in_ok-served.ensures.same) c.in_ok-served.ensures.resumed))
 
 pub returns-clause-homes : goal.returns-clause-homes
 returns-clause-homes g c =
@@ -169,4 +169,4 @@ returns-in_err-make_places-clause-world g c =
 pub judged-self-inside-requires : goal.judged-self-inside-requires
 judged-self-inside-requires g c =
     let last : c.args.packet ≤ length c.self.inside.packets.items = subst (λ (w : WorldState). c.args.packet ≤ length w.net.packets) (sym c.self.view_is) c.requires.reached.last in
-    near_within c.args.packet c.deref.result.now c.self.inside.packets.items (c.deref.ensures.value ∙ c.in_ok-make_places.ensures.packets) c.requires.reached.first last
+    record { first = c.requires.reached.first; last = reaches_last c.args.packet c.deref.result.now c.self.inside.packets.items (c.deref.ensures.value ∙ c.in_ok-make_places.ensures.packets) last }

@@ -1,0 +1,14 @@
+pub mod Field
+pub mod FivegLine
+pub mod InnerFields
+pub mod InnerRefusal
+pub mod JobLine
+pub mod Numbers
+pub mod Ranges
+pub mod Refusal
+pub mod Schedule
+pub mod SessionLine
+pub mod SimLine
+pub mod SitesLine
+pub mod Texts
+pub mod Word

@@ -1,5 +1,0 @@
-use Rattle.auc_sim.proofs.PacketLemmas.{one_packet}
-use Rattle.auc_sim.proofs.law.bytes_are_one_packet.Goals as goal
-
-pub returns : goal.returns
-returns c = one_packet

@@ -1,5 +1,0 @@
-use Rattle.auc_sim.proofs.PacketLemmas.{one_first_fault}
-use Rattle.auc_sim.proofs.law.bytes_have_one_first_fault.Goals as goal
-
-pub returns : goal.returns
-returns c = one_first_fault

@@ -1,5 +1,0 @@
-use Rattle.auc_sim.proofs.PacketLemmas.{read_may_be_written}
-use Rattle.auc_sim.proofs.law.read_packets_may_be_written.Goals as goal
-
-pub returns : goal.returns
-returns c = read_may_be_written

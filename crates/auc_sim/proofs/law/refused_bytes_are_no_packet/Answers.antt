@@ -1,5 +1,0 @@
-use Rattle.auc_sim.proofs.PacketLemmas.{refused_is_no_packet}
-use Rattle.auc_sim.proofs.law.refused_bytes_are_no_packet.Goals as goal
-
-pub returns : goal.returns
-returns c = refused_is_no_packet

@@ -1,5 +1,0 @@
-use Rattle.auc_sim.proofs.SealedLemmas.{sealed_is_right}
-use Rattle.auc_sim.proofs.law.sealed_messages_are_right.Goals as goal
-
-pub returns : goal.returns
-returns c = sealed_is_right

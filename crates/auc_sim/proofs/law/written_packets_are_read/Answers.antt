@@ -1,5 +1,0 @@
-use Rattle.auc_sim.proofs.PacketLemmas.{written_is_read}
-use Rattle.auc_sim.proofs.law.written_packets_are_read.Goals as goal
-
-pub returns : goal.returns
-returns c = written_is_read

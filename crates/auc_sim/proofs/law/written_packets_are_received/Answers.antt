@@ -1,5 +1,0 @@
-use Rattle.auc_sim.proofs.ReceivedLemmas.{written_is_received}
-use Rattle.auc_sim.proofs.law.written_packets_are_received.Goals as goal
-
-pub returns : goal.returns
-returns c = written_is_received

@@ -1,7 +1,0 @@
-use Rattle.std.proofs.Common.{drop, length}
-use Rattle.auc_sim.specs.Spelling.{spelling}
-use Rattle.auc_sim.proofs.MayLemmas.{IsLeft}
-use Rattle.auc_sim.proofs.may_write.are_short.Given as goal
-
-abbrev pub invariant-loop-attr : goal.invariant-loop-attr
-invariant-loop-attr l = IsLeft l.most l.left (drop l.attr-index l.attr-items) (length (spelling l.attrs))

@@ -1,5 +1,0 @@
-use Rattle.auc_sim.proofs.EndMessageLemmas.{client_may_of}
-use Rattle.auc_sim.proofs.messages.client_error.Goals as goal
-
-pub written-requires : goal.written-requires
-written-requires c = client_may_of c.args.id c.args.code _ c.in_ok-attrs.ensures

@@ -1,6 +1,0 @@
-use Rattle.std.proofs.Common.{rules}
-use Rattle.auc_sim.proofs.EndMessageLemmas.{start_response_may_of}
-use Rattle.auc_sim.proofs.messages.start_response.Goals as goal
-
-pub written-requires : goal.written-requires
-written-requires c = start_response_may_of c.args.id c.args.nonce c.args.identity.now _ (search rules) c.requires c.in_ok-attrs.ensures

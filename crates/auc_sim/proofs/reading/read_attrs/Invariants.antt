@@ -1,9 +1,0 @@
-use Rattle.std.proofs.Common.{length}
-use Rattle.auc_sim.proofs.ListedLemmas.{IsListedTo}
-use Rattle.auc_sim.proofs.reading.read_attrs.Given as goal
-
-abbrev pub invariant-loop-rest : goal.invariant-loop-rest
-invariant-loop-rest l = IsListedTo l.bytes l.list l.seen l.rest
-
-abbrev pub decreases-loop-rest : goal.decreases-loop-rest
-decreases-loop-rest l = length l.rest

@@ -1,0 +1,9 @@
+use Rattle.std.proofs.Common.{length}
+use Rattle.auc_sim_packet.proofs.ListedLemmas.{IsListedTo}
+use Rattle.auc_sim_packet.proofs.reading.read_attrs.Given as goal
+
+abbrev pub invariant-loop-rest : goal.invariant-loop-rest
+invariant-loop-rest l = IsListedTo l.bytes l.list l.seen l.rest
+
+abbrev pub decreases-loop-rest : goal.decreases-loop-rest
+decreases-loop-rest l = length l.rest

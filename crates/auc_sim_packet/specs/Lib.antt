@@ -1,0 +1,10 @@
+pub mod Attributes
+pub mod InnerParts
+pub mod InnerSealed
+pub mod Keys
+pub mod Messages
+pub mod Packet
+pub mod PacketLaws
+pub mod Received
+pub mod Sealed
+pub mod Spelling
