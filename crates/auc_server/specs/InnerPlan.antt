@@ -22,6 +22,7 @@ use Rattle.auc_server.specs.declared.plan.Deed.{Deed}
 use Rattle.auc_server.specs.declared.plan.Deed.TheVariants as deed
 use Rattle.auc_server.specs.declared.plan.Plan.{Plan}
 use Rattle.auc_server.specs.declared.plan.Plan.TheVariants as plan
+use Rattle.auc_server.specs.declared.rows.Row.{Row}
 use Rattle.auc_server.specs.declared.rows.Row.TheVariants as row
 use Rattle.auc_server.specs.declared.reply.Reply.{Reply}
 use Rattle.auc_server.specs.declared.server.ServerState.TheVariants as state
@@ -93,6 +94,11 @@ IsFit o all homes (plan.Challenge sub said rooms) = (is_held homes sub ≡ true)
 IsFit o all homes (plan.TooSmall sub rooms) = (is_held homes sub ≡ true) × (rooms ≡ o.name)
 IsFit o all homes (plan.Resynchronise sub seq rooms) = (is_held homes sub ≡ true) × (seq ≤ top_at all sub) × (rooms ≡ o.name)
 IsFit o all homes (plan.Alone d) = IsFitAlone o d
+
+-- memory, unless what was received is ignored
+abbrev pub NeedsMemory : Row → Type 0
+NeedsMemory (row.Ignore cause) = ⊥
+NeedsMemory other = Unit {0}
 
 -- ---- a plan for received bytes
 

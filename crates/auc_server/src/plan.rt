@@ -1,11 +1,11 @@
 //! What a turn of a server does, with the memory for it.
 
-ghost use Rattle.std.specs.Prelude.{◌≡◌, ◌<◌, List, length, false, Some, None, IfOk, IfSome};
+ghost use Rattle.std.specs.Prelude.{◌≡◌, ◌<◌, List, length, false, Some, None, IfOk, IfSome, OnErr};
 ghost use Rattle.auc_packet.specs.Received.{IsReceived, seen_of};
 ghost use Rattle.auc_subs.specs.declared.row.Row as rows;
 ghost use Rattle.auc_vector.specs.declared.notes.Notes.{Notes};
 ghost use Rattle.auc_vector.specs.declared.notes.ResyncNote.TheVariants as resync;
-ghost use Rattle.auc_server.specs.InnerPlan.{Asks, IsFit, IsPlan, homes_planned, plan_asks, plan_does};
+ghost use Rattle.auc_server.specs.InnerPlan.{Asks, IsFit, IsPlan, NeedsMemory, homes_planned, plan_asks, plan_does};
 ghost use Rattle.auc_server.specs.InnerRows.{IsHeldRow};
 ghost use Rattle.auc_server.specs.Rounds.{heard};
 ghost use Rattle.auc_server.specs.Rows.{text_in};
@@ -141,6 +141,8 @@ impl Server {
         ensures asks { IfOk result (λ plan. plan_asks plan ≡ asking row) }
         ensures fits { IfOk result (λ plan. (all : List rows.Row) (homes : List HomeRow) → IsHeldRow self.now.options.method all homes row
             → IsFit self.now.options all homes plan) }
+
+        ensures ignored { OnErr result (NeedsMemory row) }
     {
         let alloc = self.alloc;
         match row {
