@@ -12,13 +12,13 @@ use Rattle.auc_lines.specs.declared.part.Line.TheVariants as line
 use Rattle.auc_server.specs.Steps.{IsHome}
 use Rattle.auc_server.specs.declared.setting.HomeRow.{HomeRow}
 use Rattle.auc_subs.specs.declared.row.Row.{Row}
-use Rattle.auc_world.specs.Came.{Came}
+use Rattle.auc_record.specs.Event.{Came}
 use Rattle.auc_world.specs.Net.{Net}
-use Rattle.auc_world.specs.Setting.{Setting}
+use Rattle.auc_subs.specs.Setting.{Setting}
 use Rattle.auc_world.specs.Start.{home_of}
 use Rattle.auc_world.specs.World.{IsKnownEvent, WorldState}
-use Rattle.auc_world.specs.declared.event.Event.{Event}
-use Rattle.auc_world.specs.declared.event.Event.TheVariants as event
+use Rattle.auc_record.specs.declared.event.Event.{Event}
+use Rattle.auc_record.specs.declared.event.Event.TheVariants as event
 use Rattle.auc_events.specs.Promises.{EachRunMayGoOn}
 use Rattle.auc_events.specs.Run.{IsRun, LeadsTo, all_fresh, first_core, job_records, job_with, line_for, top_in}
 use Rattle.auc_events.proofs.HoldingLemmas.{holding}

@@ -6,9 +6,9 @@ use Rattle.std.proofs.lemmas.List.Elements.{All-contains, All-head, All-tail, Co
 use Rattle.auc_history.proofs.Facts.{AllPairs-head, AllPairs-tail}
 use Rattle.auc_lines.specs.Part.{held_by, with_held}
 use Rattle.auc_lines.specs.declared.part.Line.{Line}
-use Rattle.auc_world.specs.Given.{is_in}
-use Rattle.auc_world.specs.declared.event.Event.{Event}
-use Rattle.auc_world.specs.declared.event.Event.TheVariants as event
+use Rattle.auc_record.specs.Lines.{is_in}
+use Rattle.auc_record.specs.declared.event.Event.{Event}
+use Rattle.auc_record.specs.declared.event.Event.TheVariants as event
 use Rattle.auc_events.specs.Promises.{EachJobHoldsItsSubscribers, OpensAmong}
 use Rattle.auc_events.specs.Run.{line_for}
 use Rattle.auc_events.proofs.HoldingLemmas.{holding}

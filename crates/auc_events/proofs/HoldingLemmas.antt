@@ -11,16 +11,16 @@ use Rattle.auc_sqn.specs.Past.{Remembers}
 use Rattle.auc_subs.specs.Subscriber.{AreSubscribers, IsRow, top_at}
 use Rattle.auc_subs.specs.declared.row.Row.{Row}
 use Rattle.auc_vector.specs.Stretch.{kept_at}
-use Rattle.auc_world.specs.Entries.{entries_of_lines, is_reported}
-use Rattle.auc_world.specs.Given.{GiveGives, IsGiven, JobGives, is_in, is_released, past_before, past_of}
-use Rattle.auc_world.specs.Lines.{accepted, held_of, numbers_of}
+use Rattle.auc_record.specs.Entries.{entries_of_lines, is_reported}
+use Rattle.auc_world.specs.Given.{GiveGives, IsGiven, JobGives, is_released, past_before, past_of}
+use Rattle.auc_record.specs.Lines.{is_in, accepted, held_of, numbers_of}
 use Rattle.auc_world.specs.Net.{Net, device_place}
-use Rattle.auc_world.specs.Setting.{Setting}
+use Rattle.auc_subs.specs.Setting.{Setting}
 use Rattle.auc_world.specs.World.{WorldState}
 use Rattle.auc_world.specs.declared.net.Session.{Session}
-use Rattle.auc_world.specs.declared.record.GiveVerdict.TheVariants as given
-use Rattle.auc_world.specs.declared.record.LineRecord.{LineRecord}
-use Rattle.auc_world.specs.declared.record.LineRecord.TheVariants.{Give}
+use Rattle.auc_record.specs.declared.record.GiveVerdict.TheVariants as given
+use Rattle.auc_record.specs.declared.record.LineRecord.{LineRecord}
+use Rattle.auc_record.specs.declared.record.LineRecord.TheVariants.{Give}
 use Rattle.auc_events.specs.Run.{AreOpened, first_core, first_words}
 use Rattle.auc_events.proofs.StepLemmas.{Holds}
 

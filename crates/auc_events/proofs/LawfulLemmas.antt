@@ -15,23 +15,24 @@ use Rattle.auc_subs.specs.Subscriber.{IsRow, top_at, tops_of}
 use Rattle.auc_subs.specs.declared.row.Row.{Row}
 use Rattle.auc_subs.proofs.Facts.{length-tops_of, tops_within}
 use Rattle.auc_vector.specs.Stretch.{IsStretch}
-use Rattle.auc_world.proofs.Facts.{none_held}
-use Rattle.auc_world.specs.Came.{Came}
-use Rattle.auc_world.specs.Entries.{entries_of_lines}
+use Rattle.auc_record.proofs.Facts.{none_held}
+use Rattle.auc_record.specs.Event.{Came}
+use Rattle.auc_record.specs.Entries.{entries_of_lines}
 use Rattle.auc_world.specs.Given.{JobGives}
-use Rattle.auc_world.specs.Limits.{greater, lesser, opened}
-use Rattle.auc_world.specs.Lines.{held_of, withheld_of}
+use Rattle.auc_world.specs.Limits.{greater, opened}
+use Rattle.auc_record.specs.Openings.{lesser}
+use Rattle.auc_record.specs.Lines.{held_of, withheld_of}
 use Rattle.auc_world.specs.Net.{Net}
 use Rattle.auc_world.specs.Round.{IsLawfulRound, closings_from}
 use Rattle.auc_world.specs.Sessions.{AreVerdicts, job_sessions, premise_from}
-use Rattle.auc_world.specs.Setting.{Setting}
+use Rattle.auc_subs.specs.Setting.{Setting}
 use Rattle.auc_world.specs.Start.{start_of}
 use Rattle.auc_world.specs.Transcript.{Course, after_round, beginning}
 use Rattle.auc_world.specs.World.{WorldState}
-use Rattle.auc_world.specs.declared.event.Event.{Event}
-use Rattle.auc_world.specs.declared.record.LineRecord.{LineRecord}
-use Rattle.auc_world.specs.declared.record.RoundRecord.{RoundRecord}
-use Rattle.auc_world.specs.declared.record.SessionVerdict.{SessionVerdict}
+use Rattle.auc_record.specs.declared.event.Event.{Event}
+use Rattle.auc_record.specs.declared.record.LineRecord.{LineRecord}
+use Rattle.auc_record.specs.declared.record.RoundRecord.{RoundRecord}
+use Rattle.auc_record.specs.declared.record.SessionVerdict.{SessionVerdict}
 use Rattle.auc_jobs.specs.InnerServing.{before_at}
 use Rattle.auc_events.specs.Promises.{EachRunIsLawful, IsLawfulJob}
 use Rattle.auc_events.specs.Run.{IsRun, all_fresh, event_records, first_core, first_words, job_records, job_with, line_for}

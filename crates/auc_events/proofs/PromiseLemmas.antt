@@ -13,12 +13,12 @@ use Rattle.auc_subs.specs.declared.row.Row.{Row}
 use Rattle.auc_transcript.proofs.Facts.{accepts_none_twice, keeps_numbers_apart}
 use Rattle.auc_transcript.specs.Keys.{EachAuthenticationAgrees, IsHeldApart, IsOfUnbrokenJob}
 use Rattle.auc_transcript.specs.Presented.{EachFailureInSessionsIsByPlace, EachPresentedVectorHasARightMac}
-use Rattle.auc_world.specs.Lines.{accepted, all_lines, numbers_of}
+use Rattle.auc_record.specs.Lines.{accepted, all_lines, numbers_of}
 use Rattle.auc_world.specs.Net.{Net}
 use Rattle.auc_world.specs.Transcript.{lines_of as transcript_lines}
 use Rattle.auc_world.specs.declared.net.Session.{Session}
-use Rattle.auc_world.specs.declared.record.LineRecord.{LineRecord}
-use Rattle.auc_world.specs.declared.record.RoundRecord.{RoundRecord}
+use Rattle.auc_record.specs.declared.record.LineRecord.{LineRecord}
+use Rattle.auc_record.specs.declared.record.RoundRecord.{RoundRecord}
 use Rattle.auc_events.specs.Promises.{EachRunAcceptsNoneTwice, EachRunAgreesOnKeys, EachRunDrawsNoNumberTwice, EachRunFailsByPlace, parts_with, transcript_with}
 use Rattle.auc_events.specs.Run.{event_records, job_records, job_with}
 use Rattle.auc_events.proofs.GoingLemmas.{job_known}

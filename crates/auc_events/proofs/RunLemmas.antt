@@ -10,15 +10,15 @@ use Rattle.auc_jobs.proofs.Facts.{entries_of_lines-append, held_of-append}
 use Rattle.auc_jobs.specs.InnerServing.{before_at}
 use Rattle.auc_subs.specs.Subscriber.{AreSubscribers}
 use Rattle.auc_vector.specs.Stretch.{IsStretch}
-use Rattle.auc_world.specs.Came.{Came}
-use Rattle.auc_world.specs.Entries.{entries_of_lines}
+use Rattle.auc_record.specs.Event.{Came}
+use Rattle.auc_record.specs.Entries.{entries_of_lines}
 use Rattle.auc_world.specs.Given.{JobGives}
-use Rattle.auc_world.specs.Lines.{held_of}
+use Rattle.auc_record.specs.Lines.{held_of}
 use Rattle.auc_world.specs.Net.{Net}
-use Rattle.auc_world.specs.Setting.{Setting}
+use Rattle.auc_subs.specs.Setting.{Setting}
 use Rattle.auc_world.specs.World.{WorldState}
-use Rattle.auc_world.specs.declared.event.Event.{Event}
-use Rattle.auc_world.specs.declared.record.LineRecord.{LineRecord}
+use Rattle.auc_record.specs.declared.event.Event.{Event}
+use Rattle.auc_record.specs.declared.record.LineRecord.{LineRecord}
 use Rattle.auc_events.specs.Run.{LeadsTo, line_for, event_records}
 use Rattle.auc_events.proofs.StepLemmas.{Holds, StepGives, line_gives, record_for, step_gives}
 use Rattle.auc_events.proofs.WordLemmas.{AreLow}

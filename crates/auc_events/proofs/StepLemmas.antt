@@ -9,18 +9,19 @@ use Rattle.auc_jobs.specs.InnerServing.{Happens, Serves, Stands, before_at}
 use Rattle.auc_jobs.specs.InnerWorker.{AreAtDevices}
 use Rattle.auc_subs.specs.Subscriber.{AreSubscribers, tops_of}
 use Rattle.auc_vector.specs.Stretch.{IsStretch}
-use Rattle.auc_world.specs.Came.{Came, asking_of}
-use Rattle.auc_world.specs.Entries.{entries_of_lines}
+use Rattle.auc_record.specs.Event.{Came}
+use Rattle.auc_world.specs.Came.{asking_of}
+use Rattle.auc_record.specs.Entries.{entries_of_lines}
 use Rattle.auc_world.specs.Given.{EventGives, LineGives, packet_in}
-use Rattle.auc_world.specs.Lines.{held_of}
+use Rattle.auc_record.specs.Lines.{held_of}
 use Rattle.auc_world.specs.Net.{Net}
-use Rattle.auc_world.specs.Released.{Released}
-use Rattle.auc_world.specs.Setting.{Setting}
+use Rattle.auc_record.specs.Released.{Released}
+use Rattle.auc_subs.specs.Setting.{Setting}
 use Rattle.auc_world.specs.World.{WorldState, usim_of}
-use Rattle.auc_world.specs.declared.event.Event.{Event}
-use Rattle.auc_world.specs.declared.event.Event.TheVariants as event
-use Rattle.auc_world.specs.declared.record.LineRecord.{LineRecord}
-use Rattle.auc_world.specs.declared.record.LineRecord.TheVariants.{Event as Happening}
+use Rattle.auc_record.specs.declared.event.Event.{Event}
+use Rattle.auc_record.specs.declared.event.Event.TheVariants as event
+use Rattle.auc_record.specs.declared.record.LineRecord.{LineRecord}
+use Rattle.auc_record.specs.declared.record.LineRecord.TheVariants.{Event as Happening}
 use Rattle.auc_events.specs.Run.{IsStep, kept_in, line_for, top_in}
 use Rattle.auc_events.proofs.WordLemmas.{AreLow, words_low}
 

@@ -14,22 +14,21 @@ use Rattle.auc_subs.specs.declared.row.Row.{Row}
 use Rattle.auc_transcript.specs.Keys.{AreNets}
 use Rattle.auc_transcript.specs.Presented.{FailsExactlyByPlaceInSessions, FindsRightMacs}
 use Rattle.auc_world.specs.Agreement.{AreOfOne, IsRealm, PeerWon, ServerWon}
-use Rattle.auc_world.specs.Came.{Came}
-use Rattle.auc_world.specs.Entries.{entries_of_lines}
-use Rattle.auc_world.specs.Given.{is_in}
-use Rattle.auc_world.specs.Lines.{accepted, numbers_of}
+use Rattle.auc_record.specs.Event.{Came}
+use Rattle.auc_record.specs.Entries.{entries_of_lines}
+use Rattle.auc_record.specs.Lines.{is_in, accepted, numbers_of}
 use Rattle.auc_world.specs.Net.{Net}
-use Rattle.auc_world.specs.Setting.{Setting}
+use Rattle.auc_subs.specs.Setting.{Setting}
 use Rattle.auc_world.specs.Transcript.{IsLawful}
 use Rattle.auc_world.specs.World.{AreHomes, WorldState}
-use Rattle.auc_world.specs.declared.event.Event.{Event}
-use Rattle.auc_world.specs.declared.event.Event.TheVariants as event
+use Rattle.auc_record.specs.declared.event.Event.{Event}
+use Rattle.auc_record.specs.declared.event.Event.TheVariants as event
 use Rattle.auc_world.specs.declared.net.Inputs.{Inputs}
 use Rattle.auc_world.specs.declared.net.Session.{Session}
-use Rattle.auc_world.specs.declared.record.LineRecord.{LineRecord}
-use Rattle.auc_world.specs.declared.record.PartRecord.{PartRecord}
-use Rattle.auc_world.specs.declared.record.PartRecord.TheVariants as record_of
-use Rattle.auc_world.specs.declared.record.RoundRecord.{RoundRecord}
+use Rattle.auc_record.specs.declared.record.LineRecord.{LineRecord}
+use Rattle.auc_record.specs.declared.record.PartRecord.{PartRecord}
+use Rattle.auc_record.specs.declared.record.PartRecord.TheVariants as record_of
+use Rattle.auc_record.specs.declared.record.RoundRecord.{RoundRecord}
 use Rattle.auc_events.specs.Run.{IsRun, event_records, first_words, job_records, job_with, top_in}
 
 -- ---- the transcript of a run

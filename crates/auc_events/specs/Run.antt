@@ -10,16 +10,15 @@ use Rattle.auc_subs.specs.Subscriber.{AreSubscribers, tops_of}
 use Rattle.auc_subs.specs.declared.row.Row.{Row}
 use Rattle.auc_usim.specs.Usim.{Memory}
 use Rattle.auc_vector.specs.Stretch.{IsStretch, kept_at}
-use Rattle.auc_world.specs.Came.{Came}
-use Rattle.auc_world.specs.Event.{asked_in}
-use Rattle.auc_world.specs.Setting.{Setting}
+use Rattle.auc_record.specs.Event.{Came, asked_in}
+use Rattle.auc_subs.specs.Setting.{Setting}
 use Rattle.auc_world.specs.Start.{Kept, fresh_kept, start_of}
 use Rattle.auc_world.specs.World.{Applies, AreOfSame, IsKnownEvent, RememberPasts, WorldState, usim_of}
-use Rattle.auc_world.specs.declared.event.Event.{Event}
-use Rattle.auc_world.specs.declared.event.Event.TheVariants as event
-use Rattle.auc_world.specs.declared.record.GiveVerdict.TheVariants as given
-use Rattle.auc_world.specs.declared.record.LineRecord.{LineRecord}
-use Rattle.auc_world.specs.declared.record.LineRecord.TheVariants as record_of
+use Rattle.auc_record.specs.declared.event.Event.{Event}
+use Rattle.auc_record.specs.declared.event.Event.TheVariants as event
+use Rattle.auc_record.specs.declared.record.GiveVerdict.TheVariants as given
+use Rattle.auc_record.specs.declared.record.LineRecord.{LineRecord}
+use Rattle.auc_record.specs.declared.record.LineRecord.TheVariants as record_of
 
 -- ---- lines and records
 

@@ -28,16 +28,16 @@ use Rattle.auc_sqn.specs.Number.{max_seq}
 use Rattle.auc_subs.specs.Subscriber.{top_at, tops_of}
 use Rattle.auc_subs.specs.declared.row.Row.{Row}
 use Rattle.auc_subs.proofs.Facts.{top_at-within}
-use Rattle.auc_world.specs.declared.record.LineRecord.{LineRecord}
-use Rattle.auc_world.specs.Entries.{reports, is_reported}
+use Rattle.auc_record.specs.declared.record.LineRecord.{LineRecord}
+use Rattle.auc_record.specs.Entries.{reports, is_reported}
 use Rattle.auc_world.specs.Given.{JobGives}
-use Rattle.auc_world.specs.Lines.{accepted, all_lines}
+use Rattle.auc_record.specs.Lines.{accepted, all_lines}
 use Rattle.auc_world.specs.Pieces.{Piece, IsQuiet, PiecesGive, ReportsAreEarlier, entries_of_pieces, lines_of_pieces}
 use Rattle.auc_world.specs.Net.{Net}
 use Rattle.auc_world.specs.Sessions.{job_sessions}
 use Rattle.auc_world.specs.Start.{start_of}
-use Rattle.auc_world.specs.declared.record.JobSessions.{JobSessions}
-use Rattle.auc_world.specs.Vectors.{vectors_in}
+use Rattle.auc_record.specs.declared.record.JobSessions.{JobSessions}
+use Rattle.auc_record.specs.Vectors.{vectors_in}
 use Rattle.auc_world.proofs.Facts.{accepted-append, job_quiet}
 use Rattle.auc_vector.specs.declared.parts.Vector.{Vector as AuthVector}
 use Rattle.auc_jobs.specs.declared.claiming.ClaimedJob.{ClaimedJob}

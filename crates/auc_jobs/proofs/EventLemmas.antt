@@ -30,21 +30,21 @@ use Rattle.auc_vector.specs.declared.notes.NumberNote.{NumberNote}
 use Rattle.auc_vector.specs.declared.notes.NumberNote.TheVariants as number
 use Rattle.auc_vector.specs.declared.notes.ResyncNote.{ResyncNote}
 use Rattle.auc_vector.specs.declared.notes.ResyncNote.TheVariants as resync
-use Rattle.auc_world.specs.Came.{AsksWhatItNeeds, AsksIn, Came, Presented, TellsNotes, asked_sub, asking_at, asking_in, asking_of, came, came_at_peer, came_at_server, came_changed, came_delivered, came_given_up, came_in, came_opened, came_repeated, came_started, presented_at, presented_by, presented_in, server_came_to_give_up, session_of}
-use Rattle.auc_world.specs.Entries.{entries_of_line, entries_of_number, entries_of_resync, is_reported}
-use Rattle.auc_world.specs.Event.{asked_in, device_in, number_for, number_in, resync_for, resync_in, usim_in}
+use Rattle.auc_world.specs.Came.{AsksWhatItNeeds, AsksIn, Presented, TellsNotes, asked_sub, asking_at, asking_in, asking_of, came, came_at_peer, came_at_server, came_changed, came_delivered, came_given_up, came_in, came_opened, came_repeated, came_started, presented_at, presented_by, presented_in, server_came_to_give_up, session_of}
+use Rattle.auc_record.specs.Event.{Came, asked_in, device_in, number_for, number_in, resync_for, resync_in, usim_in}
+use Rattle.auc_record.specs.Entries.{entries_of_line, entries_of_number, entries_of_resync, is_reported}
 use Rattle.auc_world.specs.Given.{Before, CentreAnswers, EventGives, IsCentreAsked, IsNumberAnswer, NumberFollows, PlainGives, RelayGives, behind, packet_of, resync_note}
 use Rattle.auc_world.specs.Happened.{Delivery, Told, changed_in, delivery_at, delivery_of, peer_turn}
-use Rattle.auc_world.specs.Lines.{held_by}
+use Rattle.auc_record.specs.Lines.{held_by}
 use Rattle.auc_world.specs.Net.{Net, device_place, keeps_at, other, packet_at, session_place}
-use Rattle.auc_world.specs.Setting.{Setting}
-use Rattle.auc_world.specs.declared.event.Event.{Event}
-use Rattle.auc_world.specs.declared.event.Event.TheVariants as event
-use Rattle.auc_world.specs.declared.event.EventRecord.{EventRecord}
+use Rattle.auc_subs.specs.Setting.{Setting}
+use Rattle.auc_record.specs.declared.event.Event.{Event}
+use Rattle.auc_record.specs.declared.event.Event.TheVariants as event
+use Rattle.auc_record.specs.declared.event.EventRecord.{EventRecord}
 use Rattle.auc_world.specs.declared.net.SentPacket.{SentPacket}
 use Rattle.auc_world.specs.declared.net.Session.{Session}
-use Rattle.auc_world.specs.declared.record.LineRecord.{LineRecord}
-use Rattle.auc_world.specs.declared.record.LineRecord.TheVariants.{Event as Happening}
+use Rattle.auc_record.specs.declared.record.LineRecord.{LineRecord}
+use Rattle.auc_record.specs.declared.record.LineRecord.TheVariants.{Event as Happening}
 use Rattle.auc_jobs.specs.InnerServing.{AreTold, IsTold, Says}
 use Rattle.auc_jobs.proofs.LineLemmas.{is_reported-push}
 use Rattle.auc_jobs.proofs.SilentLemmas.{peer_silent, server_silent}

@@ -19,8 +19,8 @@ use Rattle.auc_peer.specs.declared.peer.Challenge.{Challenge}
 use Rattle.auc_peer.specs.declared.peer.Peer.{Peer}
 use Rattle.auc_peer.specs.declared.rows.Row.{Row as PeerRow}
 use Rattle.auc_peer.specs.declared.rows.Row.TheVariants as row
-use Rattle.auc_peer.specs.declared.why.PeerWhy.{PeerWhy}
-use Rattle.auc_peer.specs.declared.why.PeerWhy.TheVariants as why
+use Rattle.auc_vector.specs.declared.why.PeerWhy.{PeerWhy}
+use Rattle.auc_vector.specs.declared.why.PeerWhy.TheVariants as why
 use Rattle.auc_reauth.specs.Device.{Keeps}
 use Rattle.auc_sqn.specs.Number.{ind_of, seq_of}
 use Rattle.auc_sqn.specs.Past.{ArrayValue, Past, Remembers, opening_past}
@@ -33,17 +33,17 @@ use Rattle.auc_vector.specs.declared.notes.UsimNote.{UsimNote}
 use Rattle.auc_vector.specs.declared.notes.UsimNote.TheVariants as note
 use Rattle.auc_vector.specs.declared.turn.Turn.{Turn}
 use Rattle.auc_world.proofs.Facts.{accepted-append}
-use Rattle.auc_world.specs.Came.{Came, Presented}
-use Rattle.auc_world.specs.Event.{device_in, sqn_accepted, usim_in}
+use Rattle.auc_record.specs.Event.{Came, device_in, sqn_accepted, usim_in}
+use Rattle.auc_world.specs.Came.{Presented}
 use Rattle.auc_world.specs.Given.{AsksUsim, Before, UsimNotes, past_before, past_by, past_of}
 use Rattle.auc_world.specs.Happened.{Told, peer_turn}
-use Rattle.auc_world.specs.Lines.{accepted, accepted_by}
+use Rattle.auc_record.specs.Lines.{accepted, accepted_by}
 use Rattle.auc_world.specs.Net.{device_place, keeps_at}
-use Rattle.auc_world.specs.Setting.{Setting}
+use Rattle.auc_subs.specs.Setting.{Setting}
 use Rattle.auc_world.specs.World.{IsHanded, WorldState, memory_of, usim_at, usim_of}
-use Rattle.auc_world.specs.declared.event.EventRecord.{EventRecord}
-use Rattle.auc_world.specs.declared.record.LineRecord.{LineRecord}
-use Rattle.auc_world.specs.declared.record.LineRecord.TheVariants.{Event as Happening}
+use Rattle.auc_record.specs.declared.event.EventRecord.{EventRecord}
+use Rattle.auc_record.specs.declared.record.LineRecord.{LineRecord}
+use Rattle.auc_record.specs.declared.record.LineRecord.TheVariants.{Event as Happening}
 use Rattle.auc_cards.specs.Usims.{IsOfRow}
 use Rattle.auc_jobs.specs.Usims.{AreBehind, HaveSecrets}
 use Rattle.auc_jobs.proofs.PlaceLemmas.{one_place, placed_row}

@@ -14,19 +14,19 @@ use Rattle.auc_subs.specs.declared.row.Row.{Row}
 use Rattle.auc_usim.specs.Usim.{Memory}
 use Rattle.auc_vector.specs.Notes.{AnswersNumber, Asked, Asking}
 use Rattle.auc_world.proofs.Facts.{IsPresentedAt, OpensAt, places_stay, presented_is_at}
-use Rattle.auc_world.specs.Came.{AsksWhatItNeeds, Came, Presented, TellsNotes, asked_sub, asking_of, came, presented_by}
-use Rattle.auc_world.specs.Event.{asked_in, device_in, number_in}
-use Rattle.auc_world.specs.Entries.{entries_of_line}
+use Rattle.auc_world.specs.Came.{AsksWhatItNeeds, Presented, TellsNotes, asked_sub, asking_of, came, presented_by}
+use Rattle.auc_record.specs.Event.{Came, asked_in, device_in, number_in}
+use Rattle.auc_record.specs.Entries.{entries_of_line}
 use Rattle.auc_world.specs.Given.{Before, EventGives, IsCentreAsked, IsUsimAsked, packet_in}
-use Rattle.auc_world.specs.Lines.{accepted, accepted_by, held_by}
+use Rattle.auc_record.specs.Lines.{accepted, accepted_by, held_by}
 use Rattle.auc_world.specs.Net.{Net, device_place}
-use Rattle.auc_world.specs.Released.{Released}
-use Rattle.auc_world.specs.Setting.{Setting}
+use Rattle.auc_record.specs.Released.{Released}
+use Rattle.auc_subs.specs.Setting.{Setting}
 use Rattle.auc_world.specs.World.{AreHanded, AreHomes, AreOfSame, Applies, RememberPasts, WorldState, usim_at, usim_of}
-use Rattle.auc_world.specs.declared.event.Event.{Event}
-use Rattle.auc_world.specs.declared.event.Event.TheVariants as event
-use Rattle.auc_world.specs.declared.record.LineRecord.{LineRecord}
-use Rattle.auc_world.specs.declared.record.LineRecord.TheVariants.{Event as Happening}
+use Rattle.auc_record.specs.declared.event.Event.{Event}
+use Rattle.auc_record.specs.declared.event.Event.TheVariants as event
+use Rattle.auc_record.specs.declared.record.LineRecord.{LineRecord}
+use Rattle.auc_record.specs.declared.record.LineRecord.TheVariants.{Event as Happening}
 use Rattle.auc_jobs.specs.InnerServing.{AreTold, Happens, Says, Serves, Stands, before_at}
 use Rattle.auc_jobs.specs.InnerUsims.{has_usim}
 use Rattle.auc_jobs.specs.InnerWorker.{AreAtDevices, AreForRows}

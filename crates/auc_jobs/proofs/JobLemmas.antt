@@ -10,17 +10,17 @@ use Rattle.auc_lines.specs.declared.part.Line.{Line}
 use Rattle.auc_sqn.specs.Past.{Remembers}
 use Rattle.auc_subs.specs.Subscriber.{top_at}
 use Rattle.auc_subs.specs.declared.row.Row.{Row}
-use Rattle.auc_world.specs.Entries.{entries_of_lines}
-use Rattle.auc_world.specs.Given.{Before, is_in, is_released, past_of, LineGives, JobGives}
+use Rattle.auc_record.specs.Entries.{entries_of_lines}
+use Rattle.auc_world.specs.Given.{Before, is_released, past_of, LineGives, JobGives}
+use Rattle.auc_record.specs.Lines.{is_in, numbers_of, held_of, accepted_by, accepted, released_by}
 use Rattle.auc_world.specs.Net.{Net}
-use Rattle.auc_world.specs.Setting.{Setting}
-use Rattle.auc_world.specs.Lines.{numbers_of, held_of, accepted_by, accepted, released_by}
+use Rattle.auc_subs.specs.Setting.{Setting}
 use Rattle.auc_usim.specs.Usim.{Memory}
-use Rattle.auc_world.specs.declared.record.GiveVerdict.{GiveVerdict}
-use Rattle.auc_world.specs.declared.record.GiveVerdict.TheVariants as given
-use Rattle.auc_world.specs.declared.record.LineRecord.{LineRecord}
-use Rattle.auc_world.specs.declared.record.LineRecord.TheVariants.{Give}
-use Rattle.auc_world.specs.Released.{Released, has, AreReleased}
+use Rattle.auc_record.specs.declared.record.GiveVerdict.{GiveVerdict}
+use Rattle.auc_record.specs.declared.record.GiveVerdict.TheVariants as given
+use Rattle.auc_record.specs.declared.record.LineRecord.{LineRecord}
+use Rattle.auc_record.specs.declared.record.LineRecord.TheVariants.{Give}
+use Rattle.auc_record.specs.Released.{Released, has, AreReleased}
 use Rattle.auc_jobs.specs.InnerUsims.{Presents}
 use Rattle.auc_jobs.specs.Numbers.{AreNumbers}
 use Rattle.auc_jobs.specs.Usims.{AreBehind}

@@ -20,13 +20,13 @@ use Rattle.auc_keeper.proofs.Facts.{begins_left}
 use Rattle.auc_lines.specs.declared.part.Line.{Line}
 use Rattle.auc_subs.specs.Subscriber.{AreSubscribers, tops_of}
 use Rattle.auc_subs.specs.declared.row.Row.{Row}
-use Rattle.auc_world.specs.declared.record.LineRecord.{LineRecord}
-use Rattle.auc_world.specs.declared.record.RoundRecord.{RoundRecord}
+use Rattle.auc_record.specs.declared.record.LineRecord.{LineRecord}
+use Rattle.auc_record.specs.declared.record.RoundRecord.{RoundRecord}
 use Rattle.auc_world.specs.Limits.{Raises}
-use Rattle.auc_world.specs.Entries.{entries_of_jobs}
-use Rattle.auc_world.specs.Lines.{all_lines, held_of, withheld_of}
-use Rattle.auc_world.specs.Setting.{Setting}
-use Rattle.auc_world.proofs.Facts.{withheld_of-held_of}
+use Rattle.auc_record.specs.Entries.{entries_of_jobs}
+use Rattle.auc_record.specs.Lines.{all_lines, held_of, withheld_of}
+use Rattle.auc_subs.specs.Setting.{Setting}
+use Rattle.auc_record.proofs.Facts.{withheld_of-held_of}
 use Rattle.auc_jobs.specs.declared.claiming.WorkerJobs.{WorkerJobs}
 use Rattle.auc_jobs.specs.declared.round.Ran.{Ran}
 use Rattle.auc_jobs.specs.declared.workers.RoundPieces.{RoundPieces}

@@ -4,16 +4,16 @@ use Rattle.std.specs.Prelude.{if◌then◌else◌}
 use Rattle.std.proofs.lemmas.List.Elements.{All-append, All-cons, All-head, All-map, All-nil, All-tail}
 use Rattle.auc_edge.specs.declared.stop.Stop.{Stop}
 use Rattle.auc_subs.specs.declared.row.Row.{Row}
-use Rattle.auc_world.specs.declared.record.LineRecord.{LineRecord}
-use Rattle.auc_world.specs.declared.record.LineRecord.TheVariants.{Vector, Withheld, Exhausted, Sync, Give, Further, Event as Happening}
-use Rattle.auc_world.specs.Lines.{numbers_of, withheld_of, held_by, held_of, all_lines}
+use Rattle.auc_record.specs.declared.record.LineRecord.{LineRecord}
+use Rattle.auc_record.specs.declared.record.LineRecord.TheVariants.{Vector, Withheld, Exhausted, Sync, Give, Further, Event as Happening}
+use Rattle.auc_record.specs.Lines.{numbers_of, withheld_of, held_by, held_of, all_lines}
 use Rattle.auc_lines.specs.Part.{is_that}
 use Rattle.auc_vector.specs.Notes.{withheld_noted}
 use Rattle.auc_vector.specs.declared.notes.NumberNote.{NumberNote}
 use Rattle.auc_vector.specs.declared.notes.NumberNote.TheVariants as number
-use Rattle.auc_world.specs.Event.{asked_in, number_in}
+use Rattle.auc_record.specs.Event.{asked_in, number_in}
 use Rattle.auc_world.specs.Round.{NamesStop, NotesStop, Withholds}
-use Rattle.auc_world.proofs.Facts.{none_held, withheld_of-held_of}
+use Rattle.auc_record.proofs.Facts.{none_held, withheld_of-held_of}
 use Rattle.auc_jobs.specs.declared.claiming.ClaimedJob.{ClaimedJob}
 use Rattle.auc_jobs.proofs.LineLemmas.{held_of-append, numbers_of-append}
 use Rattle.auc_jobs.proofs.EventLemmas.{IsOwnEvent}

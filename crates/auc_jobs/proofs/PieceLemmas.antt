@@ -6,8 +6,8 @@ use Rattle.std.proofs.lemmas.List.Elements.{All-tail}
 use Rattle.auc_history.proofs.Facts.{AllPairs-head}
 use Rattle.auc_lines.specs.declared.part.Line.{Line}
 use Rattle.auc_lines.specs.Part.{AreApart, holds}
-use Rattle.auc_world.specs.declared.record.LineRecord.{LineRecord}
-use Rattle.auc_world.specs.Lines.{accepted}
+use Rattle.auc_record.specs.declared.record.LineRecord.{LineRecord}
+use Rattle.auc_record.specs.Lines.{accepted}
 use Rattle.auc_world.specs.Pieces.{IsQuiet}
 use Rattle.auc_world.proofs.Facts.{accepted-append}
 

@@ -16,7 +16,7 @@ use Rattle.auc_subs.specs.Subscriber.{AreSubscribers, same_identity}
 use Rattle.auc_subs.specs.declared.row.Row.{Row}
 use Rattle.auc_usim.specs.Usim.{Memory}
 use Rattle.auc_world.specs.Net.{device_place, place_with}
-use Rattle.auc_world.specs.Setting.{Setting}
+use Rattle.auc_subs.specs.Setting.{Setting}
 use Rattle.auc_world.specs.Start.{Kept, home_of, subscription_at, subscription_by}
 use Rattle.auc_world.specs.World.{AreOfSame, WorldState, memory_of, usim_at, usim_of}
 use Rattle.auc_jobs.proofs.LineLemmas.{some_at}

@@ -9,10 +9,10 @@ use Rattle.auc_usim.specs.Usim.{Memory}
 use Rattle.auc_world.specs.Ending.{EachDeliveryLeavesFewer, deliveries_left}
 use Rattle.auc_world.specs.Given.{Before, PlainGives, RelayGives, behind}
 use Rattle.auc_world.specs.Net.{Net, other}
-use Rattle.auc_world.specs.Released.{Released}
-use Rattle.auc_world.specs.Setting.{Setting}
-use Rattle.auc_world.specs.declared.event.Event.TheVariants as event
-use Rattle.auc_world.specs.declared.record.LineRecord.{LineRecord}
+use Rattle.auc_record.specs.Released.{Released}
+use Rattle.auc_subs.specs.Setting.{Setting}
+use Rattle.auc_record.specs.declared.event.Event.TheVariants as event
+use Rattle.auc_record.specs.declared.record.LineRecord.{LineRecord}
 use Rattle.auc_jobs.specs.InnerPlaying.{Leads}
 use Rattle.auc_jobs.specs.InnerServing.{Happens, Serves, Stands, before_at}
 use Rattle.auc_jobs.proofs.JobLemmas.{serves_marked, serves_more}

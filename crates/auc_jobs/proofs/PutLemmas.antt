@@ -15,9 +15,9 @@ use Rattle.auc_server.specs.declared.setting.HomeRow.{HomeRow}
 use Rattle.auc_sqn.specs.Past.{Remembers}
 use Rattle.auc_subs.specs.declared.row.Row.{Row}
 use Rattle.auc_usim.specs.Usim.{Memory}
-use Rattle.auc_world.specs.declared.record.LineRecord.{LineRecord}
+use Rattle.auc_record.specs.declared.record.LineRecord.{LineRecord}
 use Rattle.auc_world.specs.Given.{past_by, past_of}
-use Rattle.auc_world.specs.Lines.{accepted, all_lines}
+use Rattle.auc_record.specs.Lines.{accepted, all_lines}
 use Rattle.auc_world.specs.Net.{Net}
 use Rattle.auc_world.specs.Pieces.{IsQuiet}
 use Rattle.auc_world.specs.Start.{Kept, kept_by_jobs, kept_now, kept_with, put_back}

@@ -13,26 +13,27 @@ use Rattle.auc_lines.specs.declared.sites.SiteEvent.{SiteEvent}
 use Rattle.auc_lines.specs.declared.part.Report.{Report}
 use Rattle.auc_random.specs.Random.{rand_of}
 use Rattle.auc_request.specs.Request.{is_separated}
-use Rattle.auc_sim.specs.declared.note.SimNote.{SimNote}
+use Rattle.auc_vector.specs.declared.sim_note.SimNote.{SimNote}
 use Rattle.auc_sites.specs.Network.{Network, Turn, after_event}
 use Rattle.auc_sites.specs.Run.{judgement_in}
 use Rattle.auc_sites.specs.declared.master.Judged.{Judged}
 use Rattle.auc_sites.specs.declared.master.Judged.TheVariants as judged
 use Rattle.auc_vector.specs.declared.parts.Vector.{Vector as AuthVector}
-use Rattle.auc_world.specs.declared.further.Further.{Further as Said}
-use Rattle.auc_world.specs.declared.further.Further.TheVariants as further
-use Rattle.auc_world.specs.declared.record.GiveVerdict.{GiveVerdict}
-use Rattle.auc_world.specs.declared.record.GiveVerdict.TheVariants as given
-use Rattle.auc_world.specs.declared.record.LineRecord.{LineRecord}
-use Rattle.auc_world.specs.declared.record.LineRecord.TheVariants.{Vector, Withheld, Exhausted, Sync, Give, Further, Event}
-use Rattle.auc_world.specs.declared.record.SyncVerdict.{SyncVerdict}
-use Rattle.auc_world.specs.declared.record.SyncVerdict.TheVariants as verdict
-use Rattle.auc_world.specs.Given.{AuthenticatesIf, Before, DrawGives, EpsGives, FivegFollows, FivegGives, GiveGives, IsReleasable, OneGives, SyncGives, VectorsFollow, behind, device_of_row, hxres_lines, judged_lines, kasme_line, outcome_of, turned}
-use Rattle.auc_world.specs.Setting.{Setting}
-use Rattle.auc_world.specs.Lines.{numbers_of}
+use Rattle.auc_record.specs.declared.further.Further.{Further as Said}
+use Rattle.auc_record.specs.declared.further.Further.TheVariants as further
+use Rattle.auc_record.specs.declared.record.GiveVerdict.{GiveVerdict}
+use Rattle.auc_record.specs.declared.record.GiveVerdict.TheVariants as given
+use Rattle.auc_record.specs.declared.record.LineRecord.{LineRecord}
+use Rattle.auc_record.specs.declared.record.LineRecord.TheVariants.{Vector, Withheld, Exhausted, Sync, Give, Further, Event}
+use Rattle.auc_record.specs.declared.record.SyncVerdict.{SyncVerdict}
+use Rattle.auc_record.specs.declared.record.SyncVerdict.TheVariants as verdict
+use Rattle.auc_world.specs.Given.{AuthenticatesIf, Before, EpsGives, FivegFollows, FivegGives, GiveGives, SyncGives, VectorsFollow, behind, device_of_row, hxres_lines, judged_lines, kasme_line, outcome_of, turned}
+use Rattle.auc_record.specs.Draws.{DrawGives, IsReleasable, OneGives}
+use Rattle.auc_subs.specs.Setting.{Setting}
+use Rattle.auc_record.specs.Lines.{numbers_of}
 use Rattle.auc_world.specs.Sim.{SimFollowsIf, SimGives}
 use Rattle.auc_world.specs.Sites.{LeaseGives, SitesGives, SitesGo, event_of, sites_start}
-use Rattle.auc_world.specs.VectorAt.{vector_at, vector_of_row}
+use Rattle.auc_record.specs.VectorAt.{vector_at, vector_of_row}
 use Rattle.auc_jobs.specs.InnerSim.{said_lines}
 
 -- each line that a request of a subscriber may give is so

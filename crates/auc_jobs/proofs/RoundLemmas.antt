@@ -20,27 +20,28 @@ use Rattle.auc_vector.specs.declared.notes.NumberNote.{NumberNote}
 use Rattle.auc_vector.specs.declared.notes.NumberNote.TheVariants as number
 use Rattle.auc_vector.specs.declared.notes.ResyncNote.{ResyncNote}
 use Rattle.auc_vector.specs.declared.notes.ResyncNote.TheVariants as resync
-use Rattle.auc_world.specs.Event.{number_for, number_passed, number_released, number_withheld, resync_for}
-use Rattle.auc_world.specs.Entries.{is_reported, entries_of_line, entries_of_lines, entries_of_jobs, entries_of_number, entries_of_resync, entries_of_verdict}
+use Rattle.auc_record.specs.Event.{number_for, number_passed, number_released, number_withheld, resync_for}
+use Rattle.auc_record.specs.Entries.{is_reported, entries_of_line, entries_of_lines, entries_of_jobs, entries_of_number, entries_of_resync, entries_of_verdict}
 use Rattle.auc_world.specs.Given.{JobsGive}
-use Rattle.auc_world.specs.Setting.{Setting}
+use Rattle.auc_subs.specs.Setting.{Setting}
 use Rattle.auc_world.specs.Start.{Kept}
-use Rattle.auc_world.proofs.Facts.{jobs_give_after_all_lines, length-reopened, pieces_split_the_round}
+use Rattle.auc_world.proofs.Facts.{jobs_give_after_all_lines, pieces_split_the_round}
+use Rattle.auc_record.proofs.Facts.{length-reopened}
 use Rattle.auc_world.specs.Net.{Net}
 use Rattle.auc_world.specs.Pieces.{Piece, PiecesGive}
-use Rattle.auc_world.specs.Lines.{numbers_of, released_by, withheld_by, withheld_of, all_lines}
+use Rattle.auc_record.specs.Lines.{numbers_of, released_by, withheld_by, withheld_of, all_lines}
 use Rattle.auc_world.specs.Round.{closing_of, closings_from, IsLawfulRound, Withholds}
 use Rattle.auc_world.specs.Sessions.{AreVerdicts, job_sessions, premise_from}
-use Rattle.auc_world.specs.declared.record.JobSessions.{JobSessions}
-use Rattle.auc_world.specs.declared.record.Premise.{Premise}
-use Rattle.auc_world.specs.declared.record.SessionVerdict.{SessionVerdict}
-use Rattle.auc_world.specs.declared.record.Closing.{Closing}
-use Rattle.auc_world.specs.declared.record.LineRecord.{LineRecord}
-use Rattle.auc_world.specs.declared.record.LineRecord.TheVariants.{Vector, Withheld, Exhausted, Sync, Give, Further, Event as Happening}
-use Rattle.auc_world.specs.declared.record.SyncVerdict.{SyncVerdict}
-use Rattle.auc_world.specs.declared.record.SyncVerdict.TheVariants as verdict
-use Rattle.auc_world.specs.declared.counting.Count.{Count}
-use Rattle.auc_world.specs.Counts.{passed, passed_by, passed_in, capped, counted_in, AreCounted, counted_closing, counted_closings}
+use Rattle.auc_record.specs.declared.record.JobSessions.{JobSessions}
+use Rattle.auc_record.specs.declared.record.Premise.{Premise}
+use Rattle.auc_record.specs.declared.record.SessionVerdict.{SessionVerdict}
+use Rattle.auc_record.specs.declared.record.Closing.{Closing}
+use Rattle.auc_record.specs.declared.record.LineRecord.{LineRecord}
+use Rattle.auc_record.specs.declared.record.LineRecord.TheVariants.{Vector, Withheld, Exhausted, Sync, Give, Further, Event as Happening}
+use Rattle.auc_record.specs.declared.record.SyncVerdict.{SyncVerdict}
+use Rattle.auc_record.specs.declared.record.SyncVerdict.TheVariants as verdict
+use Rattle.auc_record.specs.declared.counting.Count.{Count}
+use Rattle.auc_record.specs.Counts.{passed, passed_by, passed_in, capped, counted_in, AreCounted, counted_closing, counted_closings}
 use Rattle.auc_jobs.specs.Usims.{AreBehind}
 use Rattle.auc_jobs.specs.InnerRound.{ArePieces, AreServed, IsAdvanced, LeadsOn}
 use Rattle.auc_jobs.specs.InnerUsims.{OwnDevices}

@@ -11,24 +11,23 @@ use Rattle.auc_sqn.specs.Past.{Remembers}
 use Rattle.auc_subs.specs.Subscriber.{top_at}
 use Rattle.auc_subs.specs.declared.row.Row.{Row}
 use Rattle.auc_usim.specs.Usim.{Memory}
-use Rattle.auc_world.specs.declared.record.LineRecord.{LineRecord}
-use Rattle.auc_world.specs.declared.record.LineRecord.TheVariants.{Event as Happening}
+use Rattle.auc_record.specs.declared.record.LineRecord.{LineRecord}
+use Rattle.auc_record.specs.declared.record.LineRecord.TheVariants.{Event as Happening}
 use Rattle.auc_world.specs.Given.{Before, behind, past_of, LineGives, JobGives}
-use Rattle.auc_world.specs.Lines.{accepted}
-use Rattle.auc_world.specs.Setting.{Setting}
+use Rattle.auc_record.specs.Lines.{accepted}
+use Rattle.auc_subs.specs.Setting.{Setting}
 use Rattle.auc_world.proofs.Facts.{accepted-append, job_quiet}
-use Rattle.auc_world.specs.Released.{Released}
+use Rattle.auc_record.specs.Released.{Released}
 use Rattle.auc_vector.specs.declared.notes.NumberNote.{NumberNote}
 use Rattle.auc_vector.specs.declared.notes.NumberNote.TheVariants as number
-use Rattle.auc_world.specs.Came.{Came}
-use Rattle.auc_world.specs.Event.{asked_in, number_in, number_with}
+use Rattle.auc_record.specs.Event.{Came, asked_in, number_in, number_with}
 use Rattle.auc_world.specs.Net.{Net}
 use Rattle.auc_world.specs.Sessions.{job_sessions}
 use Rattle.auc_world.specs.Start.{Kept, start_of}
-use Rattle.auc_world.specs.declared.event.Event.{Event}
-use Rattle.auc_world.specs.declared.event.Event.TheVariants as event
-use Rattle.auc_world.specs.declared.record.JobSessions.{JobSessions}
-use Rattle.auc_world.specs.Vectors.{IsReleasableLine, IsReleasableNumber}
+use Rattle.auc_record.specs.declared.event.Event.{Event}
+use Rattle.auc_record.specs.declared.event.Event.TheVariants as event
+use Rattle.auc_record.specs.declared.record.JobSessions.{JobSessions}
+use Rattle.auc_record.specs.Vectors.{IsReleasableLine, IsReleasableNumber}
 use Rattle.auc_jobs.specs.Serving.{IsKnownLine}
 use Rattle.auc_jobs.specs.Usims.{HaveSecrets, AreOfRows}
 use Rattle.auc_jobs.specs.InnerRound.{JobBegins, ServesJob, left_in, left_on}

@@ -6,11 +6,11 @@ use Rattle.auc_edge.specs.declared.no_memory.NoMemory.{NoMemory}
 use Rattle.auc_edge.specs.declared.stop.Stop.{Stop}
 use Rattle.auc_history.specs.declared.entry.Entry.{Entry}
 use Rattle.auc_lines.specs.declared.part.Line.{Line}
-use Rattle.auc_world.specs.declared.record.LineRecord.{LineRecord}
-use Rattle.auc_world.specs.Setting.{Setting}
-use Rattle.auc_world.specs.Vectors.{vectors_in}
+use Rattle.auc_record.specs.declared.record.LineRecord.{LineRecord}
+use Rattle.auc_subs.specs.Setting.{Setting}
+use Rattle.auc_record.specs.Vectors.{vectors_in}
 use Rattle.auc_jobs.specs.declared.jobs.ServedJob.{ServedJob}
-use Rattle.auc_world.specs.Released.{Released}
+use Rattle.auc_record.specs.Released.{Released}
 use Rattle.auc_jobs.specs.InnerRound.{JobBegins, ServesJob}
 use Rattle.auc_jobs.specs.InnerSharing.{Shared, BeginsAt, IsServable, ServesAt}
 use Rattle.auc_jobs.specs.Serving.{AreAllKnown, AreKnown}

@@ -11,17 +11,17 @@ use Rattle.auc_random.specs.Random.{sim_nonce}
 use Rattle.auc_sim.specs.Identity.{sim_identity, with_realm}
 use Rattle.auc_sim.specs.Session.{SimInputs, SimRuns}
 use Rattle.auc_sim.specs.Triplets.{of_vector}
-use Rattle.auc_sim.specs.declared.note.SimNote.{SimNote}
+use Rattle.auc_vector.specs.declared.sim_note.SimNote.{SimNote}
 use Rattle.auc_sim_packet.specs.declared.parts.Triplet.{Triplet}
 use Rattle.auc_subs.specs.Subscriber.{AreSubscribers, IsRow, top_at}
 use Rattle.auc_subs.specs.declared.row.Row.{Row}
-use Rattle.auc_world.specs.Lines.{numbers_of}
-use Rattle.auc_world.specs.Setting.{Setting}
+use Rattle.auc_record.specs.Lines.{numbers_of}
+use Rattle.auc_subs.specs.Setting.{Setting}
 use Rattle.auc_world.specs.Sim.{SimFollows, SimFollowsIf, SimGives, sim_inputs}
-use Rattle.auc_world.specs.VectorAt.{vector_of_row}
-use Rattle.auc_world.specs.declared.further.Further.TheVariants as further
-use Rattle.auc_world.specs.declared.record.LineRecord.{LineRecord}
-use Rattle.auc_world.specs.declared.record.LineRecord.TheVariants.{Further}
+use Rattle.auc_record.specs.VectorAt.{vector_of_row}
+use Rattle.auc_record.specs.declared.further.Further.TheVariants as further
+use Rattle.auc_record.specs.declared.record.LineRecord.{LineRecord}
+use Rattle.auc_record.specs.declared.record.LineRecord.TheVariants.{Further}
 use Rattle.auc_jobs.specs.InnerSim.{AreNotesOf, AreTripletsOf, IsNumber, said_lines}
 use Rattle.auc_jobs.specs.InnerSites.{IsLease}
 use Rattle.auc_jobs.proofs.LineLemmas.{all_at}

@@ -8,10 +8,10 @@ use Rattle.auc_subs.specs.declared.row.Row.{Row}
 use Rattle.auc_subs.specs.Subscriber.{AreSubscribers, top_at}
 use Rattle.auc_subs.proofs.Facts.{drawn_within}
 use Rattle.auc_sqn.specs.Past.{Remembers}
-use Rattle.auc_world.specs.Released.{Released}
-use Rattle.auc_world.specs.Setting.{Setting}
+use Rattle.auc_record.specs.Released.{Released}
+use Rattle.auc_subs.specs.Setting.{Setting}
 use Rattle.auc_world.specs.Start.{Kept, fresh_kept}
-use Rattle.auc_world.specs.declared.record.LineRecord.{LineRecord}
+use Rattle.auc_record.specs.declared.record.LineRecord.{LineRecord}
 use Rattle.auc_jobs.specs.Usims.{AreOfRows, AreBehind}
 use Rattle.auc_jobs.specs.InnerSharing.{Shared, IsServable}
 use Rattle.auc_world.specs.Given.{past_of}

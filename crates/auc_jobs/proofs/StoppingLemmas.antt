@@ -16,13 +16,13 @@ use Rattle.auc_subs.specs.declared.row.Row.{Row}
 use Rattle.auc_vector.specs.Notes.{withheld_noted}
 use Rattle.auc_vector.specs.declared.notes.NumberNote.{NumberNote}
 use Rattle.auc_vector.specs.declared.notes.NumberNote.TheVariants as number
-use Rattle.auc_world.specs.Entries.{entries_of_jobs, entries_of_line, entries_of_lines, entries_of_number, entries_of_resync}
-use Rattle.auc_world.specs.Event.{asked_in, number_for, number_in, resync_for}
-use Rattle.auc_world.specs.Lines.{all_lines, held_by, held_of}
+use Rattle.auc_record.specs.Entries.{entries_of_jobs, entries_of_line, entries_of_lines, entries_of_number, entries_of_resync}
+use Rattle.auc_record.specs.Event.{asked_in, number_for, number_in, resync_for}
+use Rattle.auc_record.specs.Lines.{all_lines, held_by, held_of}
 use Rattle.auc_world.specs.Round.{Withholds}
-use Rattle.auc_world.specs.declared.record.LineRecord.{LineRecord}
-use Rattle.auc_world.specs.declared.record.LineRecord.TheVariants.{Vector, Withheld, Exhausted, Sync, Give, Further, Event as Happening}
-use Rattle.auc_world.proofs.Facts.{none_held}
+use Rattle.auc_record.specs.declared.record.LineRecord.{LineRecord}
+use Rattle.auc_record.specs.declared.record.LineRecord.TheVariants.{Vector, Withheld, Exhausted, Sync, Give, Further, Event as Happening}
+use Rattle.auc_record.proofs.Facts.{none_held}
 use Rattle.auc_jobs.specs.InnerKeeping.{is_withheld, told_stop, withholds}
 use Rattle.auc_jobs.specs.InnerRound.{HoldsFull}
 use Rattle.auc_jobs.proofs.EventLemmas.{IsOwnEvent}

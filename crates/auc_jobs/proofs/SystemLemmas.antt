@@ -16,17 +16,17 @@ use Rattle.auc_request.specs.Request.{is_separated}
 use Rattle.auc_subs.specs.declared.row.Row.{Row}
 use Rattle.auc_vector.specs.declared.parts.Vector.{Vector as AuthVector}
 use Rattle.auc_world.specs.Given.{Authenticates, AuthenticatesIf, Before, EpsGives, FivegFollows, FivegGives, behind, device_of_row, hxres_lines, judged_lines, kasme_line, outcome_of, turned}
-use Rattle.auc_world.specs.Setting.{Setting}
-use Rattle.auc_world.specs.VectorAt.{vector_at, vector_of_row, vector_with}
-use Rattle.auc_world.specs.Vectors.{IsOfRow}
-use Rattle.auc_world.specs.declared.further.FivegOutcome.{FivegOutcome}
-use Rattle.auc_world.specs.declared.further.FivegOutcome.TheVariants as fiveg
-use Rattle.auc_world.specs.declared.further.Further.{Further as Said}
-use Rattle.auc_world.specs.declared.further.Further.TheVariants as further
-use Rattle.auc_world.specs.declared.record.GiveVerdict.{GiveVerdict}
-use Rattle.auc_world.specs.declared.record.GiveVerdict.TheVariants as given
-use Rattle.auc_world.specs.declared.record.LineRecord.{LineRecord}
-use Rattle.auc_world.specs.declared.record.LineRecord.TheVariants.{Vector, Further}
+use Rattle.auc_subs.specs.Setting.{Setting}
+use Rattle.auc_record.specs.VectorAt.{vector_at, vector_of_row, vector_with}
+use Rattle.auc_record.specs.Vectors.{IsOfRow}
+use Rattle.auc_record.specs.declared.further.FivegOutcome.{FivegOutcome}
+use Rattle.auc_record.specs.declared.further.FivegOutcome.TheVariants as fiveg
+use Rattle.auc_record.specs.declared.further.Further.{Further as Said}
+use Rattle.auc_record.specs.declared.further.Further.TheVariants as further
+use Rattle.auc_record.specs.declared.record.GiveVerdict.{GiveVerdict}
+use Rattle.auc_record.specs.declared.record.GiveVerdict.TheVariants as given
+use Rattle.auc_record.specs.declared.record.LineRecord.{LineRecord}
+use Rattle.auc_record.specs.declared.record.LineRecord.TheVariants.{Vector, Further}
 use Rattle.auc_jobs.specs.declared.giving.UsimAnswer.{UsimAnswer}
 use Rattle.auc_jobs.specs.declared.giving.UsimAnswer.TheVariants as answered
 use Rattle.auc_jobs.specs.declared.giving.UsimKeys.{UsimKeys}

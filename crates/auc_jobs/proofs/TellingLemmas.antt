@@ -16,20 +16,20 @@ use Rattle.auc_lines.specs.declared.part.Line.{Line}
 use Rattle.auc_lines.specs.declared.part.Line.TheVariants as asked
 use Rattle.auc_subs.specs.Subscriber.{top_at}
 use Rattle.auc_subs.specs.declared.row.Row.{Row}
-use Rattle.auc_world.specs.declared.record.LineRecord.{LineRecord}
-use Rattle.auc_world.specs.declared.record.LineRecord.TheVariants.{Vector, Withheld, Exhausted, Sync, Give, Further, Event as Happening}
+use Rattle.auc_record.specs.declared.record.LineRecord.{LineRecord}
+use Rattle.auc_record.specs.declared.record.LineRecord.TheVariants.{Vector, Withheld, Exhausted, Sync, Give, Further, Event as Happening}
 use Rattle.auc_lines.specs.Part.{is_that}
 use Rattle.auc_vector.specs.Notes.{withheld_noted}
 use Rattle.auc_vector.specs.declared.notes.NumberNote.{NumberNote}
 use Rattle.auc_vector.specs.declared.notes.NumberNote.TheVariants as number
-use Rattle.auc_world.specs.declared.event.Event.TheVariants as event
-use Rattle.auc_world.specs.Event.{asked_in, number_for, number_in, number_released, number_withheld, resync_for}
+use Rattle.auc_record.specs.declared.event.Event.TheVariants as event
+use Rattle.auc_record.specs.Event.{asked_in, number_for, number_in, number_released, number_withheld, resync_for}
 use Rattle.auc_world.specs.Net.{Net}
-use Rattle.auc_world.specs.Entries.{entries_of_line, entries_of_lines, entries_of_number, entries_of_resync}
+use Rattle.auc_record.specs.Entries.{entries_of_line, entries_of_lines, entries_of_number, entries_of_resync}
 use Rattle.auc_world.specs.Given.{Before, LineGives, JobGives, behind}
-use Rattle.auc_world.specs.Lines.{released_by, numbers_of, withheld_by, withheld_of, held_by, held_of}
-use Rattle.auc_world.specs.Setting.{Setting}
-use Rattle.auc_world.proofs.Facts.{withheld_of-held_of}
+use Rattle.auc_record.specs.Lines.{released_by, numbers_of, withheld_by, withheld_of, held_by, held_of}
+use Rattle.auc_subs.specs.Setting.{Setting}
+use Rattle.auc_record.proofs.Facts.{withheld_of-held_of}
 use Rattle.auc_jobs.specs.declared.claiming.ClaimedJob.{ClaimedJob}
 use Rattle.auc_jobs.specs.Serving.{IsKnownLine, AreKnown}
 use Rattle.auc_jobs.proofs.EventLemmas.{IsOwnEvent, IsOwnNumber, event_lines, plain_lines}

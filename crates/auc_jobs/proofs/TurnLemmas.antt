@@ -18,9 +18,9 @@ use Rattle.auc_history.proofs.Facts.{AllPairs-head, AllPairs-tail}
 use Rattle.auc_lines.specs.declared.part.Line.{Line}
 use Rattle.auc_lines.specs.Part.{AreApart, holds}
 use Rattle.auc_subs.specs.Subscriber.{tops_of}
-use Rattle.auc_world.specs.Entries.{entries_of_lines}
-use Rattle.auc_world.specs.declared.record.LineRecord.{LineRecord}
-use Rattle.auc_world.specs.Lines.{accepted, held_of, numbers_of}
+use Rattle.auc_record.specs.Entries.{entries_of_lines}
+use Rattle.auc_record.specs.declared.record.LineRecord.{LineRecord}
+use Rattle.auc_record.specs.Lines.{accepted, held_of, numbers_of}
 use Rattle.auc_world.specs.Start.{start_of}
 use Rattle.auc_world.proofs.Facts.{accepted-append, job_quiet}
 use Rattle.auc_jobs.specs.declared.claiming.ClaimedJob.{ClaimedJob}

@@ -14,7 +14,7 @@ use Rattle.auc_sqn.specs.declared.verdict.Verdict.TheVariants.{Fresh, Old, Far, 
 use Rattle.auc_sqn.proofs.Facts.{seq_of-sqn_bytes, ind_of-sqn_bytes}
 use Rattle.auc_subs.specs.declared.row.Row.{Row}
 use Rattle.auc_world.specs.Given.{UsimAnswers as Answers, past_by, past_of, verdict_by}
-use Rattle.auc_world.specs.Lines.{accepted, accepted_by}
+use Rattle.auc_record.specs.Lines.{accepted, accepted_by}
 use Rattle.auc_usim.specs.Usim.{Memory, sqn_in, mac_in, xmac, acceptance, verdict_on, FollowsVerdict, IsAnswer, past_after_answer}
 use Rattle.auc_usim.specs.declared.answer.Answer.{Answer}
 use Rattle.auc_usim.specs.declared.answer.Answer.TheVariants.{Accepted, WrongMac, SyncFailure}
@@ -23,10 +23,10 @@ use Rattle.auc_subs.proofs.Facts.{top_at-row}
 use Rattle.auc_vector.specs.Vector.{autn_of, vector_of, sqn_in as sqn_found}
 use Rattle.auc_vector.specs.declared.parts.Vector.{Vector}
 use Rattle.auc_vector.proofs.Facts.{autn_carries, autn_has_its_mac}
-use Rattle.auc_world.specs.declared.record.GiveVerdict.{GiveVerdict}
-use Rattle.auc_world.specs.declared.record.GiveVerdict.TheVariants as given
-use Rattle.auc_world.specs.declared.record.LineRecord.{LineRecord}
-use Rattle.auc_world.specs.declared.record.LineRecord.TheVariants.{Give}
+use Rattle.auc_record.specs.declared.record.GiveVerdict.{GiveVerdict}
+use Rattle.auc_record.specs.declared.record.GiveVerdict.TheVariants as given
+use Rattle.auc_record.specs.declared.record.LineRecord.{LineRecord}
+use Rattle.auc_record.specs.declared.record.LineRecord.TheVariants.{Give}
 use Rattle.auc_jobs.specs.declared.giving.UsimKeys.{UsimKeys}
 use Rattle.auc_jobs.specs.InnerUsims.{has_usim, usim_keys, Challenges, Presents}
 use Rattle.auc_cards.specs.Usims.{IsOfRow}

@@ -19,14 +19,14 @@ use Rattle.auc_subs.specs.declared.row.Row.{Row}
 use Rattle.auc_usim.specs.Usim.{Memory}
 use Rattle.auc_world.specs.Given.{Before, behind}
 use Rattle.auc_world.specs.Net.{Net, device_place}
-use Rattle.auc_world.specs.Released.{Released}
+use Rattle.auc_record.specs.Released.{Released}
 use Rattle.auc_world.specs.Sessions.{job_sessions}
-use Rattle.auc_world.specs.Setting.{Setting}
+use Rattle.auc_subs.specs.Setting.{Setting}
 use Rattle.auc_world.specs.Start.{Kept, home_of, keeps_of, start_of, subscription_at}
-use Rattle.auc_world.specs.Vectors.{IsReleasableLine}
+use Rattle.auc_record.specs.Vectors.{IsReleasableLine}
 use Rattle.auc_world.specs.World.{WorldState, usim_at, usim_of}
-use Rattle.auc_world.specs.declared.record.JobSessions.{JobSessions}
-use Rattle.auc_world.specs.declared.record.LineRecord.{LineRecord}
+use Rattle.auc_record.specs.declared.record.JobSessions.{JobSessions}
+use Rattle.auc_record.specs.declared.record.LineRecord.{LineRecord}
 use Rattle.auc_jobs.specs.InnerRound.{JobBegins, ServesJob}
 use Rattle.auc_jobs.specs.InnerServing.{before_at, Stands, Serves, ServesLines}
 use Rattle.auc_jobs.specs.InnerUsims.{AreCopies, has_usim}

@@ -12,14 +12,14 @@ use Rattle.auc_history.specs.History.{IsInOrder}
 use Rattle.auc_lines.specs.declared.part.Line.{Line}
 use Rattle.auc_sqn.specs.Number.{max_seq}
 use Rattle.auc_subs.specs.Subscriber.{tops_of}
-use Rattle.auc_world.specs.declared.record.LineRecord.{LineRecord}
-use Rattle.auc_world.specs.Entries.{entries_of_lines}
+use Rattle.auc_record.specs.declared.record.LineRecord.{LineRecord}
+use Rattle.auc_record.specs.Entries.{entries_of_lines}
 use Rattle.auc_world.specs.Given.{JobGives}
-use Rattle.auc_world.specs.Lines.{numbers_of, held_of}
+use Rattle.auc_record.specs.Lines.{numbers_of, held_of}
 use Rattle.auc_world.specs.Net.{Net}
 use Rattle.auc_world.specs.Sessions.{job_sessions}
 use Rattle.auc_world.specs.Start.{start_of}
-use Rattle.auc_world.specs.Vectors.{vectors_in}
+use Rattle.auc_record.specs.Vectors.{vectors_in}
 use Rattle.auc_jobs.specs.declared.claiming.ClaimedJob.{ClaimedJob}
 use Rattle.auc_jobs.specs.declared.claiming.WorkerJobs.{WorkerJobs}
 use Rattle.auc_jobs.specs.declared.jobs.ServedJob.{ServedJob}

@@ -15,9 +15,9 @@ use Rattle.auc_journal.specs.Settled.{LeavesOnly}
 use Rattle.auc_keeper.specs.Keeper.{IsAbove, IsLeft}
 use Rattle.auc_vector.specs.declared.notes.NumberNote.{NumberNote}
 use Rattle.auc_vector.specs.declared.notes.NumberNote.TheVariants as number
-use Rattle.auc_world.specs.Event.{number_in}
-use Rattle.auc_world.specs.declared.record.LineRecord.{LineRecord}
-use Rattle.auc_world.specs.declared.record.LineRecord.TheVariants.{Vector, Withheld, Exhausted, Sync, Give, Further, Event}
+use Rattle.auc_record.specs.Event.{number_in}
+use Rattle.auc_record.specs.declared.record.LineRecord.{LineRecord}
+use Rattle.auc_record.specs.declared.record.LineRecord.TheVariants.{Vector, Withheld, Exhausted, Sync, Give, Further, Event}
 
 -- a keeper can begin a round: its pass is of the round's table, and the limits of its pass are the journal's
 pub record CanKeep {D : Type 0} (table : TableId) (passes : ℕ) (opening : Option (JournalState D)) (journal : JournalState D) (pass : KeeperValue) : Type 0 where

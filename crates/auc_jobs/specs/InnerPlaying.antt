@@ -4,8 +4,8 @@ use Rattle.auc_world.specs.Came.{came}
 use Rattle.auc_world.specs.Given.{packet_in}
 use Rattle.auc_world.specs.Happened.{Told, happened}
 use Rattle.auc_world.specs.Net.{Net}
-use Rattle.auc_world.specs.Setting.{Setting}
-use Rattle.auc_world.specs.declared.event.Event.{Event}
+use Rattle.auc_subs.specs.Setting.{Setting}
+use Rattle.auc_record.specs.declared.event.Event.{Event}
 
 -- an event led from a network to the next one, and made this packet or none
 pub record Leads (set : Setting) (net : Net) (e : Event) (packet : Option ℕ) (next : Net) : Type 0 where

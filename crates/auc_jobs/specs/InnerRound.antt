@@ -13,21 +13,21 @@ use Rattle.auc_server.specs.declared.setting.HomeRow.{HomeRow}
 use Rattle.auc_subs.specs.Subscriber.{top_at}
 use Rattle.auc_subs.specs.declared.row.Row.{Row}
 use Rattle.auc_usim.specs.Usim.{Memory}
-use Rattle.auc_world.specs.declared.record.LineRecord.{LineRecord}
-use Rattle.auc_world.specs.Entries.{entries_of_lines}
+use Rattle.auc_record.specs.declared.record.LineRecord.{LineRecord}
+use Rattle.auc_record.specs.Entries.{entries_of_lines}
 use Rattle.auc_world.specs.Given.{JobGives}
 use Rattle.auc_world.specs.Limits.{Raises}
-use Rattle.auc_world.specs.Lines.{accepted, held_of, withheld_of, all_lines}
+use Rattle.auc_record.specs.Lines.{accepted, held_of, withheld_of, all_lines}
 use Rattle.auc_world.specs.Pieces.{Piece, lines_of_pieces, entries_of_pieces, ReportsAreEarlier, IsQuiet, PiecesGive}
 use Rattle.auc_world.specs.Net.{Net}
 use Rattle.auc_world.specs.Round.{IsLawfulRound, Withholds}
 use Rattle.auc_world.specs.Sessions.{job_sessions}
 use Rattle.auc_world.specs.Start.{Kept, kept_by_jobs, start_of}
-use Rattle.auc_world.specs.declared.record.JobSessions.{JobSessions}
-use Rattle.auc_world.specs.declared.record.RoundRecord.{RoundRecord}
-use Rattle.auc_world.specs.Setting.{Setting}
-use Rattle.auc_world.specs.Transcript.{reopened}
-use Rattle.auc_world.specs.Released.{Released, AreReleased}
+use Rattle.auc_record.specs.declared.record.JobSessions.{JobSessions}
+use Rattle.auc_record.specs.declared.record.RoundRecord.{RoundRecord}
+use Rattle.auc_subs.specs.Setting.{Setting}
+use Rattle.auc_record.specs.Openings.{reopened}
+use Rattle.auc_record.specs.Released.{Released, AreReleased}
 use Rattle.auc_jobs.specs.Numbers.{AreNumbers}
 use Rattle.auc_jobs.specs.State.{Standing, StandsAt}
 use Rattle.auc_jobs.specs.Usims.{HaveSecrets, AreBehind}

@@ -8,19 +8,20 @@ use Rattle.auc_subs.specs.Subscriber.{top_at}
 use Rattle.auc_subs.specs.declared.row.Row.{Row}
 use Rattle.auc_vector.specs.declared.auts.Auts.{Auts}
 use Rattle.auc_vector.specs.declared.auts.Auts.TheVariants as read
-use Rattle.auc_world.specs.declared.record.SyncVerdict.{SyncVerdict}
-use Rattle.auc_world.specs.declared.record.SyncVerdict.TheVariants as verdict
-use Rattle.auc_world.specs.Entries.{is_reported, entries_of_line, entries_of_lines}
-use Rattle.auc_world.specs.Given.{Before, EventGives, IsReleasable, IsGiven, OneGives, is_released, packet_of, past_before, GiveGives, JobGives, said_by}
+use Rattle.auc_record.specs.declared.record.SyncVerdict.{SyncVerdict}
+use Rattle.auc_record.specs.declared.record.SyncVerdict.TheVariants as verdict
+use Rattle.auc_record.specs.Entries.{is_reported, entries_of_line, entries_of_lines}
+use Rattle.auc_world.specs.Given.{Before, EventGives, IsGiven, is_released, packet_of, past_before, GiveGives, JobGives, said_by}
+use Rattle.auc_record.specs.Draws.{IsReleasable, OneGives}
 use Rattle.auc_world.specs.Net.{Net}
-use Rattle.auc_world.specs.Setting.{Setting}
-use Rattle.auc_world.specs.Lines.{held_by, held_of, accepted}
+use Rattle.auc_subs.specs.Setting.{Setting}
+use Rattle.auc_record.specs.Lines.{held_by, held_of, accepted}
 use Rattle.auc_usim.specs.Usim.{Memory}
-use Rattle.auc_world.specs.declared.event.Event.{Event as EventOf}
-use Rattle.auc_world.specs.declared.record.GiveVerdict.{GiveVerdict}
-use Rattle.auc_world.specs.declared.record.LineRecord.{LineRecord}
-use Rattle.auc_world.specs.declared.record.LineRecord.TheVariants.{Vector, Withheld, Exhausted, Sync, Give, Further, Event}
-use Rattle.auc_world.specs.Released.{Released, AreReleased}
+use Rattle.auc_record.specs.declared.event.Event.{Event as EventOf}
+use Rattle.auc_record.specs.declared.record.GiveVerdict.{GiveVerdict}
+use Rattle.auc_record.specs.declared.record.LineRecord.{LineRecord}
+use Rattle.auc_record.specs.declared.record.LineRecord.TheVariants.{Vector, Withheld, Exhausted, Sync, Give, Further, Event}
+use Rattle.auc_record.specs.Released.{Released, AreReleased}
 use Rattle.auc_jobs.specs.Numbers.{AreNumbers}
 use Rattle.auc_jobs.specs.Usims.{AreBehind}
 

@@ -13,14 +13,14 @@ use Rattle.auc_sites.specs.declared.request.Request.{Request}
 use Rattle.auc_sites.specs.declared.site.Taken.TheVariants as taken
 use Rattle.auc_sites.specs.declared.site_net.Delivery.{Delivery}
 use Rattle.auc_sites.specs.declared.site_net.Delivery.TheVariants as delivery
-use Rattle.auc_world.specs.Draws.{DrawGives}
-use Rattle.auc_world.specs.Lines.{numbers_of}
-use Rattle.auc_world.specs.Setting.{Setting}
+use Rattle.auc_record.specs.Draws.{DrawGives}
+use Rattle.auc_record.specs.Lines.{numbers_of}
+use Rattle.auc_subs.specs.Setting.{Setting}
 use Rattle.auc_world.specs.Sites.{LeaseGives, event_of, note_of, outcome_of_packet, outcome_of_reply, packet_place, refusal_in, turn_of}
-use Rattle.auc_world.specs.declared.record.LineRecord.{LineRecord}
-use Rattle.auc_world.specs.declared.sites.SitesNote.{SitesNote}
-use Rattle.auc_world.specs.declared.sites.SitesOutcome.{SitesOutcome}
-use Rattle.auc_world.specs.declared.sites.SitesOutcome.TheVariants as outcome
+use Rattle.auc_record.specs.declared.record.LineRecord.{LineRecord}
+use Rattle.auc_record.specs.declared.sites.SitesNote.{SitesNote}
+use Rattle.auc_record.specs.declared.sites.SitesOutcome.{SitesOutcome}
+use Rattle.auc_record.specs.declared.sites.SitesOutcome.TheVariants as outcome
 use Rattle.auc_jobs.specs.InnerWorker.{WorkerServes, WorkerState}
 
 -- what a delivery came to, if the packet is no new request; else the request

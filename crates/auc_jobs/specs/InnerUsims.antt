@@ -7,10 +7,10 @@ use Rattle.auc_sqn.specs.Number.{sqn_bytes}
 use Rattle.auc_subs.specs.declared.row.Row.{Row}
 use Rattle.auc_world.specs.Given.{UsimAnswers, past_by, verdict_by as verdict_of_usim}
 use Rattle.auc_usim.specs.Usim.{Memory}
-use Rattle.auc_world.specs.declared.record.GiveVerdict.{GiveVerdict}
-use Rattle.auc_world.specs.declared.record.GiveVerdict.TheVariants as given
-use Rattle.auc_world.specs.declared.record.LineRecord.{LineRecord}
-use Rattle.auc_world.specs.declared.record.LineRecord.TheVariants.{Give}
+use Rattle.auc_record.specs.declared.record.GiveVerdict.{GiveVerdict}
+use Rattle.auc_record.specs.declared.record.GiveVerdict.TheVariants as given
+use Rattle.auc_record.specs.declared.record.LineRecord.{LineRecord}
+use Rattle.auc_record.specs.declared.record.LineRecord.TheVariants.{Give}
 use Rattle.auc_jobs.specs.declared.giving.UsimAnswer.{UsimAnswer}
 use Rattle.auc_jobs.specs.declared.giving.UsimAnswer.TheVariants.{Accepted, Sync, Absent}
 use Rattle.auc_jobs.specs.declared.giving.UsimKeys.{UsimKeys}

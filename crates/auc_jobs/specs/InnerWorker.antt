@@ -8,12 +8,12 @@ use Rattle.auc_subs.specs.declared.row.Row.{Row}
 use Rattle.auc_cards.specs.Devices.{job_devices}
 use Rattle.auc_world.specs.Given.{Before}
 use Rattle.auc_world.specs.Net.{Net, device_place}
-use Rattle.auc_world.specs.Setting.{Setting}
+use Rattle.auc_subs.specs.Setting.{Setting}
 use Rattle.auc_world.specs.Start.{Kept, start_of}
 use Rattle.auc_world.specs.World.{AreOfSame, WorldState}
 use Rattle.auc_usim.specs.Usim.{Memory}
-use Rattle.auc_world.specs.declared.record.LineRecord.{LineRecord}
-use Rattle.auc_world.specs.Released.{Released}
+use Rattle.auc_record.specs.declared.record.LineRecord.{LineRecord}
+use Rattle.auc_record.specs.Released.{Released}
 use Rattle.auc_jobs.specs.Usims.{HaveSecrets}
 use Rattle.auc_jobs.specs.InnerServing.{before_at, Stands, Serves, ServesLines}
 use Rattle.auc_jobs.specs.InnerUsims.{has_usim, usim_of}

@@ -2,8 +2,8 @@
 use Rattle.std.specs.Prelude.{ℕ, ◌≤◌, List, All}
 use Rattle.auc_subs.specs.Subscriber.{top_at}
 use Rattle.auc_subs.specs.declared.row.Row.{Row}
-use Rattle.auc_world.specs.Lines.{numbers_of}
-use Rattle.auc_world.specs.declared.record.LineRecord.{LineRecord}
+use Rattle.auc_record.specs.Lines.{numbers_of}
+use Rattle.auc_record.specs.declared.record.LineRecord.{LineRecord}
 
 -- no line releases a number that is above its subscriber's greatest one
 abbrev pub AreNumbers : List Row → List LineRecord → Type 0

@@ -14,13 +14,14 @@ use Rattle.auc_lines.specs.declared.part.Line.{Line}
 use Rattle.auc_subs.specs.Subscriber.{AreSubscribers}
 use Rattle.auc_subs.specs.declared.row.Row.{Row}
 use Rattle.auc_world.specs.Limits.{Raises}
-use Rattle.auc_world.specs.Lines.{all_lines, held_of, withheld_of}
+use Rattle.auc_record.specs.Lines.{all_lines, held_of, withheld_of}
 use Rattle.auc_world.specs.Round.{IsLawfulRound}
-use Rattle.auc_world.specs.Setting.{Setting}
+use Rattle.auc_subs.specs.Setting.{Setting}
 use Rattle.auc_world.specs.Start.{kept_by_jobs}
-use Rattle.auc_world.specs.Transcript.{entries_of, reopened}
-use Rattle.auc_world.specs.declared.record.LineRecord.{LineRecord}
-use Rattle.auc_world.specs.declared.record.RoundRecord.{RoundRecord}
+use Rattle.auc_world.specs.Transcript.{entries_of}
+use Rattle.auc_record.specs.Openings.{reopened}
+use Rattle.auc_record.specs.declared.record.LineRecord.{LineRecord}
+use Rattle.auc_record.specs.declared.record.RoundRecord.{RoundRecord}
 use Rattle.auc_jobs.specs.Serving.{AreAllKnown}
 use Rattle.auc_jobs.specs.State.{Standing}
 

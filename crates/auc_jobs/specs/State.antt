@@ -2,12 +2,12 @@
 use Rattle.std.specs.Prelude.{◌≡◌, ℕ, ◌<◌, ◌≤◌, List, [], length, slice_get, slice_index}
 use Rattle.auc_subs.specs.Subscriber.{top_at}
 use Rattle.auc_subs.specs.declared.row.Row.{Row}
-use Rattle.auc_world.specs.Setting.{Setting}
+use Rattle.auc_subs.specs.Setting.{Setting}
 use Rattle.auc_world.specs.Start.{Kept}
 use Rattle.auc_usim.specs.Usim.{Memory}
-use Rattle.auc_world.specs.declared.record.LineRecord.{LineRecord}
-use Rattle.auc_world.specs.Lines.{accepted}
-use Rattle.auc_world.specs.Released.{Released, AreReleased}
+use Rattle.auc_record.specs.declared.record.LineRecord.{LineRecord}
+use Rattle.auc_record.specs.Lines.{accepted}
+use Rattle.auc_record.specs.Released.{Released, AreReleased}
 use Rattle.auc_jobs.specs.Numbers.{AreNumbers}
 use Rattle.auc_jobs.specs.Usims.{AreOfRows, AreBehind}
 

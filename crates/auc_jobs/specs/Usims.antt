@@ -4,7 +4,7 @@ use Rattle.auc_sqn.specs.Past.{Remembers}
 use Rattle.auc_subs.specs.declared.row.Row.{Row}
 use Rattle.auc_world.specs.Given.{past_by}
 use Rattle.auc_usim.specs.Usim.{Memory}
-use Rattle.auc_world.specs.declared.record.LineRecord.{LineRecord}
+use Rattle.auc_record.specs.declared.record.LineRecord.{LineRecord}
 pub use Rattle.auc_cards.specs.Usims.{HaveSecrets, AreOfRows}
 
 -- after some lines each USIM remembers its opening, and what they say that it accepted

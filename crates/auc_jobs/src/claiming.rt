@@ -4,7 +4,7 @@ ghost use Rattle.std.specs.Prelude.{◌≡◌, ◌<◌, ℕ, [], None, List, len
 ghost use Rattle.auc_centre.specs.Adds.{Adds, kept_by};
 ghost use Rattle.auc_centre.specs.Kept.{subs_of};
 ghost use Rattle.auc_draw.specs.Book.{IsNew, IsOf};
-ghost use Rattle.auc_world.specs.declared.record.LineRecord.{LineRecord};
+ghost use Rattle.auc_record.specs.declared.record.LineRecord.{LineRecord};
 ghost use Rattle.auc_jobs.specs.InnerClaims.{HasFinished, IsBetween, IsDone, TakesTurn};
 ghost use Rattle.auc_jobs.specs.InnerSharing.{BeginsAt, IsShared, ServesAt};
 

@@ -1,9 +1,9 @@
 //! The events of a job's sessions.
 
 ghost use Rattle.std.specs.Prelude.{◌≡◌, ◌≤◌, ◌<◌, length, IfOk, IfSome, OnOk};
-ghost use Rattle.auc_world.specs.Event.{asked_in};
+ghost use Rattle.auc_record.specs.Event.{asked_in};
 ghost use Rattle.auc_lines.specs.Part.{IsShortIdentity};
-ghost use Rattle.auc_world.specs.declared.event.Event.TheVariants.{Open};
+ghost use Rattle.auc_record.specs.declared.event.Event.TheVariants.{Open};
 ghost use Rattle.auc_world.specs.Given.{EventGives, PlainGives, packet_in};
 ghost use Rattle.auc_world.specs.Net.{other};
 ghost use Rattle.auc_world.specs.World.{Applies, IsKnownEvent};

@@ -4,10 +4,10 @@ ghost use Rattle.std.specs.Prelude.{◌≡◌, ◌≤◌, ◌<◌, ◌||◌, ◌
 ghost use Rattle.auc_random.specs.Random.{rand_of};
 ghost use Rattle.auc_subs.specs.Subscriber.{AreSubscribers, top_at};
 ghost use Rattle.auc_subs.specs.declared.row.Row.{Row};
-ghost use Rattle.auc_world.specs.declared.record.LineRecord.{LineRecord};
-ghost use Rattle.auc_world.specs.Given.{is_in, GiveGives};
-ghost use Rattle.auc_world.specs.Lines.{numbers_of};
-ghost use Rattle.auc_world.specs.Released.{has, AreReleased};
+ghost use Rattle.auc_record.specs.declared.record.LineRecord.{LineRecord};
+ghost use Rattle.auc_record.specs.Lines.{is_in, numbers_of};
+ghost use Rattle.auc_world.specs.Given.{GiveGives};
+ghost use Rattle.auc_record.specs.Released.{has, AreReleased};
 ghost use Rattle.auc_jobs.specs.InnerServing.{before_at, GivesVerdict, IsAnswered};
 ghost use Rattle.auc_jobs.specs.InnerUsims.{HasKeys, Presents, has_usim, usim_of, verdict_by};
 ghost use Rattle.auc_jobs.specs.InnerWorker.{GoesOnBeside, WorkerServes};

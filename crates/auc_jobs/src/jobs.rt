@@ -4,7 +4,7 @@ ghost use Rattle.std.specs.Prelude.{◌≡◌, ◌≤◌, ◌++◌, ◌∷◌, [
 ghost use Rattle.auc_lines.specs.Part.{holds, is_held_by};
 ghost use Rattle.auc_world.specs.Given.{LineGives};
 ghost use Rattle.auc_world.specs.Sessions.{job_sessions};
-ghost use Rattle.auc_world.specs.Vectors.{IsReleasableLine, vectors_in};
+ghost use Rattle.auc_record.specs.Vectors.{IsReleasableLine, vectors_in};
 ghost use Rattle.auc_jobs.specs.Serving.{IsKnownLine, AreKnown};
 ghost use Rattle.auc_jobs.specs.InnerUsims.{has_usim, usim_of};
 ghost use Rattle.auc_jobs.specs.InnerWorker.{GoesOnWith, WorkerServes, WorkerServesLines, start_world};

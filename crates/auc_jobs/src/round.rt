@@ -4,10 +4,10 @@ ghost use Rattle.std.specs.Prelude.{◌≡◌, ◌≢◌, ◌≤◌, ◌<◌, �
 ghost use Rattle.auc_edge.specs.Faults.{Rose};
 ghost use Rattle.auc_edge.specs.declared.stop.Stop.TheVariants.{Fault, Full};
 ghost use Rattle.auc_sqn.specs.Number.{max_seq};
-ghost use Rattle.auc_world.specs.Lines.{all_lines};
+ghost use Rattle.auc_record.specs.Lines.{all_lines};
 ghost use Rattle.auc_world.specs.Round.{Withholds};
-ghost use Rattle.auc_world.specs.Vectors.{vectors_in};
-ghost use Rattle.auc_world.specs.declared.record.LineRecord.{LineRecord};
+ghost use Rattle.auc_record.specs.Vectors.{vectors_in};
+ghost use Rattle.auc_record.specs.declared.record.LineRecord.{LineRecord};
 ghost use Rattle.auc_jobs.specs.InnerRound.{AreServed, LeadsOn};
 ghost use Rattle.auc_jobs.specs.Round.{IsJournalOf, IsRound, LeavesMore, Serves};
 ghost use Rattle.auc_jobs.specs.State.{StandsAt};

@@ -1,7 +1,7 @@
 //! A job of a round, served at a centre.
 
 ghost use Rattle.std.specs.Prelude.{◌≡◌, ◌<◌, ℕ, List, length, IfOk};
-ghost use Rattle.auc_world.specs.declared.record.LineRecord.{LineRecord};
+ghost use Rattle.auc_record.specs.declared.record.LineRecord.{LineRecord};
 ghost use Rattle.auc_jobs.specs.InnerSharing.{BeginsAt, IsServable, ServesAt};
 ghost use Rattle.auc_jobs.specs.InnerWorker.{IsCentreOf};
 

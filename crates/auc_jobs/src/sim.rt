@@ -1,7 +1,7 @@
 //! Sessions of EAP-SIM, with the triplets of released vectors.
 
 ghost use Rattle.std.specs.Prelude.{◌≡◌, ◌≤◌, ◌<◌, All, length, map, reverse, IfOk, OnOk};
-ghost use Rattle.auc_sim.specs.declared.note.SimNote.{SimNote};
+ghost use Rattle.auc_vector.specs.declared.sim_note.SimNote.{SimNote};
 ghost use Rattle.auc_subs.specs.Subscriber.{AreSubscribers};
 ghost use Rattle.auc_world.specs.Sim.{SimGives};
 ghost use Rattle.auc_jobs.specs.InnerSim.{AreNotesOf, AreTripletsOf, IsNumber, said_lines};

@@ -2,11 +2,11 @@
 
 ghost use Rattle.std.specs.Prelude.{◌≡◌, ◌≤◌, ◌<◌, ◌++◌, ℕ, [], List, length, map, slice_index, slice_set, IfOk, OnErr, OnOk};
 ghost use Rattle.auc_subs.specs.Subscriber.{top_at};
-ghost use Rattle.auc_world.specs.Lines.{all_lines};
-ghost use Rattle.auc_world.specs.Released.{AreReleased};
-ghost use Rattle.auc_world.specs.Setting.{Setting};
+ghost use Rattle.auc_record.specs.Lines.{all_lines};
+ghost use Rattle.auc_record.specs.Released.{AreReleased};
+ghost use Rattle.auc_subs.specs.Setting.{Setting};
 ghost use Rattle.auc_world.specs.Start.{fresh_kept};
-ghost use Rattle.auc_world.specs.declared.record.LineRecord.{LineRecord};
+ghost use Rattle.auc_record.specs.declared.record.LineRecord.{LineRecord};
 ghost use Rattle.auc_jobs.specs.InnerRound.{IsAdvanced};
 ghost use Rattle.auc_jobs.specs.State.{AcceptNothing, StandsAt};
 

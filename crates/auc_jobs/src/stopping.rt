@@ -3,7 +3,7 @@
 ghost use Rattle.std.specs.Prelude.{◌≡◌, None, Some, if◌then◌else◌};
 ghost use Rattle.std.specs.List.{list_any};
 ghost use Rattle.auc_edge.specs.declared.stop.Stop.TheVariants.{Full};
-ghost use Rattle.auc_world.specs.Event.{number_in};
+ghost use Rattle.auc_record.specs.Event.{number_in};
 ghost use Rattle.auc_jobs.specs.InnerKeeping.{is_withheld, told_stop, withholds};
 
 use auc_edge::Stop;

@@ -6,9 +6,9 @@ ghost use Rattle.auc_cards.specs.Known.{IsKnownFiveg};
 ghost use Rattle.auc_lines.specs.Part.{IsStarBit};
 ghost use Rattle.auc_subs.specs.Subscriber.{top_at};
 ghost use Rattle.auc_subs.specs.declared.row.Row.{Row};
-ghost use Rattle.auc_world.specs.declared.record.GiveVerdict.TheVariants as given;
+ghost use Rattle.auc_record.specs.declared.record.GiveVerdict.TheVariants as given;
 ghost use Rattle.auc_world.specs.Given.{Authenticates, EpsGives, FivegFollows, FivegGives, hxres_lines, judged_lines, outcome_of as outcome_is};
-ghost use Rattle.auc_world.specs.VectorAt.{vector_of_row};
+ghost use Rattle.auc_record.specs.VectorAt.{vector_of_row};
 ghost use Rattle.auc_jobs.specs.InnerUsims.{has_usim, usim_of};
 ghost use Rattle.auc_jobs.specs.InnerWorker.{GoesOnBeside, WorkerServes};
 

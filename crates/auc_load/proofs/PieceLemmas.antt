@@ -14,7 +14,7 @@ use Rattle.auc_load.specs.declared.pieces.Place.{Place}
 use Rattle.auc_load.proofs.VectorLemmas.{range-append, row_there}
 use Rattle.auc_sqn.specs.Number.{top_of}
 use Rattle.auc_subs.specs.declared.row.Row.{Row}
-use Rattle.auc_world.specs.declared.record.Closing.{Closing}
+use Rattle.auc_record.specs.declared.record.Closing.{Closing}
 
 -- the first m of a list, and n of those after them
 parts : (m n : ℕ) (xs ys : List (List ℕ)) → ys ≡ drop m xs → concat (take m xs) ++ concat (take n ys) ≡ concat (take (m + n) xs)

@@ -14,7 +14,7 @@ use Rattle.auc_load.specs.Pieces.{IsNamed, IsSource, Source, closing_vectors, ea
 use Rattle.auc_load.specs.Summary.{all_bytes, closing_with, drawn_for, load_closings, subscriber_bytes}
 use Rattle.auc_load.specs.Words.{IsLoad}
 use Rattle.auc_load.specs.declared.words.LoadWords.{LoadWords}
-use Rattle.auc_world.specs.declared.record.Closing.{Closing}
+use Rattle.auc_record.specs.declared.record.Closing.{Closing}
 
 -- the bytes of the vectors up to a closing
 abbrev closing_bytes : List ℕ → Closing → List ℕ

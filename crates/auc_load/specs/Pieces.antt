@@ -11,7 +11,7 @@ use Rattle.auc_load.specs.declared.pieces.Place.{Place}
 use Rattle.auc_subs.specs.declared.row.Row.{Row}
 use Rattle.auc_random.specs.Random.{rand_of}
 use Rattle.auc_vector.specs.Vector.{vector_of}
-use Rattle.auc_world.specs.declared.record.Closing.{Closing}
+use Rattle.auc_record.specs.declared.record.Closing.{Closing}
 
 -- what the vectors are made from: the key of the random bytes, the subscribers, and how a round closed them
 pub record Source : Type 0 where

@@ -10,7 +10,7 @@ use Rattle.auc_subs.specs.declared.row.Row.{Row}
 use Rattle.auc_random.specs.Random.{rand_of}
 use Rattle.auc_vector.specs.Vector.{vector_of}
 use Rattle.auc_vector.specs.declared.parts.Vector.{Vector}
-use Rattle.auc_world.specs.declared.record.Closing.{Closing}
+use Rattle.auc_record.specs.declared.record.Closing.{Closing}
 
 -- how many vectors the jobs draw for a subscriber
 abbrev pub drawn_for : LoadWords → ℕ → ℕ

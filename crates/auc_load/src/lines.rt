@@ -9,8 +9,8 @@ use crate::digest::digest;
 use crate::input::VECTORS_OF_A_JOB;
 use crate::words::LoadWords;
 use auc_edge::{NoMemory, Octets};
+use auc_record::Closing;
 use auc_subs::Subscribers;
-use auc_world::Closing;
 use std::alloc::Global;
 use std::thread::Threads;
 

@@ -6,14 +6,14 @@ ghost use Rattle.auc_random.specs.Random.{rand_of};
 ghost use Rattle.auc_sqn.specs.Number.{max_seq, most_bits, top_of};
 ghost use Rattle.auc_load.specs.Pieces.{AreStarts, IsCut, IsPlace, IsSource, Source, each_vector, numbers_bytes, pieces_bytes, vectors_from, vectors_of_piece};
 ghost use Rattle.auc_load.specs.Summary.{vector_bytes};
-ghost use Rattle.auc_world.specs.declared.record.Closing.{Closing};
+ghost use Rattle.auc_record.specs.declared.record.Closing.{Closing};
 
 use auc_edge::{Items, NoMemory, Octets};
 use auc_hmac::Method;
 use auc_random::{RandStream, Rands};
+use auc_record::Closing;
 use auc_subs::{Row, Subscribers};
 use auc_vector::{Vector, vectors};
-use auc_world::Closing;
 use std::alloc::{AllocError, Global};
 use std::marker::Model;
 use std::thread::{self, Threads};

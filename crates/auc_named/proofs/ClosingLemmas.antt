@@ -6,11 +6,11 @@ use Rattle.auc_history.specs.History.{drawn, skipped}
 use Rattle.auc_history.specs.Split.{all_entries}
 use Rattle.auc_history.specs.declared.entry.Entry.{Entry}
 use Rattle.auc_named.specs.Named.{closing_of, records_of}
-use Rattle.auc_world.specs.Entries.{entries_of_jobs}
-use Rattle.auc_world.specs.Lines.{all_lines, numbers_of, withheld_of}
+use Rattle.auc_record.specs.Entries.{entries_of_jobs}
+use Rattle.auc_record.specs.Lines.{all_lines, numbers_of, withheld_of}
 use Rattle.auc_world.specs.Round as round
-use Rattle.auc_world.specs.declared.record.Closing.{Closing}
-use Rattle.auc_world.specs.declared.record.LineRecord.{LineRecord}
+use Rattle.auc_record.specs.declared.record.Closing.{Closing}
+use Rattle.auc_record.specs.declared.record.LineRecord.{LineRecord}
 use Rattle.auc_named.proofs.RecordLemmas.{ArePlainRecords, entries_named, numbers_named, withheld_named}
 
 -- ---- closings, one subscriber after the other

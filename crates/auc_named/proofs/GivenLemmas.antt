@@ -12,15 +12,15 @@ use Rattle.auc_lines.specs.declared.part.Report.TheVariants.{Seq, Auts}
 use Rattle.auc_named.specs.Named.{AreAt, ArePlain, is_as_it_came, is_plain, line_of, lines_of, record_of, records_of}
 use Rattle.auc_subs.specs.Subscriber.{top_at}
 use Rattle.auc_subs.specs.declared.row.Row.{Row}
-use Rattle.auc_world.specs.Draws.{DrawGives}
+use Rattle.auc_record.specs.Draws.{DrawGives}
 use Rattle.auc_world.specs.Given.{Before, IsVerdict, JobGives, JobsGive, LineGives, SyncGives, VectorsFollow, behind, said_by}
 use Rattle.auc_world.specs.Net.{Net}
-use Rattle.auc_world.specs.Setting.{Setting}
+use Rattle.auc_subs.specs.Setting.{Setting}
 use Rattle.auc_world.specs.Start.{Kept, fresh_net, kept_by_jobs, kept_with, start_of}
-use Rattle.auc_world.specs.declared.record.LineRecord.{LineRecord}
-use Rattle.auc_world.specs.declared.record.LineRecord.TheVariants as said
-use Rattle.auc_world.specs.declared.record.SyncVerdict.{SyncVerdict}
-use Rattle.auc_world.specs.declared.record.SyncVerdict.TheVariants as verdict
+use Rattle.auc_record.specs.declared.record.LineRecord.{LineRecord}
+use Rattle.auc_record.specs.declared.record.LineRecord.TheVariants as said
+use Rattle.auc_record.specs.declared.record.SyncVerdict.{SyncVerdict}
+use Rattle.auc_record.specs.declared.record.SyncVerdict.TheVariants as verdict
 use Rattle.auc_named.proofs.RecordLemmas.{ArePlainLines, ArePlainRecords, IsPlainRecord}
 
 -- the setting of a round of some subscribers

@@ -7,12 +7,12 @@ use Rattle.auc_history.specs.Split.{all_entries}
 use Rattle.auc_history.specs.declared.entry.Entry.{Entry}
 use Rattle.auc_history.specs.declared.entry.Entry.TheVariants.{Drawn, Look}
 use Rattle.auc_named.specs.Named.{record_of, records_of}
-use Rattle.auc_world.specs.Entries.{entries_of_jobs, entries_of_line, entries_of_lines, entries_of_verdict, is_reported, reports}
-use Rattle.auc_world.specs.Lines.{all_lines, held_by, held_of, numbers_of, released_by, withheld_by, withheld_of}
-use Rattle.auc_world.specs.declared.record.LineRecord.{LineRecord}
-use Rattle.auc_world.specs.declared.record.LineRecord.TheVariants.{Vector, Withheld, Exhausted, Sync, Give, Further, Event}
-use Rattle.auc_world.specs.declared.record.SyncVerdict.{SyncVerdict}
-use Rattle.auc_world.specs.declared.record.SyncVerdict.TheVariants as verdict
+use Rattle.auc_record.specs.Entries.{entries_of_jobs, entries_of_line, entries_of_lines, entries_of_verdict, is_reported, reports}
+use Rattle.auc_record.specs.Lines.{all_lines, held_by, held_of, numbers_of, released_by, withheld_by, withheld_of}
+use Rattle.auc_record.specs.declared.record.LineRecord.{LineRecord}
+use Rattle.auc_record.specs.declared.record.LineRecord.TheVariants.{Vector, Withheld, Exhausted, Sync, Give, Further, Event}
+use Rattle.auc_record.specs.declared.record.SyncVerdict.{SyncVerdict}
+use Rattle.auc_record.specs.declared.record.SyncVerdict.TheVariants as verdict
 use Rattle.auc_named.proofs.PlaceLemmas.{IsUnnamed, other_place, same_place}
 
 -- ---- plain records

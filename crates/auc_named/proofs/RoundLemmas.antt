@@ -12,15 +12,15 @@ use Rattle.auc_named.specs.Law.{EachNamedRoundIsLawful}
 use Rattle.auc_named.specs.Named.{AreNamed, closing_of, put_words, record_of, records_of}
 use Rattle.auc_subs.specs.Subscriber.{top_at}
 use Rattle.auc_subs.specs.declared.row.Row.{Row}
-use Rattle.auc_world.specs.Entries.{entries_of_jobs}
+use Rattle.auc_record.specs.Entries.{entries_of_jobs}
 use Rattle.auc_world.specs.Given.{JobsGive}
-use Rattle.auc_world.specs.Lines.{all_lines, numbers_of, withheld_of}
+use Rattle.auc_record.specs.Lines.{all_lines, numbers_of, withheld_of}
 use Rattle.auc_world.specs.Round.{IsLawfulRound, NamesStop, Withholds}
-use Rattle.auc_world.specs.Setting.{Setting}
+use Rattle.auc_subs.specs.Setting.{Setting}
 use Rattle.auc_world.specs.Start.{Kept}
-use Rattle.auc_world.specs.declared.record.LineRecord.{LineRecord}
-use Rattle.auc_world.specs.declared.record.LineRecord.TheVariants as said
-use Rattle.auc_world.specs.declared.record.RoundRecord.{RoundRecord}
+use Rattle.auc_record.specs.declared.record.LineRecord.{LineRecord}
+use Rattle.auc_record.specs.declared.record.LineRecord.TheVariants as said
+use Rattle.auc_record.specs.declared.record.RoundRecord.{RoundRecord}
 use Rattle.auc_named.proofs.ClosingLemmas.{closings_named}
 use Rattle.auc_named.proofs.GivenLemmas.{jobs_keep, jobs_named, jobs_plain, top_named, with_rows}
 use Rattle.auc_named.proofs.PlaceLemmas.{HasPlace, IsUnnamed, length-put_words, place_or_none, put_at, put_elsewhere}

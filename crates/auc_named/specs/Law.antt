@@ -5,10 +5,10 @@ use Rattle.auc_lines.specs.declared.part.Line.{Line}
 use Rattle.auc_named.specs.Named.{AreNamed, put_words, round_of}
 use Rattle.auc_subs.specs.declared.row.Row.{Row}
 use Rattle.auc_world.specs.Round.{IsLawfulRound}
-use Rattle.auc_world.specs.Setting.{Setting}
+use Rattle.auc_subs.specs.Setting.{Setting}
 use Rattle.auc_world.specs.Start.{Kept, kept_by_jobs}
-use Rattle.auc_world.specs.declared.record.LineRecord.{LineRecord}
-use Rattle.auc_world.specs.declared.record.RoundRecord.{RoundRecord}
+use Rattle.auc_record.specs.declared.record.LineRecord.{LineRecord}
+use Rattle.auc_record.specs.declared.record.RoundRecord.{RoundRecord}
 
 -- what a round of all subscribers is, after any lines of earlier rounds and whatever homes and devices keep: lawful, and homes and
 -- devices keep what they did

@@ -7,10 +7,10 @@ use Rattle.auc_lines.specs.declared.part.Line.TheVariants as line
 use Rattle.auc_lines.specs.declared.part.Report.{Report}
 use Rattle.auc_lines.specs.declared.part.Report.TheVariants.{Seq, Auts}
 use Rattle.auc_subs.specs.declared.row.Row.{Row}
-use Rattle.auc_world.specs.declared.record.Closing.{Closing}
-use Rattle.auc_world.specs.declared.record.LineRecord.{LineRecord}
-use Rattle.auc_world.specs.declared.record.LineRecord.TheVariants as said
-use Rattle.auc_world.specs.declared.record.RoundRecord.{RoundRecord}
+use Rattle.auc_record.specs.declared.record.Closing.{Closing}
+use Rattle.auc_record.specs.declared.record.LineRecord.{LineRecord}
+use Rattle.auc_record.specs.declared.record.LineRecord.TheVariants as said
+use Rattle.auc_record.specs.declared.record.RoundRecord.{RoundRecord}
 
 -- ---- plain lines
 

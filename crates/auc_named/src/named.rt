@@ -10,8 +10,8 @@ use crate::own_rows::own_rows;
 use crate::places::places_of;
 use auc_edge::{Imsi, Items, NoMemory};
 use auc_lines::JobPart;
+use auc_record::RoundRecord;
 use auc_subs::Subscribers;
-use auc_world::RoundRecord;
 use std::alloc::Global;
 use std::marker::Model;
 
@@ -34,7 +34,7 @@ impl Model for Named {
 
 impl Named {
     ghost use Rattle.auc_named.specs.Named.{round_of};
-    ghost use Rattle.auc_world.specs.Record.{NamesBelow};
+    ghost use Rattle.auc_record.specs.Record.{NamesBelow};
 
     /// The subscribers, by themselves.
     pub fn subs(&self) -> &Subscribers

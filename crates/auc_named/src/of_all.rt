@@ -2,10 +2,10 @@
 
 ghost use Rattle.std.specs.Prelude.{◌≡◌, ◌<◌, All, IfOk, length, map, reverse};
 ghost use Rattle.auc_named.specs.Named.{closing_of, record_of, records_of};
-ghost use Rattle.auc_world.specs.Record.{IsBelow, subscriber_of};
+ghost use Rattle.auc_record.specs.Record.{IsBelow, subscriber_of};
 
 use auc_edge::{Items, NoMemory};
-use auc_world::{Closing, JobRecord, LineRecord};
+use auc_record::{Closing, JobRecord, LineRecord};
 use std::alloc::Global;
 
 /// The records of jobs.

@@ -24,8 +24,8 @@ use Rattle.auc_peer.specs.declared.peer.PeerState.{PeerState}
 use Rattle.auc_peer.specs.declared.peer.PeerState.TheVariants as state
 use Rattle.auc_peer.specs.declared.rows.Row.{Row}
 use Rattle.auc_peer.specs.declared.rows.Row.TheVariants as row
-use Rattle.auc_peer.specs.declared.why.PeerWhy.{PeerWhy}
-use Rattle.auc_peer.specs.declared.why.PeerWhy.TheVariants as why
+use Rattle.auc_vector.specs.declared.why.PeerWhy.{PeerWhy}
+use Rattle.auc_vector.specs.declared.why.PeerWhy.TheVariants as why
 use Rattle.auc_reauth.specs.Device.{Keeps, accepting as accepting_counter, is_open, with_accepted, with_context}
 use Rattle.auc_reauth.specs.Machine.{Accept, Adopt, Challenge as Challenges, Home, Lose, Move, Places, Win, renamed as renamed_at, with_place}
 use Rattle.auc_reauth.specs.Store.{ByMethod, entry, method_of, with_entry}

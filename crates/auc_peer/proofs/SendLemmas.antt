@@ -12,8 +12,8 @@ use Rattle.auc_peer.specs.declared.decrypted.Decrypted.TheVariants as decrypted
 use Rattle.auc_peer.specs.declared.peer.Challenge.{Challenge}
 use Rattle.auc_peer.specs.declared.peer.PeerState.{PeerState}
 use Rattle.auc_peer.specs.declared.peer.PeerState.TheVariants as state
-use Rattle.auc_peer.specs.declared.why.PeerWhy.{PeerWhy}
-use Rattle.auc_peer.specs.declared.why.PeerWhy.TheVariants as why
+use Rattle.auc_vector.specs.declared.why.PeerWhy.{PeerWhy}
+use Rattle.auc_vector.specs.declared.why.PeerWhy.TheVariants as why
 use Rattle.auc_reauth.specs.Device.{Keeps}
 use Rattle.auc_usim.specs.declared.answer.Answer.{Answer}
 use Rattle.auc_usim.specs.declared.answer.Answer.TheVariants as answer

@@ -14,7 +14,7 @@ use Rattle.auc_peer.specs.Told.{Told}
 use Rattle.auc_peer.specs.declared.peer.Challenge.{Challenge}
 use Rattle.auc_peer.specs.Peer.{PeerEnd, accepted_in, network_named, resumed_from}
 use Rattle.auc_peer.specs.declared.peer.PeerState.TheVariants as state
-use Rattle.auc_peer.specs.declared.why.PeerWhy.{PeerWhy}
+use Rattle.auc_vector.specs.declared.why.PeerWhy.{PeerWhy}
 use Rattle.auc_peer.specs.declared.decrypted.Decrypted.{Decrypted}
 use Rattle.auc_peer.specs.declared.decrypted.Decrypted.TheVariants as inner
 use Rattle.auc_ident.specs.Permanent.{username}

@@ -24,7 +24,7 @@ use Rattle.auc_peer.specs.declared.peer.PeerState.{PeerState}
 use Rattle.auc_peer.specs.declared.peer.PeerState.TheVariants as state
 use Rattle.auc_peer.specs.declared.rows.Row.{Row}
 use Rattle.auc_peer.specs.declared.rows.Row.TheVariants as row
-use Rattle.auc_peer.specs.declared.why.PeerWhy.TheVariants as why
+use Rattle.auc_vector.specs.declared.why.PeerWhy.TheVariants as why
 use Rattle.auc_vector.specs.declared.turn.Reason.TheVariants as reason
 
 -- ---- the request that was answered last

@@ -18,7 +18,7 @@ use Rattle.auc_peer.specs.declared.peer.Challenge.{Challenge}
 use Rattle.auc_peer.specs.declared.peer.Last.{Last}
 use Rattle.auc_peer.specs.declared.rows.Row.{Row}
 use Rattle.auc_peer.specs.declared.rows.Row.TheVariants as row
-use Rattle.auc_peer.specs.declared.why.PeerWhy.{PeerWhy}
+use Rattle.auc_vector.specs.declared.why.PeerWhy.{PeerWhy}
 use Rattle.auc_reauth.specs.Device.{Keeps}
 use Rattle.auc_reauth.specs.declared.context.Context.{Context}
 use Rattle.auc_seal.specs.Encrypted.{Opens}

@@ -22,7 +22,6 @@ use crate::peer::{Challenge, Peer, PeerState, Source};
 use crate::reading::{ciphertext_in, differs, has_checkcode, inner_in, network_in};
 use crate::rooms::{ChallengeRooms, Parts, Reply, Sent, give_back};
 use crate::turns::noted;
-use crate::why::PeerWhy;
 use auc_edge::{NoMemory, Octets, Room};
 use auc_hmac::{KeySet, Master};
 use auc_ident::Name;
@@ -30,7 +29,7 @@ use auc_packet::{Received, is_sealed};
 use auc_reauth::Context;
 use auc_seal::CheckValue;
 use auc_usim::Answer;
-use auc_vector::{Turn, UsimNote, keys_by, keys_of, master_of};
+use auc_vector::{PeerWhy, Turn, UsimNote, keys_by, keys_of, master_of};
 use std::alloc::Global;
 
 /// An SQN as a number.

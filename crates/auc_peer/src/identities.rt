@@ -15,11 +15,10 @@ use crate::peer::{Peer, PeerState};
 use crate::reading::packet_in;
 use crate::rooms::Sent;
 use crate::turns::noted;
-use crate::why::PeerWhy;
 use auc_edge::{NoMemory, Octets, Places, Room};
 use auc_packet::Received;
 use auc_request::IdentityRequest;
-use auc_vector::Turn;
+use auc_vector::{PeerWhy, Turn};
 use std::alloc::Global;
 
 impl Peer {

@@ -25,8 +25,8 @@ mod reauth;
 mod rooms;
 mod rows;
 mod turns;
-mod why;
 
+pub use auc_vector::PeerWhy;
 pub use decrypted::Decrypted;
 pub use device::Device;
 pub use identity::FirstIdentity;
@@ -41,4 +41,3 @@ pub use next::NextContext;
 pub use options::PeerOptions;
 pub use peer::{Challenge, Last, Peer, PeerState, Source};
 pub use rows::Row;
-pub use why::PeerWhy;

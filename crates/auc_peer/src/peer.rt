@@ -11,14 +11,13 @@ use crate::decrypted::Decrypted;
 use crate::device::Device;
 use crate::next::NextContext;
 use crate::options::PeerOptions;
-use crate::why::PeerWhy;
 use auc_edge::{NoMemory, Octets};
 use auc_hmac::{KeySet, Method};
 use auc_packet::receive;
 use auc_random::Rands;
 use auc_reauth::Context;
 use auc_seal::IdentityPackets;
-use auc_vector::{Outcome, Reason, Step, Turn};
+use auc_vector::{Outcome, PeerWhy, Reason, Step, Turn};
 use std::alloc::Global;
 use std::marker::Model;
 

@@ -16,13 +16,12 @@ use crate::next::NextContext;
 use crate::peer::{Peer, PeerState, Source};
 use crate::reading::{ciphertext_in, differs, inner_in, lacks_reauthentication};
 use crate::rooms::{ReauthRooms, Reply, Sent};
-use crate::why::PeerWhy;
 use auc_edge::{NoMemory, Octets, Room};
 use auc_ident::{Name, username};
 use auc_packet::{Received, is_sealed};
 use auc_random::Rands;
 use auc_reauth::Context;
-use auc_vector::{CounterNote, Notes, Reason, Turn, reauth_keys};
+use auc_vector::{CounterNote, Notes, PeerWhy, Reason, Turn, reauth_keys};
 use std::alloc::Global;
 
 /// A context, if an identity that was sent is the context's, up to its first `@`.

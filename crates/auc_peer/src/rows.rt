@@ -8,7 +8,6 @@ ghost use Rattle.auc_peer.specs.Rows.{peer_row, row_headed, of_kind, requested, 
 
 use crate::options::PeerOptions;
 use crate::peer::{Challenge, Last, Peer, PeerState};
-use crate::why::PeerWhy;
 use auc_attr::AttrList;
 use auc_edge::Octets;
 use auc_hmac::Method;
@@ -17,7 +16,7 @@ use auc_request::{
     IdentityRequest, autn_in, bids, code_in, is_known_kdf, is_right_name, is_separated, kdf_in,
     name_in, rand_in, request_in,
 };
-use auc_vector::Reason;
+use auc_vector::{PeerWhy, Reason};
 
 /// A row of the table.
 #[derive(Clone, Copy)]

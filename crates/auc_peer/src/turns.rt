@@ -16,12 +16,11 @@ use crate::peer::{Last, Peer, PeerState};
 use crate::reading::id_of;
 use crate::rooms::{Reply, Sent};
 use crate::rows::Row;
-use crate::why::PeerWhy;
 use auc_edge::{NoMemory, Octets, Room};
 use auc_ident::Name;
 use auc_packet::Received;
 use auc_random::Rands;
-use auc_vector::{Notes, Outcome, Reason, Step, Turn, UsimNote};
+use auc_vector::{Notes, Outcome, PeerWhy, Reason, Step, Turn, UsimNote};
 use std::alloc::Global;
 
 /// The notes of a turn in which the USIM answered so, or wasn't asked.

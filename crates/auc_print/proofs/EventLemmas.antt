@@ -4,10 +4,10 @@ use Rattle.auc_edge.specs.declared.stop.Stop.{Stop}
 use Rattle.auc_edge.specs.declared.stop.Stop.TheVariants.{Fault, Full}
 use Rattle.auc_lines.specs.declared.part.End.{End}
 use Rattle.auc_lines.specs.declared.part.End.TheVariants as end
-use Rattle.auc_peer.specs.declared.why.PeerWhy.{PeerWhy}
-use Rattle.auc_peer.specs.declared.why.PeerWhy.TheVariants as peer_why
-use Rattle.auc_server.specs.declared.why.ServerWhy.{ServerWhy}
-use Rattle.auc_server.specs.declared.why.ServerWhy.TheVariants as server_why
+use Rattle.auc_vector.specs.declared.why.PeerWhy.{PeerWhy}
+use Rattle.auc_vector.specs.declared.why.PeerWhy.TheVariants as peer_why
+use Rattle.auc_vector.specs.declared.why.ServerWhy.{ServerWhy}
+use Rattle.auc_vector.specs.declared.why.ServerWhy.TheVariants as server_why
 use Rattle.auc_vector.specs.declared.notes.CounterNote.{CounterNote}
 use Rattle.auc_vector.specs.declared.notes.CounterNote.TheVariants as counter
 use Rattle.auc_vector.specs.declared.notes.Notes.{Notes}
@@ -23,17 +23,18 @@ use Rattle.auc_vector.specs.declared.turn.Reason.{Reason}
 use Rattle.auc_vector.specs.declared.turn.Reason.TheVariants as reason
 use Rattle.auc_vector.specs.declared.turn.Step.{Step}
 use Rattle.auc_vector.specs.declared.turn.Step.TheVariants as step
-use Rattle.auc_world.specs.Told.{told_came, told_event, told_opening, told_outcome, told_record, told_step, told_what}
-use Rattle.auc_world.specs.declared.event.Event.{Event}
-use Rattle.auc_world.specs.declared.event.Event.TheVariants as event
-use Rattle.auc_world.specs.declared.event.EventRecord.{EventRecord}
-use Rattle.auc_world.specs.declared.event.Note.{Note}
-use Rattle.auc_world.specs.declared.event.NoteStep.{NoteStep}
-use Rattle.auc_world.specs.declared.event.NoteStep.TheVariants as did
-use Rattle.auc_world.specs.declared.event.WorldRefusal.{WorldRefusal}
-use Rattle.auc_world.specs.declared.event.WorldRefusal.TheVariants as refused
+use Rattle.auc_record.specs.Told.{told_came, told_event, told_opening, told_outcome, told_record, told_step, told_what}
+use Rattle.auc_record.specs.declared.event.Event.{Event}
+use Rattle.auc_record.specs.declared.event.Event.TheVariants as event
+use Rattle.auc_record.specs.declared.event.EventRecord.{EventRecord}
+use Rattle.auc_record.specs.declared.event.Note.{Note}
+use Rattle.auc_record.specs.declared.event.NoteStep.{NoteStep}
+use Rattle.auc_record.specs.declared.event.NoteStep.TheVariants as did
+use Rattle.auc_record.specs.declared.event.WorldRefusal.{WorldRefusal}
+use Rattle.auc_record.specs.declared.event.WorldRefusal.TheVariants as refused
 use Rattle.auc_print.specs.EventText.{agree_word, came_words, counter_words, end_word, event_words, notes_words, number_words, outcome_words, peer_words, reason_word, refusal_words, resumed_words, resync_words, sent_words, server_words, step_words, stop_word, usim_words, what_words}
-use Rattle.auc_print.specs.OneText.{CameAt, CameFits, EventFits, IsStepAt, UsimFits, end_of}
+use Rattle.auc_record.specs.Ends.{CameAt, IsStepAt, end_of}
+use Rattle.auc_print.specs.OneText.{CameFits, EventFits, UsimFits}
 use Rattle.auc_print.proofs.HexLemmas.{hex_injective}
 use Rattle.auc_print.proofs.NumeralLemmas.{numeral_injective}
 

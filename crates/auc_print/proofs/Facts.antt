@@ -1,3 +1,2 @@
 -- What other crates may cite of the proofs here; every other module is private.
-pub use Rattle.auc_print.proofs.EndLemmas.{came_at_end, lawful_at_ends}
 pub use Rattle.auc_print.proofs.OneTextLemmas.{are_identities, one_transcript}

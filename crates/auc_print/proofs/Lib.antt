@@ -1,5 +1,4 @@
 mod AutsLemmas
-mod EndLemmas
 mod EventLemmas
 pub mod Facts
 mod FurtherLemmas

@@ -7,19 +7,20 @@ use Rattle.std.proofs.lemmas.List.Elements.{All-nil, All-cons, All-head, All-tai
 use Rattle.auc_edge.specs.Identity.{Identity, IsIdentity}
 use Rattle.auc_subs.specs.Subscriber.{AreSubscribers}
 use Rattle.auc_subs.specs.declared.row.Row.{Row}
-use Rattle.auc_world.specs.Record.{IsBelow, PartNamesBelow, subscriber_of}
-use Rattle.auc_world.specs.Setting.{Setting}
-use Rattle.auc_world.specs.Told.{told}
-use Rattle.auc_world.specs.declared.record.Closing.{Closing}
-use Rattle.auc_world.specs.declared.record.LineRecord.{LineRecord}
-use Rattle.auc_world.specs.declared.record.PartRecord.{PartRecord}
-use Rattle.auc_world.specs.declared.record.PartRecord.TheVariants.{Round, Restart}
-use Rattle.auc_world.specs.declared.record.Premise.{Premise}
-use Rattle.auc_world.specs.declared.record.Premise.TheVariants as premise
-use Rattle.auc_world.specs.declared.record.RoundRecord.{RoundRecord}
-use Rattle.auc_world.specs.declared.record.SessionVerdict.{SessionVerdict}
+use Rattle.auc_record.specs.Record.{IsBelow, PartNamesBelow, subscriber_of}
+use Rattle.auc_subs.specs.Setting.{Setting}
+use Rattle.auc_record.specs.Told.{told}
+use Rattle.auc_record.specs.declared.record.Closing.{Closing}
+use Rattle.auc_record.specs.declared.record.LineRecord.{LineRecord}
+use Rattle.auc_record.specs.declared.record.PartRecord.{PartRecord}
+use Rattle.auc_record.specs.declared.record.PartRecord.TheVariants.{Round, Restart}
+use Rattle.auc_record.specs.declared.record.Premise.{Premise}
+use Rattle.auc_record.specs.declared.record.Premise.TheVariants as premise
+use Rattle.auc_record.specs.declared.record.RoundRecord.{RoundRecord}
+use Rattle.auc_record.specs.declared.record.SessionVerdict.{SessionVerdict}
 use Rattle.auc_print.specs.Text.{Line, RoundLine, JobLine, RecordLine, ClosedLine, SessionLine, HeldLine, BrokenLine, RestartLine, end_lines, identities_of, job_lines, jobs_lines, line_text, part_lines, part_text, premise_lines, round_lines, transcript_text}
-use Rattle.auc_print.specs.OneText.{AnswerFits, AreAtTheirEnds, AreIdentities, IsAtItsEnd, IsPrintable, OneTranscript, PartFits, PartIsAtItsEnds}
+use Rattle.auc_print.specs.OneText.{AnswerFits, AreIdentities, IsPrintable, OneTranscript, PartFits}
+use Rattle.auc_record.specs.Ends.{AreAtTheirEnds, IsAtItsEnd, PartIsAtItsEnds}
 use Rattle.auc_print.proofs.LineLemmas.{LineAt, LineFits, lines_injective}
 use Rattle.auc_print.proofs.RoundLemmas.{parts_injective, told_lines}
 

@@ -13,13 +13,13 @@ use Rattle.auc_vector.specs.declared.notes.Notes.{Notes}
 use Rattle.auc_vector.specs.declared.parts.Vector.{Vector as AuthVector}
 use Rattle.auc_vector.specs.declared.turn.Outcome.TheVariants as outcome
 use Rattle.auc_vector.specs.declared.turn.Step.TheVariants as step
-use Rattle.auc_world.specs.Setting.{Setting}
-use Rattle.auc_world.specs.declared.event.EventRecord.{EventRecord}
-use Rattle.auc_world.specs.declared.event.Note.{Note}
-use Rattle.auc_world.specs.declared.event.NoteStep.{NoteStep}
-use Rattle.auc_world.specs.declared.event.NoteStep.TheVariants as did
-use Rattle.auc_world.specs.declared.net.Breach.{Breach}
-use Rattle.auc_world.specs.declared.record.LineRecord.{LineRecord}
+use Rattle.auc_subs.specs.Setting.{Setting}
+use Rattle.auc_record.specs.declared.event.EventRecord.{EventRecord}
+use Rattle.auc_record.specs.declared.event.Note.{Note}
+use Rattle.auc_record.specs.declared.event.NoteStep.{NoteStep}
+use Rattle.auc_record.specs.declared.event.NoteStep.TheVariants as did
+use Rattle.auc_record.specs.declared.record.Breach.{Breach}
+use Rattle.auc_record.specs.declared.record.LineRecord.{LineRecord}
 use Rattle.auc_print.specs.AutsText.{auts_after, auts_lines, auts_words}
 use Rattle.auc_print.specs.EventText.{came_words, counter_words, end_word, event_words, notes_words, number_words, packet_words, resumed_words, resync_words, sent_words, step_words, usim_words}
 use Rattle.auc_print.specs.Inner.{IsFrontOf, Prints, after_spaces, answer_text, bytes_text, did_words, lines_text, more_text, shown_after, why_words}

@@ -1,16 +1,16 @@
 -- The words of a line for a session of EAP-SIM determine what is told of it, for the lemmas on what follows from a vector.
 use Rattle.std.proofs.Common.{ℕ, ◌≡◌, ◌∙◌, refl, sym, ap, true, false, List, [], ◌∷◌, drop, if◌then◌else◌, codes, bytes_eq, Option, Some, None, arith}
 use Rattle.auc_lines.specs.declared.part.End.TheVariants as end
-use Rattle.auc_sim.specs.declared.note.SimBecame.{SimBecame}
-use Rattle.auc_sim.specs.declared.note.SimBecame.TheVariants as became
-use Rattle.auc_sim.specs.declared.note.SimNote.{SimNote}
-use Rattle.auc_sim.specs.declared.note.SimNote.TheVariants as note
-use Rattle.auc_sim.specs.declared.why.SimWhy.{SimWhy}
-use Rattle.auc_sim.specs.declared.why.SimWhy.TheVariants as why
+use Rattle.auc_vector.specs.declared.sim_note.SimBecame.{SimBecame}
+use Rattle.auc_vector.specs.declared.sim_note.SimBecame.TheVariants as became
+use Rattle.auc_vector.specs.declared.sim_note.SimNote.{SimNote}
+use Rattle.auc_vector.specs.declared.sim_note.SimNote.TheVariants as note
+use Rattle.auc_vector.specs.declared.why.SimWhy.{SimWhy}
+use Rattle.auc_vector.specs.declared.why.SimWhy.TheVariants as why
 use Rattle.auc_vector.specs.declared.turn.Outcome.TheVariants as outcome
 use Rattle.auc_vector.specs.declared.turn.Step.{Step}
 use Rattle.auc_vector.specs.declared.turn.Step.TheVariants as step
-use Rattle.auc_world.specs.Told.{told_became, told_note_of_sim, told_what}
+use Rattle.auc_record.specs.Told.{told_became, told_note_of_sim, told_what}
 use Rattle.auc_print.specs.EventText.{what_words}
 use Rattle.auc_print.specs.SimText.{answer_words, became_words, sim_why_words, sim_words}
 use Rattle.auc_print.proofs.EventLemmas.{agree_injective, end_injective, what_injective, word_at}

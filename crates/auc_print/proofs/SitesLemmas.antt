@@ -1,9 +1,9 @@
 -- The words of a line for sites determine what happened, for the lemmas on what follows from a vector.
 use Rattle.std.proofs.Common.{ℕ, ◌≡◌, ◌∙◌, refl, sym, ap, List, drop, if◌then◌else◌, codes, bytes_eq, arith}
-use Rattle.auc_world.specs.declared.sites.SitesNote.{SitesNote}
-use Rattle.auc_world.specs.declared.sites.SitesNote.TheVariants as note
-use Rattle.auc_world.specs.declared.sites.SitesOutcome.{SitesOutcome}
-use Rattle.auc_world.specs.declared.sites.SitesOutcome.TheVariants as outcome
+use Rattle.auc_record.specs.declared.sites.SitesNote.{SitesNote}
+use Rattle.auc_record.specs.declared.sites.SitesNote.TheVariants as note
+use Rattle.auc_record.specs.declared.sites.SitesOutcome.{SitesOutcome}
+use Rattle.auc_record.specs.declared.sites.SitesOutcome.TheVariants as outcome
 use Rattle.auc_print.specs.SitesText.{delivery_words, sites_words}
 use Rattle.auc_print.proofs.EventLemmas.{word_at}
 use Rattle.auc_print.proofs.NumeralLemmas.{numeral_injective, numeral_word}

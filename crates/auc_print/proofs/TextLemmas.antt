@@ -7,17 +7,17 @@ use Rattle.std.proofs.lemmas.List.Elements.{All-append, All-cons, All-head, All-
 use Rattle.auc_subs.specs.declared.row.Row.{Row}
 use Rattle.auc_random.specs.Random.{rand_of}
 use Rattle.auc_vector.specs.declared.parts.Vector.{Vector as AuthVector}
-use Rattle.auc_world.specs.Event.{event_vector}
-use Rattle.auc_world.specs.Record.{IsBelow, subscriber_of}
-use Rattle.auc_world.specs.Setting.{Setting}
-use Rattle.auc_world.specs.Vectors.{vector_with, vector_at, vector_in, vectors_in}
-use Rattle.auc_world.specs.declared.record.LineRecord.{LineRecord}
-use Rattle.auc_world.specs.declared.record.LineRecord.TheVariants.{Vector, Withheld, Exhausted, Sync, Give, Further, Event}
-use Rattle.auc_world.specs.declared.record.Closing.{Closing}
-use Rattle.auc_world.specs.declared.record.Premise.{Premise}
-use Rattle.auc_world.specs.declared.record.Premise.TheVariants as premise
-use Rattle.auc_world.specs.declared.record.RoundRecord.{RoundRecord}
-use Rattle.auc_world.specs.declared.record.SessionVerdict.{SessionVerdict}
+use Rattle.auc_record.specs.Event.{event_vector}
+use Rattle.auc_record.specs.Record.{IsBelow, subscriber_of}
+use Rattle.auc_subs.specs.Setting.{Setting}
+use Rattle.auc_record.specs.Vectors.{vector_with, vector_at, vector_in, vectors_in}
+use Rattle.auc_record.specs.declared.record.LineRecord.{LineRecord}
+use Rattle.auc_record.specs.declared.record.LineRecord.TheVariants.{Vector, Withheld, Exhausted, Sync, Give, Further, Event}
+use Rattle.auc_record.specs.declared.record.Closing.{Closing}
+use Rattle.auc_record.specs.declared.record.Premise.{Premise}
+use Rattle.auc_record.specs.declared.record.Premise.TheVariants as premise
+use Rattle.auc_record.specs.declared.record.RoundRecord.{RoundRecord}
+use Rattle.auc_record.specs.declared.record.SessionVerdict.{SessionVerdict}
 use Rattle.auc_print.specs.AutsText.{auts_after}
 use Rattle.auc_print.specs.Inner.{IsFrontOf, answer_text, answers_text, bytes_text, job_text, left_after, left_for, lines_text, premise_text, shown_after, shown_for}
 use Rattle.auc_print.specs.Numeral.{numeral}

@@ -6,10 +6,10 @@ use Rattle.auc_edge.specs.declared.stop.Stop.TheVariants.{Fault, Full}
 use Rattle.auc_hmac.specs.declared.keys.KeySet.{KeySet}
 use Rattle.auc_lines.specs.declared.part.End.{End}
 use Rattle.auc_lines.specs.declared.part.End.TheVariants as end
-use Rattle.auc_peer.specs.declared.why.PeerWhy.{PeerWhy}
-use Rattle.auc_peer.specs.declared.why.PeerWhy.TheVariants as peer_why
-use Rattle.auc_server.specs.declared.why.ServerWhy.{ServerWhy}
-use Rattle.auc_server.specs.declared.why.ServerWhy.TheVariants as server_why
+use Rattle.auc_vector.specs.declared.why.PeerWhy.{PeerWhy}
+use Rattle.auc_vector.specs.declared.why.PeerWhy.TheVariants as peer_why
+use Rattle.auc_vector.specs.declared.why.ServerWhy.{ServerWhy}
+use Rattle.auc_vector.specs.declared.why.ServerWhy.TheVariants as server_why
 use Rattle.auc_vector.specs.declared.notes.CounterNote.{CounterNote}
 use Rattle.auc_vector.specs.declared.notes.CounterNote.TheVariants as counter
 use Rattle.auc_vector.specs.declared.notes.Notes.{Notes}
@@ -25,13 +25,13 @@ use Rattle.auc_vector.specs.declared.turn.Reason.{Reason}
 use Rattle.auc_vector.specs.declared.turn.Reason.TheVariants as reason
 use Rattle.auc_vector.specs.declared.turn.Step.{Step}
 use Rattle.auc_vector.specs.declared.turn.Step.TheVariants as step
-use Rattle.auc_world.specs.declared.event.Event.{Event}
-use Rattle.auc_world.specs.declared.event.Event.TheVariants as event
-use Rattle.auc_world.specs.declared.event.Note.{Note}
-use Rattle.auc_world.specs.declared.event.NoteStep.{NoteStep}
-use Rattle.auc_world.specs.declared.event.NoteStep.TheVariants as did
-use Rattle.auc_world.specs.declared.event.WorldRefusal.{WorldRefusal}
-use Rattle.auc_world.specs.declared.event.WorldRefusal.TheVariants as refused
+use Rattle.auc_record.specs.declared.event.Event.{Event}
+use Rattle.auc_record.specs.declared.event.Event.TheVariants as event
+use Rattle.auc_record.specs.declared.event.Note.{Note}
+use Rattle.auc_record.specs.declared.event.NoteStep.{NoteStep}
+use Rattle.auc_record.specs.declared.event.NoteStep.TheVariants as did
+use Rattle.auc_record.specs.declared.event.WorldRefusal.{WorldRefusal}
+use Rattle.auc_record.specs.declared.event.WorldRefusal.TheVariants as refused
 use Rattle.auc_print.specs.Numeral.{numeral}
 
 -- the word that says why a number was withheld

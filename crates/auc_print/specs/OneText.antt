@@ -2,28 +2,25 @@
 use Rattle.std.specs.Prelude.{ℕ, ◌≡◌, ◌≢◌, Bool, List, [], ◌∷◌, length, Option, Some, None, Result, Ok, Err, All, AllPairs}
 use Rattle.hex.specs.Hex.{IsBytes}
 use Rattle.auc_edge.specs.Identity.{Identity, IsIdentity}
-use Rattle.auc_lines.specs.declared.part.End.{End}
-use Rattle.auc_lines.specs.declared.part.End.TheVariants as end
 use Rattle.auc_vector.specs.declared.notes.UsimNote.{UsimNote}
 use Rattle.auc_vector.specs.declared.notes.UsimNote.TheVariants as usim
-use Rattle.auc_world.specs.Record.{PartNamesBelow}
-use Rattle.auc_world.specs.Setting.{Setting}
-use Rattle.auc_world.specs.Told.{told}
-use Rattle.auc_world.specs.declared.event.Event.{Event}
-use Rattle.auc_world.specs.declared.event.Event.TheVariants as event
-use Rattle.auc_world.specs.declared.event.Note.{Note}
-use Rattle.auc_world.specs.declared.event.NoteStep.{NoteStep}
-use Rattle.auc_world.specs.declared.event.NoteStep.TheVariants as did
-use Rattle.auc_world.specs.declared.event.WorldRefusal.{WorldRefusal}
-use Rattle.auc_world.specs.declared.further.Further.{Further}
-use Rattle.auc_world.specs.declared.further.Further.TheVariants as further
-use Rattle.auc_world.specs.declared.record.LineRecord.{LineRecord}
-use Rattle.auc_world.specs.declared.record.LineRecord.TheVariants as record_of
-use Rattle.auc_world.specs.declared.record.GiveVerdict.{GiveVerdict}
-use Rattle.auc_world.specs.declared.record.GiveVerdict.TheVariants.{Accepted, Sync as SyncFailure, Absent}
-use Rattle.auc_world.specs.declared.record.PartRecord.{PartRecord}
-use Rattle.auc_world.specs.declared.record.PartRecord.TheVariants.{Round, Restart}
-use Rattle.auc_world.specs.declared.record.RoundRecord.{RoundRecord}
+use Rattle.auc_record.specs.Record.{PartNamesBelow}
+use Rattle.auc_subs.specs.Setting.{Setting}
+use Rattle.auc_record.specs.Told.{told}
+use Rattle.auc_record.specs.declared.event.Event.{Event}
+use Rattle.auc_record.specs.declared.event.Event.TheVariants as event
+use Rattle.auc_record.specs.declared.event.Note.{Note}
+use Rattle.auc_record.specs.declared.event.WorldRefusal.{WorldRefusal}
+use Rattle.auc_record.specs.declared.further.Further.{Further}
+use Rattle.auc_record.specs.declared.further.Further.TheVariants as further
+use Rattle.auc_record.specs.declared.record.LineRecord.{LineRecord}
+use Rattle.auc_record.specs.declared.record.LineRecord.TheVariants as record_of
+use Rattle.auc_record.specs.declared.record.GiveVerdict.{GiveVerdict}
+use Rattle.auc_record.specs.declared.record.GiveVerdict.TheVariants.{Accepted, Sync as SyncFailure, Absent}
+use Rattle.auc_record.specs.declared.record.PartRecord.{PartRecord}
+use Rattle.auc_record.specs.declared.record.PartRecord.TheVariants.{Round, Restart}
+use Rattle.auc_record.specs.declared.record.RoundRecord.{RoundRecord}
+use Rattle.auc_record.specs.Ends.{AreAtTheirEnds}
 use Rattle.auc_print.specs.Text.{identities_of, transcript_text}
 
 -- valid identities, no two of which are the same
@@ -88,48 +85,6 @@ PartFits Restart = Unit {0}
 pub record IsPrintable (count : ℕ) (records : List PartRecord) : Type 0 where
   pub named : All (PartNamesBelow count) records
   pub fit : All PartFits records
-
--- ---- events at their ends
-
--- the end that an event concerns; a session is opened, and a packet is changed, at no end
-abbrev pub end_of : Event → Option End
-end_of (event.Open opening) = None
-end_of (event.Start session) = Some end.Server
-end_of (event.Deliver session at' packet) = Some at'
-end_of (event.Repeat session) = Some end.Server
-end_of (event.GiveUp session at') = Some at'
-end_of (event.Tamper packet place byte) = None
-end_of (event.Cut packet count) = None
-
--- a step is one of this end
-abbrev pub IsStepAt : Option End → NoteStep → Type 0
-IsStepAt None did.Opened = Unit {0}
-IsStepAt None (did.Made bytes) = Unit {0}
-IsStepAt (Some end.Server) (did.Server what) = Unit {0}
-IsStepAt (Some end.Peer) (did.Peer what) = Unit {0}
-IsStepAt _ _ = ⊥
-
-abbrev pub CameAt : Option End → Result Note WorldRefusal → Type 0
-CameAt at' (Ok note) = IsStepAt at' note.step
-CameAt at' (Err why) = Unit {0}
-
--- what came of a record's event is a step of the end that the event concerns
-abbrev pub IsAtItsEnd : LineRecord → Type 0
-IsAtItsEnd (record_of.Vector sub n) = Unit {0}
-IsAtItsEnd (record_of.Withheld sub n stop) = Unit {0}
-IsAtItsEnd (record_of.Exhausted sub word) = Unit {0}
-IsAtItsEnd (record_of.Sync sub verdict) = Unit {0}
-IsAtItsEnd (record_of.Give sub n verdict) = Unit {0}
-IsAtItsEnd (record_of.Further said) = Unit {0}
-IsAtItsEnd (record_of.Event r) = CameAt (end_of r.event) r.result
-
--- the same of a part's records
-abbrev pub PartIsAtItsEnds : PartRecord → Type 0
-PartIsAtItsEnds (Round round) = All (All IsAtItsEnd) round.jobs
-PartIsAtItsEnds Restart = Unit {0}
-
-abbrev pub AreAtTheirEnds : List PartRecord → Type 0
-AreAtTheirEnds records = All PartIsAtItsEnds records
 
 -- ---- the law
 

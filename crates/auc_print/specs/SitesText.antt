@@ -1,9 +1,9 @@
 -- The words of a line for sites, behind the subscriber's IMSI. Sites and packets have their numbers, from 1.
 use Rattle.std.specs.Prelude.{ℕ, List, [], ◌∷◌, codes}
-use Rattle.auc_world.specs.declared.sites.SitesNote.{SitesNote}
-use Rattle.auc_world.specs.declared.sites.SitesNote.TheVariants as note
-use Rattle.auc_world.specs.declared.sites.SitesOutcome.{SitesOutcome}
-use Rattle.auc_world.specs.declared.sites.SitesOutcome.TheVariants as outcome
+use Rattle.auc_record.specs.declared.sites.SitesNote.{SitesNote}
+use Rattle.auc_record.specs.declared.sites.SitesNote.TheVariants as note
+use Rattle.auc_record.specs.declared.sites.SitesOutcome.{SitesOutcome}
+use Rattle.auc_record.specs.declared.sites.SitesOutcome.TheVariants as outcome
 use Rattle.auc_print.specs.Numeral.{numeral}
 
 -- what became of a packet that was delivered

@@ -10,8 +10,8 @@ use crate::word::{Word, decimal};
 use crate::writer::print_line;
 use auc_edge::{NoMemory, Octets};
 use auc_hmac::KeySet;
+use auc_record::{LineRecord, Note, NoteStep, WorldRefusal};
 use auc_vector::{Outcome, Step};
-use auc_world::{LineRecord, Note, NoteStep, WorldRefusal};
 
 /// Appends the lines that a full print adds after a record's, besides the bytes of a vector and an AUTS: K_SEAF of a confirmed
 /// 5G authentication, or the packet that was sent or made in an event or a session of EAP-SIM, and the keys of its Success.

@@ -9,8 +9,8 @@ use crate::word::Word;
 use crate::writer::print_line;
 use auc_edge::{NoMemory, Octets};
 use auc_milenage::make_auts;
+use auc_record::{Event, EventRecord, GiveVerdict, LineRecord, Setting};
 use auc_vector::UsimNote;
-use auc_world::{Event, EventRecord, GiveVerdict, LineRecord, Setting};
 
 /// Appends the line of AUTS after the line of a job's record, if that is a synchronisation failure.
 pub fn print_auts(

@@ -11,10 +11,8 @@ use crate::notes::{print_notes, stopped};
 use crate::word::{Group, Word, byte_word, decimal, none, one, pair, two, value};
 use crate::writer::print_group;
 use auc_edge::{NoMemory, Octets};
-use auc_peer::PeerWhy;
-use auc_server::ServerWhy;
-use auc_vector::{Outcome, Reason, Step};
-use auc_world::{End, Event, EventRecord, Note, NoteStep, WorldRefusal};
+use auc_record::{End, Event, EventRecord, Note, NoteStep, WorldRefusal};
+use auc_vector::{Outcome, PeerWhy, Reason, ServerWhy, Step};
 
 /// Appends the line of an event and of what came of it.
 pub fn print_event(event: &EventRecord, out: &mut Octets) -> Result<(), NoMemory>

@@ -2,7 +2,7 @@
 //! sessions of EAP-SIM.
 
 ghost use Rattle.std.specs.Prelude.{◌≡◌, ◌++◌, length, OnOk};
-ghost use Rattle.auc_world.specs.Record.{IsBelow, further_subscriber};
+ghost use Rattle.auc_record.specs.Record.{IsBelow, further_subscriber};
 ghost use Rattle.auc_print.specs.Inner.{Prints, lines_text};
 ghost use Rattle.auc_print.specs.OneText.{FurtherFits};
 ghost use Rattle.auc_print.specs.Text.{fiveg_word, further_lines, further_words, identities_of, seaf_words, spaced};
@@ -12,8 +12,8 @@ use crate::sites::words_of_note;
 use crate::word::{Word, hex_word};
 use crate::writer::{print_line, print_named};
 use auc_edge::{NoMemory, Octets};
+use auc_record::{FivegOutcome, Further};
 use auc_subs::Subscribers;
-use auc_world::{FivegOutcome, Further};
 
 /// Appends the line of what follows from a vector, or of what happened at sites or in a session of EAP-SIM.
 pub fn print_further(said: &Further, subs: &Subscribers, out: &mut Octets) -> Result<(), NoMemory>

@@ -1,7 +1,7 @@
 //! The lines of a round.
 
 ghost use Rattle.std.specs.Prelude.{◌≡◌, ◌++◌, ◌∷◌, [], ◌<◌, codes, flat_map, length, take, All, OnOk};
-ghost use Rattle.auc_world.specs.Record.{IsBelow, subscriber_of};
+ghost use Rattle.auc_record.specs.Record.{IsBelow, subscriber_of};
 ghost use Rattle.auc_print.specs.EventText.{agree_word};
 ghost use Rattle.auc_print.specs.Inner.{Prints, bytes_text, group_texts, premise_text};
 ghost use Rattle.auc_print.specs.Numeral.{numeral};
@@ -14,9 +14,9 @@ use crate::notes::word_of;
 use crate::word::{Group, Word, decimal, one, pair};
 use crate::writer::{print_line, print_named};
 use auc_edge::{NoMemory, Octets};
+use auc_record::{Breach, Closing, GiveVerdict, LineRecord, Premise, SessionVerdict, SyncVerdict};
 use auc_subs::Subscribers;
 use auc_vector::Vector;
-use auc_world::{Breach, Closing, GiveVerdict, LineRecord, Premise, SessionVerdict, SyncVerdict};
 
 /// Appends the line of a job's record.
 pub fn print_record(

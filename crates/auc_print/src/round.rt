@@ -1,8 +1,8 @@
 //! The text of a part of a transcript: a round or a restart.
 
 ghost use Rattle.std.specs.Prelude.{◌≡◌, ◌++◌, ◌<◌, [], drop, length, map, All, IsTrue, OnOk, OnErr, flat_map, if◌then◌else◌, slice_index_or};
-ghost use Rattle.auc_world.specs.Record.{IsBelow, NamesBelow, subscriber_of};
-ghost use Rattle.auc_world.specs.Vectors.{vectors_in};
+ghost use Rattle.auc_record.specs.Record.{IsBelow, NamesBelow, subscriber_of};
+ghost use Rattle.auc_record.specs.Vectors.{vectors_in};
 ghost use Rattle.auc_print.specs.Inner.{Prints, answer_text, answers_text, bytes_text, left_after, shown_after};
 ghost use Rattle.auc_print.specs.OneText.{AnswerFits, RoundFits};
 ghost use Rattle.auc_print.specs.Text.{identities_of, jobs_lines, line_text, restart_text, round_text};
@@ -13,8 +13,8 @@ use crate::line::{print_closings, print_first, print_premise, print_record, prin
 use crate::word::Word;
 use crate::writer::print_line;
 use auc_edge::{NoMemory, Octets};
+use auc_record::{JobRecord, JobVectors, LineRecord, RoundRecord, Setting};
 use auc_vector::Vector;
-use auc_world::{JobRecord, JobVectors, LineRecord, RoundRecord, Setting};
 
 /// Appends the text of a restart. If memory runs out, `out` stays as it was.
 pub fn print_restart(out: &mut Octets) -> Result<(), NoMemory>

@@ -12,9 +12,8 @@ use crate::line::word_of_verdict;
 use crate::word::Word::{Nothing, Number, Text};
 use crate::word::{Group, Word, decimal, one};
 use auc_edge::{NoMemory, Octets};
-use auc_sim::{SimBecame, SimNote, SimWhy};
-use auc_vector::{Outcome, Step};
-use auc_world::End;
+use auc_record::End;
+use auc_vector::{Outcome, SimBecame, SimNote, SimWhy, Step};
 
 /// What happened in a session.
 pub fn words_of_sim(note: &SimNote) -> [Word<'static>; 8]

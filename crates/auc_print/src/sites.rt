@@ -7,7 +7,7 @@ ghost use Rattle.auc_print.specs.SitesText.{delivery_words, sites_words};
 
 use crate::word::Word::{Nothing, Number, Text};
 use crate::word::{Word, decimal};
-use auc_world::{SitesNote, SitesOutcome};
+use auc_record::{SitesNote, SitesOutcome};
 
 /// What happened in an event.
 pub fn words_of_note(note: SitesNote) -> [Word<'static>; 6]

@@ -2,12 +2,12 @@
 
 use crate::printing::{is_further_printed, is_printed};
 use auc_edge::Octets;
-use auc_sqn::MAX_SEQ;
-use auc_vector::Notes;
-use auc_world::{
+use auc_record::{
     BoxedEvent, Event, EventRecord, Further, LineRecord, Note, NoteStep, SitesNote, SitesOutcome,
     WorldRefusal,
 };
+use auc_sqn::MAX_SEQ;
+use auc_vector::Notes;
 use std::alloc::Global;
 use std::process::Abort;
 

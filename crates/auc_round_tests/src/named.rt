@@ -7,8 +7,8 @@ use crate::printing::{names_below, one, subscribers_of};
 use auc_edge::{Imsi, Items, Stop};
 use auc_lines::{JobPart, Line, Report};
 use auc_named::{Named, are_plain, name};
+use auc_record::{Closing, JobRecord, LineRecord, Premise, RoundRecord, SyncVerdict};
 use auc_subs::Subscribers;
-use auc_world::{Closing, JobRecord, LineRecord, Premise, RoundRecord, SyncVerdict};
 use std::alloc::Global;
 use std::process::Abort;
 

@@ -7,12 +7,12 @@ use auc_edge::{Items, Octets, Stop};
 use auc_hmac::KeySet;
 use auc_ident::Names;
 use auc_print::{print_restart, print_round};
-use auc_subs::Subscribers;
-use auc_vector::{CounterNote, Notes, NumberNote, Outcome, ResyncNote, Step, UsimNote, Vector};
-use auc_world::{
+use auc_record::{
     BoxedEvent, Closing, End, Event, EventRecord, FivegOutcome, Further, GiveVerdict, JobRecord,
     LineRecord, Note, NoteStep, Premise, RoundRecord, SessionVerdict, Setting, SyncVerdict,
 };
+use auc_subs::Subscribers;
+use auc_vector::{CounterNote, Notes, NumberNote, Outcome, ResyncNote, Step, UsimNote, Vector};
 use std::alloc::Global;
 use std::process::Abort;
 

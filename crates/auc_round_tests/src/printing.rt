@@ -1,18 +1,18 @@
 //! The printed text of a round, for the tests of the text of a transcript.
 
 ghost use Rattle.std.specs.Prelude.{◌≡◌, IsTrue, All, ◌<◌};
-ghost use Rattle.auc_world.specs.Record.{IsBelow, NamesBelow, subscriber_of};
-ghost use Rattle.auc_world.specs.Vectors.{IsReleasableLine};
+ghost use Rattle.auc_record.specs.Record.{IsBelow, NamesBelow, subscriber_of};
+ghost use Rattle.auc_record.specs.Vectors.{IsReleasableLine};
 
 use auc_edge::{Items, Octets};
 use auc_ident::Names;
 use auc_print::print_round;
 use auc_random::Rands;
-use auc_sqn::top;
-use auc_subs::Subscribers;
-use auc_world::{
+use auc_record::{
     BoxedFurther, Further, JobRecord, LineRecord, Premise, RoundRecord, Setting, printed_vectors,
 };
+use auc_sqn::top;
+use auc_subs::Subscribers;
 use std::alloc::Global;
 use std::process::Abort;
 

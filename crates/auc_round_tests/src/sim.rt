@@ -3,9 +3,8 @@
 use crate::printing::is_further_printed;
 use auc_edge::Octets;
 use auc_hmac::KeySet;
-use auc_sim::{SimBecame, SimNote, SimWhy};
-use auc_vector::{Outcome, Reason, Step};
-use auc_world::{End, Further};
+use auc_record::{End, Further};
+use auc_vector::{Outcome, Reason, SimBecame, SimNote, SimWhy, Step};
 use std::alloc::Global;
 use std::process::Abort;
 

@@ -1,5 +1,5 @@
 -- For a crash at any moment of a run: what it leaves of the journal.
-use Rattle.std.proofs.Common.{◌≡◌, ◌≢◌, ℕ, ◌<◌, ◌≤◌, List, [], ◌∷◌, length, map, Option, Some, inl, inr, refl, sym, ◌∙◌, ap, subst, arith}
+use Rattle.std.proofs.Common.{◌≡◌, ◌≢◌, ℕ, ◌<◌, ◌≤◌, List, length, map, Option, Some, inl, inr, refl, sym, ◌∙◌, ap, subst, arith}
 use Rattle.std.specs.Prelude.{slice_index}
 use Rattle.std.proofs.Math.ListN.{length-map}
 use Rattle.auc_edge.specs.Identity.{Identity}
@@ -13,10 +13,12 @@ use Rattle.auc_keeper.specs.Keeper.{IsLeft}
 use Rattle.auc_keeper.proofs.Facts.{both_leave, leaves_less}
 use Rattle.auc_subs.specs.declared.row.Row.{Row}
 use Rattle.auc_world.specs.Transcript.{Course}
-use Rattle.auc_run.specs.Crash.{IsLeftAnyTime, MayHaveLeft, RemembersAlways, limits_in}
+use Rattle.auc_input.specs.Opening.{limits_in}
+use Rattle.auc_run.specs.Crash.{IsLeftAnyTime, MayHaveLeft, RemembersAlways}
 use Rattle.auc_run.specs.Inner.{Covers, IsGrown, IsLeftInRun, IsSince, Reserves, most_at}
-use Rattle.auc_run.specs.declared.status.Status.{Status}
-use Rattle.auc_run.specs.declared.status.Status.TheVariants.{NoMemory}
+use Rattle.auc_refusal.specs.declared.status.Status.{Status}
+use Rattle.auc_refusal.specs.declared.status.Status.TheVariants.{NoMemory}
+use Rattle.auc_input.proofs.Facts.{opening_none}
 
 -- there are as many identities as rows
 pub count_of : {D : Type 0} (rows : List Row) (journal : JournalState D) → journal.imsis ≡ map (λ row. row.imsi) rows → length journal.imsis ≡ length rows
@@ -151,19 +153,6 @@ pub always_opening : {D : Type 0} (seen : D → Option (List ℕ)) (may_leave : 
 always_opening seen may_leave moment left_since from mid disk opening same told closable =
     leaves_at moment left_since from mid disk (λ image. Keeps told.0 image × IsClosable image) same
     (leaves_less moment left_since from mid (IsOpening told.0) (λ image. Keeps told.0 image × IsClosable image) (λ image is. opening_keeps told.0 image closable is) (opening told.0 told.1 told.2))
-
--- an opening that made no call of the disk
-pub opening_none : {D : Type 0} (seen : D → Option (List ℕ)) (may_leave : D → List ℕ → Type 0) (moment : D → ℕ) (left_since : D → ℕ → List ℕ → Type 0)
-    → ((disk : D) (image : List ℕ) → left_since disk (moment disk) image → may_leave disk image) → (disk : D) → LeavesOpening seen may_leave moment left_since disk disk
-opening_none seen may_leave moment left_since only_now disk file told only = record {
-  later = omega arith;
-  each = λ image left. subst (IsOpening file) (sym (only image (only_now disk image left))) (opening_here file);
-  before = λ t image early left. inl left;
-}
-  where
-    opening_here : (file : List ℕ) → IsOpening file file
-    opening_here [] = (omega arith, inl refl)
-    opening_here (byte ∷ bytes) = inl refl
 
 -- no call of the disk was made
 pub always_same : {D : Type 0} (seen : D → Option (List ℕ)) (may_leave : D → List ℕ → Type 0) (moment : D → ℕ) (left_since : D → ℕ → List ℕ → Type 0)

@@ -28,7 +28,8 @@ use Rattle.auc_subs.specs.Subscriber.{line_counts, rows_with_fields}
 use Rattle.auc_subs.specs.declared.row.Row.{Row}
 use Rattle.auc_text.specs.Text.{lines_of, words_of}
 use Rattle.auc_run.specs.Inner.{AreQuiet}
-use Rattle.auc_run.specs.Service.{asked_of, most_block}
+use Rattle.auc_refusal.specs.Replies.{most_block}
+use Rattle.auc_run.specs.Service.{asked_of}
 
 -- a line that may stand in a block, and a job of such lines
 abbrev MayStand : Line → Type 0

@@ -11,18 +11,20 @@ use Rattle.auc_script.specs.declared.refusal.ScriptRefusal.TheVariants.{Line}
 use Rattle.auc_subs.specs.File.{subscribers_in}
 use Rattle.auc_subs.specs.declared.refusal.SubsRefusal.{SubsRefusal}
 use Rattle.auc_subs.specs.declared.row.Row.{Row}
-use Rattle.auc_run.specs.Inner.{FilesLeave, FilesStop, IsBeforeJournal, Stops, Tells, status_in}
-use Rattle.auc_run.specs.Outcome.{AreRead, AreRight, AreUnknown, AreWrong, BeginsWith, HasText, IsCause, IsReadNext, NeedsNoJournal, OpensJournal, max_file}
-use Rattle.auc_run.specs.Refusal.{MayRefuse, MayStop, status_of}
-use Rattle.auc_run.specs.Words.{Files, files_named}
-use Rattle.auc_run.specs.Telling.{IsLongTold, journal_named}
+use Rattle.auc_refusal.specs.Refusal.{status_in, MayRefuse, MayStop, status_of}
+use Rattle.auc_refusal.specs.Told.{Tells}
+use Rattle.auc_run.specs.Inner.{FilesLeave, FilesStop, IsBeforeJournal, Stops}
+use Rattle.auc_input.specs.Reading.{AreRead, AreRight, AreWrong, BeginsWith, HasText, IsReadNext, max_file}
+use Rattle.auc_run.specs.Outcome.{AreUnknown, IsCause, NeedsNoJournal, OpensJournal}
+use Rattle.auc_input.specs.Words.{Files, files_named, journal_named}
+use Rattle.auc_run.specs.Telling.{IsLongTold}
 use Rattle.auc_run.proofs.TopLemmas.{HasCause, cause_of, full_files}
-use Rattle.auc_run.specs.declared.forms.JournalForm.{JournalForm}
-use Rattle.auc_run.specs.declared.forms.JournalForm.TheVariants as telling
-use Rattle.auc_run.specs.declared.refusal.Refusal.{Refusal}
-use Rattle.auc_run.specs.declared.refusal.Refusal.TheVariants as refused
-use Rattle.auc_run.specs.declared.status.Status.{Status}
-use Rattle.auc_run.specs.declared.status.Status.TheVariants as status
+use Rattle.auc_input.specs.declared.forms.JournalForm.{JournalForm}
+use Rattle.auc_input.specs.declared.forms.JournalForm.TheVariants as telling
+use Rattle.auc_refusal.specs.declared.refusal.Refusal.{Refusal}
+use Rattle.auc_refusal.specs.declared.refusal.Refusal.TheVariants as refused
+use Rattle.auc_refusal.specs.declared.status.Status.{Status}
+use Rattle.auc_refusal.specs.declared.status.Status.TheVariants as status
 
 -- a result is of one kind
 pub ok_err : {A E : Type 0} (x : Result A E) (a : A) (e : E) → x ≡ Ok a → x ≡ Err e → ⊥

@@ -11,16 +11,16 @@ use Rattle.auc_journal.specs.Settled.{IsClosable}
 use Rattle.auc_journal.proofs.Facts.{limits_at}
 use Rattle.auc_subs.specs.declared.row.Row.{Row}
 use Rattle.auc_transcript.proofs.Facts.{early_of_end}
-use Rattle.auc_world.specs.Lines.{numbers_of}
+use Rattle.auc_record.specs.Lines.{numbers_of}
 use Rattle.auc_world.specs.Transcript.{beginning, lines_of}
-use Rattle.auc_world.specs.declared.record.LineRecord.{LineRecord}
+use Rattle.auc_record.specs.declared.record.LineRecord.{LineRecord}
 use Rattle.auc_run.specs.Chain.{AreChained, ChainRun, DrewAbove, EachCutRunIsOfAChain, EachOtherRunIsOfAChain, EachRunDrawsAboveEarlierRuns, EachServedRunIsOfAChain, EachServiceIsOfAChain, Releases, ServedOn, identities}
-use Rattle.auc_run.specs.Crash.{IsFound, limits_in}
+use Rattle.auc_input.specs.Opening.{IsFound, limits_in}
 use Rattle.auc_run.specs.Outcome.{IsWritten}
 use Rattle.auc_run.specs.Output.{setting_of}
 use Rattle.auc_run.specs.Service.{parts_in}
-use Rattle.auc_run.specs.declared.status.Status.{Status}
-use Rattle.auc_run.specs.declared.status.Status.TheVariants as ended
+use Rattle.auc_refusal.specs.declared.status.Status.{Status}
+use Rattle.auc_refusal.specs.declared.status.Status.TheVariants as ended
 
 -- the limit of a subscriber by frames that a file is read as is what the file reserves for its identity
 limit_by : (rows : List Row) (file : List ℕ) (frames : List Frame) (end sub : ℕ) → read_image file ≡ Ok (record { frames = frames; end = end }) → sub < length rows

@@ -5,15 +5,15 @@ use Rattle.auc_edge.specs.Sink.{Appends, AppendsFront}
 use Rattle.auc_forms.specs.Algorithm.{algorithm_named}
 use Rattle.auc_forms.specs.declared.algorithm.AlgorithmForm.{AlgorithmForm}
 use Rattle.auc_load.specs.Words.{load_named}
-use Rattle.auc_run.specs.Inner.{FilesLeave, IsSilent, Stops, Tells}
+use Rattle.auc_refusal.specs.Told.{Tells}
+use Rattle.auc_run.specs.Inner.{FilesLeave, IsSilent, Stops}
 use Rattle.auc_run.specs.Outcome.{AreUnknown, EndsAlgorithm, EndsBefore, EndsUsage, IsCause, MayPrint, RunsFiles}
-use Rattle.auc_run.specs.Refusal.{line_of, status_of}
-use Rattle.auc_run.specs.Telling.{journal_named}
-use Rattle.auc_run.specs.Words.{Files, files_named}
-use Rattle.auc_run.specs.declared.refusal.Refusal.{Refusal}
-use Rattle.auc_run.specs.declared.refusal.Refusal.TheVariants as refused
-use Rattle.auc_run.specs.declared.status.Status.{Status}
-use Rattle.auc_run.specs.declared.status.Status.TheVariants as status
+use Rattle.auc_refusal.specs.Refusal.{line_of, status_of}
+use Rattle.auc_input.specs.Words.{journal_named, Files, files_named}
+use Rattle.auc_refusal.specs.declared.refusal.Refusal.{Refusal}
+use Rattle.auc_refusal.specs.declared.refusal.Refusal.TheVariants as refused
+use Rattle.auc_refusal.specs.declared.status.Status.{Status}
+use Rattle.auc_refusal.specs.declared.status.Status.TheVariants as status
 use Rattle.auc_run.proofs.CauseLemmas.{files_long, some_none}
 use Rattle.auc_run.proofs.TopLemmas.{Appends-nothing, cause_of, files_of, from_old, still_runs}
 

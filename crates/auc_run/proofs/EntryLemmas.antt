@@ -11,10 +11,10 @@ use Rattle.auc_history.specs.declared.entry.Entry.{Entry}
 use Rattle.auc_history.specs.declared.entry.Entry.TheVariants.{Drawn, Moved, Look}
 use Rattle.auc_history.proofs.Facts.{times-append, times-numbers_after}
 use Rattle.auc_sqn.specs.Number.{max_seq}
-use Rattle.auc_world.specs.Entries.{reports, entries_of_line, entries_of_lines, entries_of_jobs}
-use Rattle.auc_world.specs.Lines.{all_lines}
-use Rattle.auc_world.specs.declared.record.LineRecord.{LineRecord}
-use Rattle.auc_world.specs.declared.record.LineRecord.TheVariants.{Vector, Withheld, Exhausted, Sync, Give, Further, Event}
+use Rattle.auc_record.specs.Entries.{reports, entries_of_line, entries_of_lines, entries_of_jobs}
+use Rattle.auc_record.specs.Lines.{all_lines}
+use Rattle.auc_record.specs.declared.record.LineRecord.{LineRecord}
+use Rattle.auc_record.specs.declared.record.LineRecord.TheVariants.{Vector, Withheld, Exhausted, Sync, Give, Further, Event}
 
 -- the entries of lines and of further ones
 entries_of_lines-append : (sub : ℕ) (before xs ys : List LineRecord)

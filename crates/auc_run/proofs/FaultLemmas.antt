@@ -1,9 +1,9 @@
 -- For calls that say what they did to counts of faults.
 use Rattle.std.proofs.Common.{◌≡◌, ◌∙◌, ℕ, Result, Ok, Err, subst}
 use Rattle.auc_edge.specs.Faults.{Rose}
-use Rattle.auc_run.specs.InnerFaults.{RoseOnDisk, RoseOnWire}
-use Rattle.auc_run.specs.declared.refusal.Refusal.{Refusal}
-use Rattle.auc_run.specs.declared.refusal.Refusal.TheVariants as refused
+use Rattle.auc_refusal.specs.Faults.{RoseOnDisk, RoseOnWire}
+use Rattle.auc_refusal.specs.declared.refusal.Refusal.{Refusal}
+use Rattle.auc_refusal.specs.declared.refusal.Refusal.TheVariants as refused
 
 -- what is done isn't refused
 not_done : {A : Type 0} (result : Result A Refusal) (done : A) (refusal : Refusal) → result ≡ Ok done → result ≡ Err refusal → ⊥

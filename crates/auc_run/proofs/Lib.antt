@@ -6,7 +6,6 @@ mod BoundLemmas
 mod QuietLemmas
 mod BlockLemmas
 mod StandLemmas
-mod OpeningLemmas
 mod NamedLemmas
 mod RememberLemmas
 mod StepLemmas

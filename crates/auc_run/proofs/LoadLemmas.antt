@@ -30,17 +30,18 @@ use Rattle.auc_sqn.specs.Number.{max_seq, top_of}
 use Rattle.auc_sqn.proofs.Facts.{top_of-5}
 use Rattle.auc_subs.specs.Subscriber.{top_at}
 use Rattle.auc_subs.specs.declared.row.Row.{Row}
-use Rattle.auc_world.specs.Entries.{is_reported, entries_of_line, entries_of_lines, entries_of_jobs}
-use Rattle.auc_world.specs.Given.{DrawGives, JobsGive}
-use Rattle.auc_world.specs.Lines.{all_lines, numbers_of, released_by, withheld_by, withheld_of}
+use Rattle.auc_record.specs.Entries.{is_reported, entries_of_line, entries_of_lines, entries_of_jobs}
+use Rattle.auc_record.specs.Draws.{DrawGives}
+use Rattle.auc_world.specs.Given.{JobsGive}
+use Rattle.auc_record.specs.Lines.{all_lines, numbers_of, released_by, withheld_by, withheld_of}
 use Rattle.auc_world.specs.Net.{Net}
 use Rattle.auc_world.specs.Round.{IsLawfulRound, closing_of, closings_from}
-use Rattle.auc_world.specs.Setting.{Setting}
+use Rattle.auc_subs.specs.Setting.{Setting}
 use Rattle.auc_world.specs.Start.{Kept}
-use Rattle.auc_world.specs.declared.record.Closing.{Closing}
-use Rattle.auc_world.specs.declared.record.LineRecord.{LineRecord}
-use Rattle.auc_world.specs.declared.record.LineRecord.TheVariants.{Vector, Withheld, Exhausted, Sync, Give, Further, Event}
-use Rattle.auc_world.specs.declared.record.RoundRecord.{RoundRecord}
+use Rattle.auc_record.specs.declared.record.Closing.{Closing}
+use Rattle.auc_record.specs.declared.record.LineRecord.{LineRecord}
+use Rattle.auc_record.specs.declared.record.LineRecord.TheVariants.{Vector, Withheld, Exhausted, Sync, Give, Further, Event}
+use Rattle.auc_record.specs.declared.record.RoundRecord.{RoundRecord}
 use Rattle.auc_run.proofs.EntryLemmas.{IsOfDraw, IsWithin, WordWithin, all_entries-of_jobs, splits_within, lines_within, sub_of}
 
 -- ---- what jobs give that draw

@@ -35,21 +35,22 @@ use Rattle.auc_sqn.specs.Past.{Remembers}
 use Rattle.auc_usim.specs.Usim.{Memory}
 use Rattle.auc_world.specs.Given.{JobsGive, past_of}
 use Rattle.auc_world.specs.Limits.{Raises, least_step}
-use Rattle.auc_world.specs.Lines.{accepted, all_lines, numbers_of, withheld_of}
-use Rattle.auc_world.specs.Released.{AreReleased}
+use Rattle.auc_record.specs.Lines.{accepted, all_lines, numbers_of, withheld_of}
+use Rattle.auc_record.specs.Released.{AreReleased}
 use Rattle.auc_world.specs.Round.{IsLawfulRound}
-use Rattle.auc_world.specs.Setting.{Setting}
+use Rattle.auc_subs.specs.Setting.{Setting}
 use Rattle.auc_world.specs.Net.{Net}
-use Rattle.auc_world.specs.Record.{NamesBelow}
+use Rattle.auc_record.specs.Record.{NamesBelow}
 use Rattle.auc_world.specs.Start.{Kept, start_of}
-use Rattle.auc_world.specs.Transcript.{reopened}
-use Rattle.auc_world.specs.Vectors.{IsReleasableLine, vectors_in}
-use Rattle.auc_world.specs.declared.record.LineRecord.{LineRecord}
-use Rattle.auc_world.specs.declared.record.LineRecord.TheVariants.{Vector, Withheld, Exhausted, Sync, Give, Further, Event}
-use Rattle.auc_world.specs.declared.record.RoundRecord.{RoundRecord}
-use Rattle.auc_world.proofs.Facts.{accepted-append, get_or-reopened, length-reopened}
+use Rattle.auc_record.specs.Openings.{reopened}
+use Rattle.auc_record.specs.Vectors.{IsReleasableLine, vectors_in}
+use Rattle.auc_record.specs.declared.record.LineRecord.{LineRecord}
+use Rattle.auc_record.specs.declared.record.LineRecord.TheVariants.{Vector, Withheld, Exhausted, Sync, Give, Further, Event}
+use Rattle.auc_record.specs.declared.record.RoundRecord.{RoundRecord}
+use Rattle.auc_world.proofs.Facts.{accepted-append}
+use Rattle.auc_record.proofs.Facts.{get_or-reopened, length-reopened}
 use Rattle.auc_run.specs.InnerNamed.{IsLed, IsServed}
-use Rattle.auc_run.proofs.OpeningLemmas.{imsi_here}
+use Rattle.auc_input.proofs.Facts.{imsi_here}
 use Rattle.auc_run.proofs.PrintableLemmas.{round_named}
 
 -- what holds of two values holds of those that they are equal to

@@ -8,23 +8,26 @@ use Rattle.auc_journal.specs.Durable.{IsTold}
 use Rattle.auc_journal.specs.Journal.{JournalState, limits_of}
 use Rattle.auc_journal.specs.Settled.{LeavesOnly}
 use Rattle.auc_lines.specs.declared.part.Part.{Part}
-use Rattle.auc_print.specs.OneText.{AreAtTheirEnds, IsPrintable, PartFits}
-use Rattle.auc_print.proofs.Facts.{are_identities, lawful_at_ends, one_transcript}
+use Rattle.auc_record.specs.Ends.{AreAtTheirEnds}
+use Rattle.auc_print.specs.OneText.{IsPrintable, PartFits}
+use Rattle.auc_print.proofs.Facts.{are_identities, one_transcript}
+use Rattle.auc_world.proofs.Facts.{lawful_at_ends, length-opened, sixteen_block}
 use Rattle.auc_script.specs.declared.script.Script.{Script}
 use Rattle.auc_subs.specs.Subscriber.{AreSubscribers}
 use Rattle.auc_subs.specs.declared.row.Row.{Row}
 use Rattle.auc_transcript.proofs.Facts.{above_reserved, keeps_numbers_apart, accepts_none_twice, each_failure_is_by_place}
-use Rattle.auc_world.proofs.Facts.{length-opened, sixteen_block}
 use Rattle.auc_world.specs.Agreement.{IsRealm}
 use Rattle.auc_world.specs.Transcript.{Course, Leads, beginning}
-use Rattle.auc_world.specs.declared.record.PartRecord.{PartRecord}
-use Rattle.auc_run.specs.Crash.{IsKept, MayHaveLeft, MayLeave, limits_in}
-use Rattle.auc_run.specs.Inner.{Begins, IsKnownPart, IsLeftInRun, IsRead, Laws, RunsParts}
+use Rattle.auc_record.specs.declared.record.PartRecord.{PartRecord}
+use Rattle.auc_input.specs.Opening.{limits_in, Begins}
+use Rattle.auc_run.specs.Crash.{IsKept, MayHaveLeft, MayLeave}
+use Rattle.auc_input.specs.Reading.{IsRead}
+use Rattle.auc_run.specs.Inner.{IsKnownPart, IsLeftInRun, Laws, RunsParts}
 use Rattle.auc_run.specs.Outcome.{IsStopOf, IsWritten, RunsFiles, RunsFull}
 use Rattle.auc_run.specs.Output.{IsOutput, IsTranscript, setting_of, text_of}
-use Rattle.auc_run.specs.Words.{Files}
-use Rattle.auc_run.specs.declared.status.Status.{Status}
-use Rattle.auc_run.specs.declared.status.Status.TheVariants.{StoreFull}
+use Rattle.auc_input.specs.Words.{Files}
+use Rattle.auc_refusal.specs.declared.status.Status.{Status}
+use Rattle.auc_refusal.specs.declared.status.Status.TheVariants.{StoreFull}
 use Rattle.auc_run.proofs.AlwaysLemmas.{any_time}
 use Rattle.auc_run.proofs.HeldLemmas.{held_apart}
 use Rattle.auc_run.proofs.KnownLemmas.{Known}

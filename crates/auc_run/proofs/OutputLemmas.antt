@@ -14,18 +14,19 @@ use Rattle.auc_print.specs.OneText.{PartFits}
 use Rattle.auc_print.specs.Text.{part_text, transcript_text}
 use Rattle.auc_transcript.proofs.Facts.{leads_more}
 use Rattle.auc_subs.specs.declared.row.Row.{Row}
-use Rattle.auc_world.specs.Setting.{Setting}
+use Rattle.auc_subs.specs.Setting.{Setting}
 use Rattle.auc_world.specs.Transcript.{Course, Leads, ServesPart, beginning}
-use Rattle.auc_world.specs.declared.record.PartRecord.{PartRecord}
-use Rattle.auc_world.specs.declared.record.PartRecord.TheVariants as record_of
+use Rattle.auc_record.specs.declared.record.PartRecord.{PartRecord}
+use Rattle.auc_record.specs.declared.record.PartRecord.TheVariants as record_of
 use Rattle.auc_run.specs.Crash.{IsFull}
-use Rattle.auc_run.specs.Inner.{Begins, Covers, EndsIn, GoesOn, IsPut, RunsParts, ServesLast, StandsOn}
+use Rattle.auc_input.specs.Opening.{Begins}
+use Rattle.auc_run.specs.Inner.{Covers, EndsIn, GoesOn, IsPut, RunsParts, ServesLast, StandsOn}
 use Rattle.auc_run.specs.Outcome.{EndsFull, IsStopOf, IsWritten}
-use Rattle.auc_run.specs.Refusal.{status_of}
-use Rattle.auc_run.specs.declared.refusal.Refusal.{Refusal}
-use Rattle.auc_run.specs.declared.refusal.Refusal.TheVariants as refused
-use Rattle.auc_run.specs.declared.status.Status.{Status}
-use Rattle.auc_run.specs.declared.status.Status.TheVariants as status
+use Rattle.auc_refusal.specs.Refusal.{status_of}
+use Rattle.auc_refusal.specs.declared.refusal.Refusal.{Refusal}
+use Rattle.auc_refusal.specs.declared.refusal.Refusal.TheVariants as refused
+use Rattle.auc_refusal.specs.declared.status.Status.{Status}
+use Rattle.auc_refusal.specs.declared.status.Status.TheVariants as status
 use Rattle.auc_run.proofs.AlwaysLemmas.{always_covers, always_reserves, since_opening}
 use Rattle.auc_run.proofs.RememberLemmas.{durable_keeps}
 use Rattle.auc_run.proofs.StandLemmas.{kept_covers, kept_reserves}

@@ -9,19 +9,20 @@ use Rattle.auc_jobs.specs.Serving.{AreAllKnown}
 use Rattle.auc_lines.specs.declared.part.Line.{Line}
 use Rattle.auc_lines.specs.declared.part.Part.{Part}
 use Rattle.auc_lines.specs.declared.part.Part.TheVariants.{Round, Restart}
-use Rattle.auc_world.specs.Entries.{entries_of_jobs}
-use Rattle.auc_world.specs.Setting.{Setting}
+use Rattle.auc_record.specs.Entries.{entries_of_jobs}
+use Rattle.auc_subs.specs.Setting.{Setting}
 use Rattle.auc_world.specs.Start.{Kept}
-use Rattle.auc_world.specs.Lines.{numbers_of, withheld_of, all_lines}
+use Rattle.auc_record.specs.Lines.{numbers_of, withheld_of, all_lines}
 use Rattle.auc_world.specs.Round.{IsLawfulRound, closing_of, closings_from}
-use Rattle.auc_world.proofs.Facts.{length-opened, length-reopened}
+use Rattle.auc_world.proofs.Facts.{length-opened}
+use Rattle.auc_record.proofs.Facts.{length-reopened}
 use Rattle.auc_world.specs.Transcript.{Course, Leads, ServesPart, stop_before}
-use Rattle.auc_world.specs.Record.{NamesBelow, PartNamesBelow}
-use Rattle.auc_world.specs.declared.record.Closing.{Closing}
-use Rattle.auc_world.specs.declared.record.LineRecord.{LineRecord}
-use Rattle.auc_world.specs.declared.record.PartRecord.{PartRecord}
-use Rattle.auc_world.specs.declared.record.PartRecord.TheVariants as record_of
-use Rattle.auc_world.specs.declared.record.RoundRecord.{RoundRecord}
+use Rattle.auc_record.specs.Record.{NamesBelow, PartNamesBelow}
+use Rattle.auc_record.specs.declared.record.Closing.{Closing}
+use Rattle.auc_record.specs.declared.record.LineRecord.{LineRecord}
+use Rattle.auc_record.specs.declared.record.PartRecord.{PartRecord}
+use Rattle.auc_record.specs.declared.record.PartRecord.TheVariants as record_of
+use Rattle.auc_record.specs.declared.record.RoundRecord.{RoundRecord}
 use Rattle.auc_run.specs.Inner.{IsKnownPart}
 use Rattle.auc_run.proofs.NameLemmas.{jobs_named}
 

@@ -9,13 +9,13 @@ use Rattle.auc_lines.specs.declared.part.Line.{Line}
 use Rattle.auc_lines.specs.declared.part.Line.TheVariants.{Draw, Sync, Give, Eps, Fiveg, Sites, Sim, Session, Start, Deliver, Repeat, GiveUp, Plain, Tamper, Cut}
 use Rattle.auc_script.specs.Scenario.{may_stand_in_block}
 use Rattle.auc_world.specs.Given.{Before, JobGives, JobsGive, LineGives, behind}
-use Rattle.auc_world.specs.Lines.{accepted, all_lines}
+use Rattle.auc_record.specs.Lines.{accepted, all_lines}
 use Rattle.auc_world.specs.Net.{Net}
 use Rattle.auc_world.specs.Round.{IsLawfulRound}
-use Rattle.auc_world.specs.Setting.{Setting}
+use Rattle.auc_subs.specs.Setting.{Setting}
 use Rattle.auc_world.specs.Start.{Kept, start_of}
-use Rattle.auc_world.specs.declared.record.LineRecord.{LineRecord}
-use Rattle.auc_world.specs.declared.record.RoundRecord.{RoundRecord}
+use Rattle.auc_record.specs.declared.record.LineRecord.{LineRecord}
+use Rattle.auc_record.specs.declared.record.RoundRecord.{RoundRecord}
 use Rattle.auc_world.proofs.Facts.{accepted-append, job_quiet}
 use Rattle.auc_run.specs.Inner.{AreEnough, AreQuiet}
 

@@ -5,47 +5,21 @@ use Rattle.auc_journal.specs.declared.open_why.OpenWhy.{OpenWhy}
 use Rattle.auc_journal.specs.declared.open_why.OpenWhy.TheVariants as unopened
 use Rattle.auc_script.specs.declared.script.Script.{Script}
 use Rattle.auc_subs.specs.declared.row.Row.{Row}
-use Rattle.auc_run.specs.Inner.{FilesLeave, FilesStop, InputStops, IsRead, ReadingStops, RoundsStop, ScenarioStops, SubscribersStop, open_refusal}
-use Rattle.auc_run.specs.Outcome.{AreRight, BeginsWith, RunsFiles}
-use Rattle.auc_run.specs.Refusal.{status_of}
-use Rattle.auc_run.specs.Words.{Files}
-use Rattle.auc_run.specs.declared.refusal.Refusal.{Refusal}
-use Rattle.auc_run.specs.declared.refusal.Refusal.TheVariants as refused
-use Rattle.auc_run.specs.declared.status.Status.{Status}
-use Rattle.auc_run.specs.declared.status.Status.TheVariants as status
+use Rattle.auc_input.specs.Reading.{IsRead, ReadingStops, AreRight}
+use Rattle.auc_refusal.specs.Causes.{open_refusal}
+use Rattle.auc_run.specs.Inner.{FilesLeave, FilesStop, InputStops, RoundsStop}
+use Rattle.auc_run.specs.Outcome.{RunsFiles}
+use Rattle.auc_refusal.specs.Refusal.{status_of}
+use Rattle.auc_input.specs.Words.{Files}
+use Rattle.auc_refusal.specs.declared.refusal.Refusal.{Refusal}
+use Rattle.auc_refusal.specs.declared.refusal.Refusal.TheVariants as refused
+use Rattle.auc_refusal.specs.declared.status.Status.{Status}
+use Rattle.auc_refusal.specs.declared.status.Status.TheVariants as status
 
 -- what holds of an error
 pub IfErr-weaker : {T E : Type 0} (r : Result T E) (P Q : E → Type 0) → ((e : E) → P e → Q e) → IfErr r P → IfErr r Q
 IfErr-weaker (Ok x) P Q weaker is = is
 IfErr-weaker (Err e) P Q weaker is = weaker e is
-
--- the subscribers aren't read
-pub subscribers_stop : (told : Option (List File)) (files : Files) (refusal : Refusal)
-    → SubscribersStop told files.subscribers refusal → ReadingStops told files refusal
-subscribers_stop told files (refused.Subscribers row fault) stop = stop
-subscribers_stop told files refused.TooLong (name, named, long) = (name, inl named, long)
-subscribers_stop told files refused.ReadFault stop = tt
-subscribers_stop told files refused.NoMemory stop = tt
-subscribers_stop told files (refused.Scenario line fault) stop = absurd stop
-subscribers_stop told files refused.Usage stop = absurd stop
-subscribers_stop told files refused.WriteFault stop = absurd stop
-subscribers_stop told files refused.StoreFault stop = absurd stop
-subscribers_stop told files (refused.NotJournal place) stop = absurd stop
-subscribers_stop told files refused.StoreFull stop = absurd stop
-
--- the scenario isn't read, after the subscribers
-pub scenario_stops : (told : Option (List File)) (files : Files) (rows : List Row) (refusal : Refusal)
-    → BeginsWith told files.subscribers rows → ScenarioStops told files.scenario rows refusal → ReadingStops told files refusal
-scenario_stops told files rows (refused.Scenario line fault) begins (text, has, is) = (rows, text, record { begins = begins; has = has }, is)
-scenario_stops told files rows refused.TooLong begins long = (files.scenario, inr (rows, begins, refl), long)
-scenario_stops told files rows refused.ReadFault begins stop = tt
-scenario_stops told files rows refused.NoMemory begins stop = tt
-scenario_stops told files rows (refused.Subscribers row fault) begins stop = absurd stop
-scenario_stops told files rows refused.Usage begins stop = absurd stop
-scenario_stops told files rows refused.WriteFault begins stop = absurd stop
-scenario_stops told files rows refused.StoreFault begins stop = absurd stop
-scenario_stops told files rows (refused.NotJournal place) begins stop = absurd stop
-scenario_stops told files rows refused.StoreFull begins stop = absurd stop
 
 -- the files of a run aren't read
 pub reading_stops : (told : Option (List File)) (files : Files) (seen : Option (List ℕ)) (refusal : Refusal) → ReadingStops told files refusal → FilesStop told files seen refusal

@@ -10,17 +10,19 @@ use Rattle.auc_journal.specs.declared.open_why.OpenWhy.{OpenWhy}
 use Rattle.auc_journal.specs.declared.open_why.OpenWhy.TheVariants as unopened
 use Rattle.auc_journal.proofs.Facts.{keeps_same}
 use Rattle.auc_lines.specs.declared.part.Part.{Part}
-use Rattle.auc_world.specs.Setting.{Setting}
+use Rattle.auc_subs.specs.Setting.{Setting}
 use Rattle.auc_world.specs.Transcript.{Course}
 use Rattle.std.specs.Prelude.{Bool}
 use Rattle.auc_run.specs.Crash.{Remembers}
-use Rattle.auc_run.specs.Inner.{RunsParts, Tells, open_refusal}
+use Rattle.auc_refusal.specs.Causes.{open_refusal}
+use Rattle.auc_refusal.specs.Told.{Tells}
+use Rattle.auc_run.specs.Inner.{RunsParts}
 use Rattle.auc_run.specs.Outcome.{IsStopOf}
-use Rattle.auc_run.specs.Refusal.{status_of}
-use Rattle.auc_run.specs.declared.refusal.Refusal.{Refusal}
-use Rattle.auc_run.specs.declared.refusal.Refusal.TheVariants as refused
-use Rattle.auc_run.specs.declared.status.Status.{Status}
-use Rattle.auc_run.specs.declared.status.Status.TheVariants as status
+use Rattle.auc_refusal.specs.Refusal.{status_of}
+use Rattle.auc_refusal.specs.declared.refusal.Refusal.{Refusal}
+use Rattle.auc_refusal.specs.declared.refusal.Refusal.TheVariants as refused
+use Rattle.auc_refusal.specs.declared.status.Status.{Status}
+use Rattle.auc_refusal.specs.declared.status.Status.TheVariants as status
 
 -- what a crash leaves of a journal on a disk
 pub durable_keeps : {D : Type 0} (seen : D → Option (List ℕ)) (may_leave : D → List ℕ → Type 0) (from disk : D) (most : Identity → ℕ) (journal : JournalState D)

@@ -3,7 +3,7 @@ use Rattle.std.proofs.Common.{◌≡◌, ◌≢◌, ℕ, ◌+◌, ◌-◌, ◌<�
 use Rattle.std.specs.List.{concat}
 use Rattle.std.proofs.lemmas.Bool.Decides.{nat_tests}
 use Rattle.std.proofs.lemmas.List.Elements.{All-push}
-use Rattle.auc_block.specs.Block.{Blocks, EachBlockIsSplitOff, EarlierBlocksStand, and_those, blocks_in, first_block}
+use Rattle.auc_block.specs.Block.{Blocks, EachBlockIsSplitOff, EarlierBlocksStand, blocks_in, first_block}
 use Rattle.auc_block.specs.Hearing.{HasNoBlock, IsHeard, IsTrouble}
 use Rattle.auc_block.specs.Turns.{Says, SaysFront, Turns}
 use Rattle.auc_block.specs.declared.trouble.Trouble.{Trouble}
@@ -29,26 +29,31 @@ use Rattle.auc_reading.specs.declared.refusal.ScriptWhy.TheVariants as why
 use Rattle.auc_script.specs.declared.script.Script.{Script}
 use Rattle.auc_subs.specs.declared.row.Row.{Row}
 use Rattle.auc_transcript.proofs.Facts.{leads_more}
-use Rattle.auc_world.specs.Lines.{all_lines}
+use Rattle.auc_record.specs.Lines.{all_lines}
 use Rattle.auc_world.specs.Transcript.{Course, Leads, beginning}
-use Rattle.auc_world.specs.declared.record.PartRecord.{PartRecord}
-use Rattle.auc_world.specs.declared.record.PartRecord.TheVariants as record_of
+use Rattle.auc_record.specs.declared.record.PartRecord.{PartRecord}
+use Rattle.auc_record.specs.declared.record.PartRecord.TheVariants as record_of
 use Rattle.auc_run.specs.Crash.{IsFull, IsKept, MayLeave}
-use Rattle.auc_run.specs.Inner.{Covers, IsKnownPart, IsLeftInRun, MakesRound, Reserves, RoundsStop, StandsAfter, status_in}
-use Rattle.auc_run.specs.InnerService.{AreTaken, EndsServing, GoesOnServing, IsSaidUpTo, IsServing, IsServingAny, IsTurned, RunsBlocks, round_answer, trouble_refusal, turned_by}
-use Rattle.auc_run.specs.Outcome.{IsQuiet}
+use Rattle.auc_refusal.specs.Refusal.{status_in, status_of}
+use Rattle.auc_run.specs.Inner.{Covers, IsKnownPart, IsLeftInRun, MakesRound, Reserves, RoundsStop, StandsAfter}
+use Rattle.auc_input.specs.Header.{AreTaken}
+use Rattle.auc_refusal.specs.Causes.{trouble_refusal}
+use Rattle.auc_refusal.specs.Told.{IsSaidUpTo}
+use Rattle.auc_run.specs.InnerService.{EndsServing, GoesOnServing, IsServing, IsServingAny, IsTurned, RunsBlocks, round_answer, turned_by}
+use Rattle.auc_refusal.specs.Faults.{IsQuiet}
 use Rattle.auc_run.specs.Output.{setting_of}
-use Rattle.auc_run.specs.Refusal.{status_of}
-use Rattle.auc_run.specs.Service.{Answer, IsAnswer, IsLastReply, IsLate, IsSaid, IsServiceStop, LeavesNone, asked_of, blocks_of, end_line, most_block, most_blocks, parts_in, records_in, refusal_reply, replies_in, reply_to_rest}
-use Rattle.auc_run.specs.Turns.{heard_in, said_in}
-use Rattle.auc_run.specs.declared.refusal.Refusal.{Refusal}
-use Rattle.auc_run.specs.declared.refusal.Refusal.TheVariants as refused
-use Rattle.auc_run.specs.declared.status.Status.{Status}
-use Rattle.auc_run.specs.declared.status.Status.TheVariants as status
+use Rattle.auc_refusal.specs.Replies.{end_line, most_block, refusal_reply, reply_to_rest}
+use Rattle.auc_run.specs.Service.{Answer, IsAnswer, IsLastReply, IsLate, IsSaid, IsServiceStop, LeavesNone, asked_of, blocks_of, most_blocks, parts_in, records_in, replies_in}
+use Rattle.auc_input.specs.Turns.{heard_in, said_in}
+use Rattle.auc_refusal.specs.declared.refusal.Refusal.{Refusal}
+use Rattle.auc_refusal.specs.declared.refusal.Refusal.TheVariants as refused
+use Rattle.auc_refusal.specs.declared.status.Status.{Status}
+use Rattle.auc_refusal.specs.declared.status.Status.TheVariants as status
 use Rattle.auc_run.proofs.AlwaysLemmas.{always_covers, always_reserves}
 use Rattle.auc_run.proofs.BlockLemmas.{asked_quiet}
 use Rattle.auc_run.proofs.RememberLemmas.{durable_keeps}
-use Rattle.auc_run.proofs.ServiceLemmas.{Forgets, blocks_more, concat_append, heard_behind, hears, parts_round, parts_same, records_round, records_same, replied_append, replied_more, replied_said, replies_more, replies_nothing, replies_round, said_behind, takes, takes_count, turns_more, turns_none}
+use Rattle.auc_input.proofs.Facts.{concat_append, replied_append, replied_more, replied_said, turns_more, turns_none, none_waits}
+use Rattle.auc_run.proofs.ServiceLemmas.{Forgets, blocks_more, heard_behind, hears, parts_round, parts_same, records_round, records_same, replies_more, replies_nothing, replies_round, said_behind, takes, takes_count}
 use Rattle.auc_run.proofs.StandLemmas.{covers_before, covers_of, kept_covers, kept_reserves}
 use Rattle.auc_run.proofs.StepLemmas.{full_journal, ready_if}
 
@@ -446,10 +451,6 @@ round_quiet (Err refused.StoreFull) stop text old new upto quiet is = absurd upt
 round_quiet (Err refused.TooLong) stop text old new upto quiet is = absurd upto
 
 -- ---- the input ends, or a block isn't heard
-
--- no whole block waits
-pub none_waits : EachBlockIsSplitOff → (text : List ℕ) → first_block text ≡ None → blocks_in text ≡ record { whole = []; left = text }
-none_waits split text none = split text ∙ ap (and_those blocks_in text) none
 
 -- the reply to what is left at the end of the input
 pub ended : {D : Type 0} (seen : D → Option (List ℕ)) (may_leave : D → List ℕ → Type 0) (moment : D → ℕ) (left_since : D → ℕ → List ℕ → Type 0) (rows : List Row) (header : Script) (text waits : List ℕ)

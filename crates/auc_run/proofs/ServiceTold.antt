@@ -6,16 +6,16 @@ use Rattle.auc_edge.specs.Faults.{Rose}
 use Rattle.auc_journal.specs.Image.{reserved_in}
 use Rattle.auc_journal.specs.Journal.{JournalState}
 use Rattle.auc_run.specs.Crash.{Remembers}
-use Rattle.auc_run.specs.Inner.{Begins, Tells}
-use Rattle.auc_run.specs.InnerService.{SaysTold}
-use Rattle.auc_run.specs.Service.{EndsUnnamed, IsTold}
-use Rattle.auc_run.specs.declared.refusal.Refusal.{Refusal}
-use Rattle.auc_run.specs.declared.refusal.Refusal.TheVariants as refused
-use Rattle.auc_run.specs.declared.status.Status.{Status}
-use Rattle.auc_run.specs.declared.status.Status.TheVariants as status
+use Rattle.auc_input.specs.Opening.{Begins}
+use Rattle.auc_refusal.specs.Told.{Tells, SaysTold, IsTold}
+use Rattle.auc_run.specs.Service.{EndsUnnamed}
+use Rattle.auc_refusal.specs.declared.refusal.Refusal.{Refusal}
+use Rattle.auc_refusal.specs.declared.refusal.Refusal.TheVariants as refused
+use Rattle.auc_refusal.specs.declared.status.Status.{Status}
+use Rattle.auc_refusal.specs.declared.status.Status.TheVariants as status
 use Rattle.auc_subs.specs.declared.row.Row.{Row}
 use Rattle.auc_run.proofs.RememberLemmas.{durable_keeps}
-use Rattle.auc_run.proofs.ServiceLemmas.{heard_said, said_said}
+use Rattle.auc_input.proofs.Facts.{heard_said, said_said}
 
 -- ---- words of no form
 

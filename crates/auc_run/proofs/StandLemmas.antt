@@ -20,19 +20,20 @@ use Rattle.auc_subs.specs.declared.row.Row.{Row}
 use Rattle.auc_transcript.proofs.Facts.{raises_again, raises_first, raises_round}
 use Rattle.auc_world.proofs.Facts.{get_or-greater}
 use Rattle.auc_world.specs.Limits.{opened}
-use Rattle.auc_world.specs.Lines.{all_lines, numbers_of, released_by}
+use Rattle.auc_record.specs.Lines.{all_lines, numbers_of, released_by}
 use Rattle.auc_world.specs.Round.{IsLawfulRound}
-use Rattle.auc_world.specs.Setting.{Setting}
+use Rattle.auc_subs.specs.Setting.{Setting}
 use Rattle.auc_world.specs.Start.{Kept, fresh_kept, kept_by_jobs}
 use Rattle.auc_world.specs.Transcript.{Course, Restarts, after_restart, after_round, beginning}
-use Rattle.auc_world.specs.declared.record.LineRecord.{LineRecord}
-use Rattle.auc_world.specs.declared.record.RoundRecord.{RoundRecord}
-use Rattle.auc_run.specs.Crash.{IsKept, MayLeave, limits_in}
-use Rattle.auc_run.specs.Inner.{AreEnough, Begins, Covers, Reserves, RoundLeads, StandsAfter, StandsOn, most_at}
+use Rattle.auc_record.specs.declared.record.LineRecord.{LineRecord}
+use Rattle.auc_record.specs.declared.record.RoundRecord.{RoundRecord}
+use Rattle.auc_input.specs.Opening.{limits_in, Begins}
+use Rattle.auc_run.specs.Crash.{IsKept, MayLeave}
+use Rattle.auc_run.specs.Inner.{AreEnough, Covers, Reserves, RoundLeads, StandsAfter, StandsOn, most_at}
 use Rattle.auc_run.proofs.BoundLemmas.{near_is, raised_admits, raised_by}
 use Rattle.auc_run.proofs.QuietLemmas.{lawful_after}
-use Rattle.auc_run.specs.declared.status.Status.{Status}
-use Rattle.auc_run.specs.declared.status.Status.TheVariants.{NoMemory}
+use Rattle.auc_refusal.specs.declared.status.Status.{Status}
+use Rattle.auc_refusal.specs.declared.status.Status.TheVariants.{NoMemory}
 use Rattle.auc_run.proofs.AlwaysLemmas.{count_of, limit_in, since_opening, since_round}
 
 -- what holds of the lines of two lists holds of the first

@@ -15,21 +15,22 @@ use Rattle.auc_lines.specs.declared.part.Part.TheVariants.{Round, Restart}
 use Rattle.auc_print.specs.OneText.{RoundFits}
 use Rattle.auc_print.specs.Text.{restart_text, round_text}
 use Rattle.auc_world.specs.Limits.{opened}
-use Rattle.auc_world.specs.Lines.{all_lines}
-use Rattle.auc_world.specs.Setting.{Setting}
+use Rattle.auc_record.specs.Lines.{all_lines}
+use Rattle.auc_subs.specs.Setting.{Setting}
 use Rattle.auc_world.specs.Transcript.{Course, ServesRound, after_restart}
-use Rattle.auc_world.specs.declared.record.LineRecord.{LineRecord}
-use Rattle.auc_world.specs.declared.record.PartRecord.TheVariants as record_of
-use Rattle.auc_world.specs.declared.record.RoundRecord.{RoundRecord}
+use Rattle.auc_record.specs.declared.record.LineRecord.{LineRecord}
+use Rattle.auc_record.specs.declared.record.PartRecord.TheVariants as record_of
+use Rattle.auc_record.specs.declared.record.RoundRecord.{RoundRecord}
 use Rattle.auc_run.specs.Crash.{IsFull}
-use Rattle.auc_run.specs.Inner.{AreEnough, AreQuiet, Covers, EachLeads, EndsIn, GoesOn, MakesRound, Reserves, RoundLeads, ServesLast, StandsAfter, StandsOn, WritesRound, status_in}
-use Rattle.auc_run.specs.InnerFaults.{RoseInRound, RoseOnDisk}
-use Rattle.auc_run.specs.Outcome.{EndsFull, IsQuiet, IsStopOf, IsWritten}
-use Rattle.auc_run.specs.Refusal.{status_of}
-use Rattle.auc_run.specs.declared.refusal.Refusal.{Refusal}
-use Rattle.auc_run.specs.declared.refusal.Refusal.TheVariants as refused
-use Rattle.auc_run.specs.declared.status.Status.{Status}
-use Rattle.auc_run.specs.declared.status.Status.TheVariants as status
+use Rattle.auc_refusal.specs.Refusal.{status_in, status_of}
+use Rattle.auc_run.specs.Inner.{AreEnough, AreQuiet, Covers, EachLeads, EndsIn, GoesOn, MakesRound, Reserves, RoundLeads, ServesLast, StandsAfter, StandsOn, WritesRound}
+use Rattle.auc_refusal.specs.Faults.{RoseOnDisk, IsQuiet}
+use Rattle.auc_run.specs.InnerFaults.{RoseInRound}
+use Rattle.auc_run.specs.Outcome.{EndsFull, IsStopOf, IsWritten}
+use Rattle.auc_refusal.specs.declared.refusal.Refusal.{Refusal}
+use Rattle.auc_refusal.specs.declared.refusal.Refusal.TheVariants as refused
+use Rattle.auc_refusal.specs.declared.status.Status.{Status}
+use Rattle.auc_refusal.specs.declared.status.Status.TheVariants as status
 use Rattle.auc_run.proofs.QuietLemmas.{jobs_accept_nothing}
 use Rattle.auc_run.proofs.StandLemmas.{covers_before, covers_of, restart_stands}
 

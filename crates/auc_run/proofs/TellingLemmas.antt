@@ -16,18 +16,21 @@ use Rattle.auc_journal.specs.declared.open_why.OpenWhy.{OpenWhy}
 use Rattle.auc_journal.specs.declared.open_why.OpenWhy.TheVariants as unopened
 use Rattle.auc_load.specs.Words.{load_named}
 use Rattle.auc_load.specs.declared.words.LoadWords.{LoadWords}
-use Rattle.auc_run.specs.Crash.{IsNoJournal, Remembers}
-use Rattle.auc_run.specs.Inner.{IsLong, LimitsLeave, LimitsStop, Stops, TellingStops, Tells, TellsLimits, WritesLimits, open_refusal, status_in}
+use Rattle.auc_input.specs.Opening.{IsNoJournal}
+use Rattle.auc_run.specs.Crash.{Remembers}
+use Rattle.auc_refusal.specs.Causes.{open_refusal}
+use Rattle.auc_refusal.specs.Refusal.{status_in, line_of, status_of}
+use Rattle.auc_refusal.specs.Told.{Tells}
+use Rattle.auc_run.specs.Inner.{IsLong, LimitsLeave, LimitsStop, Stops, TellingStops, TellsLimits, WritesLimits}
 use Rattle.auc_run.specs.Outcome.{AreUnknown, MayTell, NeedsNoJournal}
-use Rattle.auc_run.specs.Refusal.{line_of, status_of}
-use Rattle.auc_run.specs.Telling.{AreLimitLines, EndsTelling, IsLongTold, MayBeLong, TellsJournal, journal_named}
-use Rattle.auc_run.specs.Words.{files_named}
-use Rattle.auc_run.specs.declared.forms.JournalForm.{JournalForm}
-use Rattle.auc_run.specs.declared.forms.JournalForm.TheVariants as telling
-use Rattle.auc_run.specs.declared.refusal.Refusal.{Refusal}
-use Rattle.auc_run.specs.declared.refusal.Refusal.TheVariants as refused
-use Rattle.auc_run.specs.declared.status.Status.{Status}
-use Rattle.auc_run.specs.declared.status.Status.TheVariants as status
+use Rattle.auc_input.specs.Words.{journal_named, files_named}
+use Rattle.auc_run.specs.Telling.{AreLimitLines, EndsTelling, IsLongTold, MayBeLong, TellsJournal}
+use Rattle.auc_input.specs.declared.forms.JournalForm.{JournalForm}
+use Rattle.auc_input.specs.declared.forms.JournalForm.TheVariants as telling
+use Rattle.auc_refusal.specs.declared.refusal.Refusal.{Refusal}
+use Rattle.auc_refusal.specs.declared.refusal.Refusal.TheVariants as refused
+use Rattle.auc_refusal.specs.declared.status.Status.{Status}
+use Rattle.auc_refusal.specs.declared.status.Status.TheVariants as status
 use Rattle.auc_run.proofs.CauseLemmas.{long_found, ok_err, some_none, telling_alone}
 use Rattle.auc_run.proofs.RememberLemmas.{durable_keeps}
 use Rattle.auc_run.proofs.TopLemmas.{Appends-nothing, from_old}

@@ -2,20 +2,23 @@
 use Rattle.std.proofs.Common.{◌≡◌, ◌⊎◌, ℕ, List, [], Option, Some, None, inl, inr, refl, sym, ◌∙◌, ap, subst, append-nil}
 use Rattle.auc_edge.specs.Shelf.{File}
 use Rattle.auc_edge.specs.Sink.{Appends, AppendsFront}
-use Rattle.auc_run.specs.Inner.{FilesLeave, IsSilent, JournalStops, Stops, Tells, open_refusal}
+use Rattle.auc_input.specs.Opening.{JournalStops, IsNoJournal}
+use Rattle.auc_refusal.specs.Causes.{open_refusal}
+use Rattle.auc_refusal.specs.Told.{Tells}
+use Rattle.auc_run.specs.Inner.{FilesLeave, IsSilent, Stops}
 use Rattle.auc_load.specs.declared.words.LoadWords.{LoadWords}
-use Rattle.auc_run.specs.Outcome.{EndsLoad, IsCause, IsQuiet, IsStop, NeedsNoJournal, Refuses, RunsFiles, RunsFull, RunsScenario}
-use Rattle.auc_run.specs.Refusal.{line_of, status_of}
+use Rattle.auc_refusal.specs.Faults.{IsQuiet}
+use Rattle.auc_run.specs.Outcome.{EndsLoad, IsCause, IsStop, NeedsNoJournal, Refuses, RunsFiles, RunsFull, RunsScenario}
+use Rattle.auc_refusal.specs.Refusal.{line_of, status_of}
 use Rattle.auc_journal.specs.declared.open_why.OpenWhy.{OpenWhy}
 use Rattle.auc_journal.specs.declared.open_why.OpenWhy.TheVariants as unopened
-use Rattle.auc_run.specs.Crash.{IsNoJournal}
-use Rattle.auc_run.specs.Telling.{IsLongTold, IsTooLong, journal_named}
-use Rattle.auc_run.specs.Words.{Files, files_named}
-use Rattle.auc_run.specs.declared.forms.JournalForm.{JournalForm}
-use Rattle.auc_run.specs.declared.refusal.Refusal.{Refusal}
-use Rattle.auc_run.specs.declared.refusal.Refusal.TheVariants as refused
-use Rattle.auc_run.specs.declared.status.Status.{Status}
-use Rattle.auc_run.specs.declared.status.Status.TheVariants as status
+use Rattle.auc_input.specs.Words.{journal_named, Files, files_named}
+use Rattle.auc_run.specs.Telling.{IsLongTold, IsTooLong}
+use Rattle.auc_input.specs.declared.forms.JournalForm.{JournalForm}
+use Rattle.auc_refusal.specs.declared.refusal.Refusal.{Refusal}
+use Rattle.auc_refusal.specs.declared.refusal.Refusal.TheVariants as refused
+use Rattle.auc_refusal.specs.declared.status.Status.{Status}
+use Rattle.auc_refusal.specs.declared.status.Status.TheVariants as status
 
 -- ---- texts
 
@@ -23,14 +26,6 @@ use Rattle.auc_run.specs.declared.status.Status.TheVariants as status
 pub Appends-nothing : (old new : Option (List ℕ)) → Appends old new [] → new ≡ old
 Appends-nothing None new is = is
 Appends-nothing (Some old) new is = is ∙ ap Some (append-nil old)
-
--- a whole text, or nothing of it
-pub front_whole : (old new : Option (List ℕ)) (bytes : List ℕ) → Appends old new bytes → AppendsFront old new bytes
-front_whole old new bytes is = record { front = bytes; rest = []; whole = append-nil bytes; appended = is }
-
-pub front_none : (old new : Option (List ℕ)) (bytes : List ℕ) → new ≡ old → AppendsFront old new bytes
-front_none None new bytes same = record { front = []; rest = bytes; whole = refl; appended = same }
-front_none (Some old) new bytes same = record { front = []; rest = bytes; whole = refl; appended = same ∙ ap Some (sym (append-nil old)) }
 
 -- ---- a run of a scenario that ended early, and whose refusal was told
 

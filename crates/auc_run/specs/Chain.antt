@@ -11,15 +11,16 @@ use Rattle.auc_journal.specs.Settled.{IsClosable}
 use Rattle.auc_lines.specs.declared.part.Part.{Part}
 use Rattle.auc_script.specs.declared.script.Script.{Script}
 use Rattle.auc_subs.specs.declared.row.Row.{Row}
-use Rattle.auc_world.specs.Lines.{numbers_of}
+use Rattle.auc_record.specs.Lines.{numbers_of}
 use Rattle.auc_world.specs.Transcript.{Course}
-use Rattle.auc_world.specs.declared.record.LineRecord.{LineRecord}
-use Rattle.auc_run.specs.Crash.{IsFound, IsKept, MayHaveLeft, MayLeave, Remembers, RemembersAlways, limits_in}
+use Rattle.auc_record.specs.declared.record.LineRecord.{LineRecord}
+use Rattle.auc_input.specs.Opening.{IsFound, limits_in}
+use Rattle.auc_run.specs.Crash.{IsKept, MayHaveLeft, MayLeave, Remembers, RemembersAlways}
 use Rattle.auc_run.specs.Outcome.{IsWritten, RunsFiles}
 use Rattle.auc_run.specs.Output.{IsOutput}
 use Rattle.auc_run.specs.Service.{Serves}
-use Rattle.auc_run.specs.Words.{Files}
-use Rattle.auc_run.specs.declared.status.Status.{Status}
+use Rattle.auc_input.specs.Words.{Files}
+use Rattle.auc_refusal.specs.declared.status.Status.{Status}
 
 -- a run or a service: the status with which it ended, what was written before and after it, the subscribers that it named, the lines
 -- of the rounds that it served, and the image on which the next one begins. Of what a service said a chain says nothing

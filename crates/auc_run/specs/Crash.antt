@@ -1,28 +1,17 @@
 -- What a crash leaves of the journal after a run.
-use Rattle.std.specs.Prelude.{◌≡◌, ◌≢◌, ◌⊎◌, ℕ, ◌+◌, ◌<◌, ◌≤◌, ◌^◌, max, List, length, map, All, slice_index, Option, Some, Ok, Err}
+use Rattle.std.specs.Prelude.{◌≡◌, ◌≢◌, ◌⊎◌, ℕ, ◌+◌, ◌<◌, ◌≤◌, ◌^◌, max, List, length, All, slice_index, Option, Some, Ok}
 use Rattle.auc_edge.specs.Identity.{Identity}
 use Rattle.auc_journal.specs.Durable.{IsTold}
-use Rattle.auc_journal.specs.Image.{Frame, Keeps, Reading, read_image, reserved_by, reserved_in}
+use Rattle.auc_journal.specs.Image.{Keeps, Reading, read_image, reserved_by}
 use Rattle.auc_journal.specs.Opening.{IsAsBefore, IsOpening}
 use Rattle.auc_journal.specs.Settled.{IsClosable, LeavesOnly}
 use Rattle.auc_subs.specs.declared.row.Row.{Row}
 use Rattle.auc_world.specs.Limits.{least_step}
-use Rattle.auc_world.specs.Lines.{numbers_of}
+use Rattle.auc_record.specs.Lines.{numbers_of}
 use Rattle.auc_world.specs.Transcript.{Course}
-use Rattle.auc_run.specs.declared.status.Status.{Status}
-use Rattle.auc_run.specs.declared.status.Status.TheVariants.{StoreFault, NotJournal, NoMemory}
-
--- the limits of subscribers by some frames, in the order of their rows; 0 if there is none
-abbrev pub limits_in : List Row → List Frame → List ℕ
-limits_in rows frames = map (λ imsi. reserved_in frames imsi) (map (λ row. row.imsi) rows)
-
--- the bytes of a journal are read as these frames, if the disk reveals the bytes
-abbrev pub IsFound : Option (List ℕ) → List Frame → Type 0
-IsFound seen frames = (file : List ℕ) → seen ≡ Some file → (end : ℕ) × (read_image file ≡ Ok (record { frames = frames; end = end }))
-
--- they are no journal, which this place shows, if the disk reveals them
-abbrev pub IsNoJournal : Option (List ℕ) → ℕ → Type 0
-IsNoJournal seen place = (file : List ℕ) → seen ≡ Some file → read_image file ≡ Err place
+use Rattle.auc_refusal.specs.declared.status.Status.{Status}
+use Rattle.auc_refusal.specs.declared.status.Status.TheVariants.{StoreFault, NotJournal, NoMemory}
+use Rattle.auc_input.specs.Opening.{limits_in}
 
 -- they are a journal, in which one more frame would end after the greatest length, if the disk reveals them
 abbrev pub IsFull : Option (List ℕ) → Type 0

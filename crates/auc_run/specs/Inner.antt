@@ -1,17 +1,12 @@
 -- Inner facts: what only private contracts of this crate cite.
 use Rattle.std.specs.Prelude.{◌≡◌, ◌≢◌, ℕ, ◌+◌, ◌*◌, ◌<◌, ◌≤◌, ◌^◌, ◌↔◌, ◌⊎◌, ◌∷◌, ◌++◌, max, true, false, AllPairs, All, Bool, List, [], length, map, slice_index, Option, Some, None, Result, Ok, Err, OnOk}
-use Rattle.std.specs.Option.{option_copied}
 use Rattle.auc_compact.specs.Compact.{IsAnew, compact_image}
-use Rattle.auc_compact.specs.declared.refusal.CompactRefusal.{CompactRefusal}
-use Rattle.auc_compact.specs.declared.refusal.CompactRefusal.TheVariants as unmade
 use Rattle.auc_edge.specs.Identity.{Identity}
-use Rattle.auc_edge.specs.Shelf.{File, IsLongerFile}
+use Rattle.auc_edge.specs.Shelf.{File}
 use Rattle.auc_edge.specs.Sink.{Appends, AppendsFront}
 use Rattle.auc_edge.specs.declared.no_memory.NoMemory.{NoMemory as NoMemoryError}
 use Rattle.auc_edge.specs.declared.stop.Stop.{Stop}
 use Rattle.auc_edge.specs.declared.stop.Stop.TheVariants.{Fault, Full}
-use Rattle.auc_edge.specs.declared.read_refusal.ReadRefusal.{ReadRefusal}
-use Rattle.auc_edge.specs.declared.read_refusal.ReadRefusal.TheVariants as unread
 use Rattle.auc_forms.specs.Algorithm.{algorithm_named}
 use Rattle.auc_forms.specs.Reserved.{IsReservedText}
 use Rattle.auc_forms.specs.declared.algorithm.AlgorithmForm.{AlgorithmForm}
@@ -19,10 +14,8 @@ use Rattle.auc_journal.specs.Durable.{IsDurable, IsTold}
 use Rattle.auc_journal.specs.Image.{Frame, Keeps, Reading, read_image, reserved_in}
 use Rattle.auc_journal.specs.Journal.{JournalState, imsi_at, limits_of}
 use Rattle.auc_journal.specs.Limits.{AreLimits}
-use Rattle.auc_journal.specs.Opening.{IsOpening, LeavesOpening}
+use Rattle.auc_journal.specs.Opening.{IsOpening}
 use Rattle.auc_journal.specs.Settled.{IsClosable, LeavesOnly}
-use Rattle.auc_journal.specs.declared.open_why.OpenWhy.{OpenWhy}
-use Rattle.auc_journal.specs.declared.open_why.OpenWhy.TheVariants as unopened
 use Rattle.auc_load.specs.Words.{load_named}
 use Rattle.auc_load.specs.declared.words.LoadWords.{LoadWords}
 use Rattle.auc_jobs.specs.Round.{DrewFull}
@@ -31,18 +24,11 @@ use Rattle.auc_jobs.specs.State.{Standing, StandsAt}
 use Rattle.auc_print.specs.OneText.{PartFits, RoundFits}
 use Rattle.auc_print.specs.Text.{part_text, round_text, transcript_text}
 use Rattle.auc_script.specs.Numbers.{most_jobs}
-use Rattle.auc_script.specs.Reading.{script_of}
 use Rattle.auc_script.specs.Scenario.{may_stand_in_block}
 use Rattle.auc_lines.specs.Part.{AreApart}
 use Rattle.auc_lines.specs.declared.part.Line.{Line}
 use Rattle.auc_lines.specs.declared.part.Part.{Part}
 use Rattle.auc_lines.specs.declared.part.Part.TheVariants.{Round, Restart}
-use Rattle.auc_script.specs.declared.refusal.ScriptRefusal.{ScriptRefusal}
-use Rattle.auc_script.specs.declared.refusal.ScriptRefusal.TheVariants as wrong_script
-use Rattle.auc_script.specs.declared.script.Script.{Script}
-use Rattle.auc_subs.specs.File.{subscribers_in}
-use Rattle.auc_subs.specs.declared.refusal.SubsRefusal.{SubsRefusal}
-use Rattle.auc_subs.specs.declared.refusal.SubsRefusal.TheVariants as wrong_subs
 use Rattle.auc_subs.specs.declared.row.Row.{Row}
 use Rattle.auc_transcript.specs.Completeness.{EachPlainSessionAgrees, EachResumedSessionAgrees}
 use Rattle.auc_transcript.specs.Counters.{EachTranscriptKeepsContexts}
@@ -52,83 +38,29 @@ use Rattle.auc_transcript.specs.OneTold.{EachToldTranscriptIsOne}
 use Rattle.auc_transcript.specs.Presented.{EachFailureInSessionsIsByPlace, EachPresentedVectorHasARightMac}
 use Rattle.auc_transcript.specs.SimSessions.{EachSimSessionAgrees}
 use Rattle.auc_transcript.specs.Systems.{EachHonestAuthenticationIsConfirmed}
-use Rattle.auc_world.specs.Setting.{Setting}
+use Rattle.auc_subs.specs.Setting.{Setting}
 use Rattle.auc_world.specs.Limits.{Raises, least_step}
-use Rattle.auc_world.specs.Lines.{all_lines, numbers_of}
+use Rattle.auc_record.specs.Lines.{all_lines, numbers_of}
 use Rattle.auc_world.specs.Transcript.{Course, Leads, ServesPart, ServesRound}
-use Rattle.auc_world.specs.declared.record.LineRecord.{LineRecord}
-use Rattle.auc_world.specs.declared.record.PartRecord.{PartRecord}
-use Rattle.auc_world.specs.declared.record.RoundRecord.{RoundRecord}
-use Rattle.auc_run.specs.Crash.{IsFound, IsFull, IsKept, IsKeptSoFar, IsNoJournal, MayLeave, limits_in}
-use Rattle.auc_run.specs.Outcome.{AreRead, AreRight, AreWrong, EndsFull, HasText, IsStopOf, IsWritten, RunsFiles, max_file}
-use Rattle.auc_run.specs.Refusal.{status_of, line_of}
-use Rattle.auc_run.specs.Telling.{IsLongTold, TellsJournal, journal_named}
-use Rattle.auc_run.specs.Words.{Files, files_named}
-use Rattle.auc_run.specs.declared.forms.InputFiles.{InputFiles}
-use Rattle.auc_run.specs.declared.forms.JournalForm.{JournalForm}
-use Rattle.auc_run.specs.declared.forms.JournalForm.TheVariants as telling
-use Rattle.auc_run.specs.declared.refusal.Refusal.{Refusal}
-use Rattle.auc_run.specs.declared.refusal.Refusal.TheVariants as refused
-use Rattle.auc_run.specs.declared.status.Status.{Status}
-use Rattle.auc_run.specs.declared.status.Status.TheVariants.{Done, SubscribersRefused, ScenarioRefused, ReadFault, WriteFault, StoreFull, TooLong, NoMemory}
-
--- the files, as the code hands their names on
-abbrev pub files_seen : InputFiles → Files
-files_seen files = record { scenario = files.scenario.now; subscribers = option_copied files.subscribers }
+use Rattle.auc_record.specs.declared.record.LineRecord.{LineRecord}
+use Rattle.auc_record.specs.declared.record.PartRecord.{PartRecord}
+use Rattle.auc_record.specs.declared.record.RoundRecord.{RoundRecord}
+use Rattle.auc_input.specs.Opening.{IsNoJournal, JournalStops, limits_in}
+use Rattle.auc_run.specs.Crash.{IsFull, IsKept, IsKeptSoFar, MayLeave}
+use Rattle.auc_input.specs.Reading.{AreRight, AreWrong}
+use Rattle.auc_run.specs.Outcome.{EndsFull, IsStopOf, IsWritten, RunsFiles}
+use Rattle.auc_input.specs.Words.{journal_named, Files, files_named}
+use Rattle.auc_run.specs.Telling.{IsLongTold, TellsJournal}
+use Rattle.auc_input.specs.declared.forms.JournalForm.{JournalForm}
+use Rattle.auc_input.specs.declared.forms.JournalForm.TheVariants as telling
+use Rattle.auc_refusal.specs.declared.refusal.Refusal.{Refusal}
+use Rattle.auc_refusal.specs.declared.refusal.Refusal.TheVariants as refused
+use Rattle.auc_refusal.specs.declared.status.Status.{Status}
+use Rattle.auc_refusal.specs.declared.status.Status.TheVariants.{Done, SubscribersRefused, ScenarioRefused, ReadFault, WriteFault, StoreFull, TooLong, NoMemory}
+use Rattle.auc_refusal.specs.Refusal.{status_in}
+use Rattle.auc_refusal.specs.Told.{OutputStops}
 
 -- ---- why each step of a run is refused
-
--- the refusals of the crates below, as those of a run
-abbrev pub read_refusal : ReadRefusal → Refusal
-read_refusal unread.ReadFault = refused.ReadFault
-read_refusal unread.TooLong = refused.TooLong
-read_refusal unread.NoMemory = refused.NoMemory
-
-abbrev pub subs_refusal : SubsRefusal → Refusal
-subs_refusal (wrong_subs.Row row fault) = refused.Subscribers row fault
-subs_refusal wrong_subs.NoMemory = refused.NoMemory
-
-abbrev pub script_refusal : ScriptRefusal → Refusal
-script_refusal (wrong_script.Line line fault) = refused.Scenario line fault
-script_refusal wrong_script.NoMemory = refused.NoMemory
-
-abbrev pub open_refusal : OpenWhy → Refusal
-open_refusal unopened.StoreFault = refused.StoreFault
-open_refusal (unopened.NotJournal place) = refused.NotJournal place
-open_refusal unopened.NoMemory = refused.NoMemory
-
-abbrev pub compact_refusal : CompactRefusal → Refusal
-compact_refusal unmade.TooLong = refused.TooLong
-compact_refusal unmade.NoMemory = refused.NoMemory
-
--- why a file isn't read
-abbrev pub FileStops : Option (List File) → List ℕ → Refusal → Type 0
-FileStops told name refused.ReadFault = Unit {0}
-FileStops told name refused.TooLong = IsLongerFile told name max_file
-FileStops told name refused.NoMemory = Unit {0}
-FileStops told name _ = ⊥
-
--- why the subscribers with which a run begins aren't read
-abbrev pub SubscribersStop : Option (List File) → Option (List ℕ) → Refusal → Type 0
-SubscribersStop told subscribers (refused.Subscribers row fault) =
-    (name text : List ℕ) × (subscribers ≡ Some name) × HasText told name text × (subscribers_in text ≡ Err (wrong_subs.Row row fault))
-SubscribersStop told subscribers refused.TooLong = (name : List ℕ) × (subscribers ≡ Some name) × IsLongerFile told name max_file
-SubscribersStop told subscribers refused.ReadFault = Unit {0}
-SubscribersStop told subscribers refused.NoMemory = Unit {0}
-SubscribersStop told subscribers _ = ⊥
-
--- why a scenario isn't read after some subscribers
-abbrev pub ScenarioStops : Option (List File) → List ℕ → List Row → Refusal → Type 0
-ScenarioStops told name rows (refused.Scenario line fault) =
-    (text : List ℕ) × HasText told name text × (script_of rows text ≡ Err (wrong_script.Line line fault))
-ScenarioStops told name rows refusal = FileStops told name refusal
-
--- why a journal isn't opened
-abbrev pub JournalStops : Option (List ℕ) → Refusal → Type 0
-JournalStops seen refused.StoreFault = Unit {0}
-JournalStops seen (refused.NotJournal place) = IsNoJournal seen place
-JournalStops seen refused.NoMemory = Unit {0}
-JournalStops seen _ = ⊥
 
 -- why rounds end early
 abbrev pub RoundsStop : Refusal → Type 0
@@ -137,25 +69,6 @@ RoundsStop refused.StoreFault = Unit {0}
 RoundsStop refused.StoreFull = Unit {0}
 RoundsStop refused.NoMemory = Unit {0}
 RoundsStop _ = ⊥
-
--- why a text isn't written
-abbrev pub OutputStops : Refusal → Type 0
-OutputStops refused.WriteFault = Unit {0}
-OutputStops refused.NoMemory = Unit {0}
-OutputStops _ = ⊥
-
--- why the files of a run aren't read
-abbrev pub ReadingStops : Option (List File) → Files → Refusal → Type 0
-ReadingStops told files refused.ReadFault = Unit {0}
-ReadingStops told files refused.NoMemory = Unit {0}
-ReadingStops told files refusal = AreWrong told files refusal
-
--- the files of a run were read: its subscribers, and its script
-pub record IsRead (told : Option (List File)) (files : Files) (rows : List Row) (script : Script) : Type 0 where
-  pub first : List Row
-  pub text : List ℕ
-  pub are_read : AreRead told files first text
-  pub is_script : script_of first text ≡ Ok (script, rows)
 
 -- the rounds of a run's files were served so far, or its rounds didn't begin and nothing was written
 abbrev pub FilesLeave : Option (List File) → Files → Option (List ℕ) → (List ℕ → Type 0) → (List ℕ → Type 0) → Status → Option (List ℕ) → Option (List ℕ) → Type 0
@@ -246,36 +159,7 @@ IsSilent refused.StoreFull old new = Unit {0}
 IsSilent refused.NoMemory old new = Unit {0}
 IsSilent _ old new = new ≡ old
 
--- the line of a refusal isn't written: by a fault, or because memory ran out
-abbrev pub IsUntold : Refusal → Status → Type 0
-IsUntold refused.Usage status = status ≡ WriteFault
-IsUntold (refused.Subscribers row fault) status = (status ≡ WriteFault) ⊎ (status ≡ NoMemory)
-IsUntold (refused.Scenario line fault) status = (status ≡ WriteFault) ⊎ (status ≡ NoMemory)
-IsUntold (refused.NotJournal place) status = (status ≡ WriteFault) ⊎ (status ≡ NoMemory)
-IsUntold _ status = ⊥
-
--- how a run ends with a refusal
-abbrev pub Tells : Refusal → Status → Option (List ℕ) → Option (List ℕ) → Type 0
-Tells refusal status old new = ((status ≡ status_of refusal) × Appends old new (line_of refusal)) ⊎ IsUntold refusal status
-
--- the status of a run that ended so
-abbrev pub status_in : {A : Type 0} → Result A Refusal → Status
-status_in (Ok done) = Done
-status_in (Err refusal) = status_of refusal
-
 -- ---- the journal
-
--- what a run begins with: the journal of a disk, opened for some subscribers
-pub record Begins {D : Type 0} (seen : D → Option (List ℕ)) (may_leave : D → List ℕ → Type 0) (moment : D → ℕ) (left_since : D → ℕ → List ℕ → Type 0) (faults : D → ℕ) (rows : List Row) (from : D) (journal : JournalState D) : Type 0 where
-  pub found : List Frame
-  pub is_found : IsFound (seen from) found
-  pub subscribers : journal.imsis ≡ map (λ row. row.imsi) rows
-  pub all : journal.all ≡ journal.imsis
-  pub limits : limits_of journal ≡ limits_in rows found
-  pub ready : journal.failed ≡ false
-  pub durable : IsDurable seen may_leave from (λ imsi. reserved_in journal.limits imsi) journal
-  pub quiet : faults journal.disk ≡ faults from
-  pub always : LeavesOpening seen may_leave moment left_since from journal.disk
 
 -- the greatest limit that a crash may leave of a subscriber: what was reserved at first, or a step above its greatest word
 abbrev pub most_at : List ℕ → Course → ℕ → ℕ

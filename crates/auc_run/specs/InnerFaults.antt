@@ -1,46 +1,8 @@
 -- Inner facts: what only private contracts of this crate cite. Here: what a call did to the counts of faults of what it spoke to.
-use Rattle.std.specs.Prelude.{◌≡◌, ◌≢◌, ◌⊎◌, ℕ, List, Option, Some, Result, Err, IsErrOf}
+use Rattle.std.specs.Prelude.{◌≡◌, ◌≢◌, ℕ, Option, Some}
 use Rattle.auc_edge.specs.Faults.{Rose}
 use Rattle.auc_edge.specs.declared.stop.Stop.{Stop}
 use Rattle.auc_edge.specs.declared.stop.Stop.TheVariants.{Fault}
-use Rattle.auc_run.specs.Inner.{status_in}
-use Rattle.auc_run.specs.Outcome.{IsQuiet}
-use Rattle.auc_run.specs.Service.{HasQuietWire}
-use Rattle.auc_run.specs.declared.refusal.Refusal.{Refusal}
-use Rattle.auc_run.specs.declared.refusal.Refusal.TheVariants as refused
-
--- a count rose exactly if a call was refused for this fault
-pub record RoseAt {A : Type 0} (fault : Refusal) (result : Result A Refusal) (old new : ℕ) : Type 0 where
-  pub rose : IsErrOf result fault → Rose old new
-  pub same : result ≢ Err fault → new ≡ old
-
--- the count of the file of this name rose exactly if a call couldn't read it
-pub record RoseOf {A : Type 0} (name : List ℕ) (result : Result A Refusal) (old new : List ℕ → ℕ) : Type 0 where
-  pub rose : IsErrOf result refused.ReadFault → Rose (old name) (new name)
-  pub same : result ≢ Err refused.ReadFault → (other : List ℕ) → new other ≡ old other
-
--- the count of a file with one of these names rose exactly if a call couldn't read it
-pub record RoseAmong {A : Type 0} (names : List ℕ → Type 0) (result : Result A Refusal) (old new : List ℕ → ℕ) : Type 0 where
-  pub rose : IsErrOf result refused.ReadFault → (name : List ℕ) × names name × Rose (old name) (new name)
-  pub same : result ≢ Err refused.ReadFault → (name : List ℕ) → new name ≡ old name
-
--- the count of a disk rose if a call was refused for its fault, and only then, unless the output failed or memory ran out later
-pub record RoseOnDisk {A : Type 0} (result : Result A Refusal) (old new : ℕ) : Type 0 where
-  pub rose : IsErrOf result refused.StoreFault → Rose old new
-  pub same : IsQuiet (status_in result) → new ≡ old
-
--- the count of a wire rose exactly if hearing or saying failed
-pub record RoseOnWire {A : Type 0} (result : Result A Refusal) (old new : ℕ) : Type 0 where
-  pub heard : IsErrOf result refused.ReadFault → Rose old new
-  pub said : IsErrOf result refused.WriteFault → Rose old new
-  pub same : HasQuietWire (status_in result) → new ≡ old
-
--- the count of a file or of a wire did exactly if a service couldn't read it, or if hearing or saying failed
-pub record RoseInService {A : Type 0} (names : List ℕ → Type 0) (result : Result A Refusal) (old new : List ℕ → ℕ) (before now : ℕ) : Type 0 where
-  pub read : IsErrOf result refused.ReadFault → Rose before now ⊎ ((name : List ℕ) × names name × Rose (old name) (new name))
-  pub said : IsErrOf result refused.WriteFault → Rose before now
-  pub shelf : result ≢ Err refused.ReadFault → (name : List ℕ) → new name ≡ old name
-  pub wire : HasQuietWire (status_in result) → now ≡ before
 
 -- the count of a disk rose exactly if a fault ended reservations in a round
 pub record RoseInRound (stop : Option Stop) (old new : ℕ) : Type 0 where

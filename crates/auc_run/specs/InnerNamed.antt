@@ -14,11 +14,11 @@ use Rattle.auc_named.specs.Named.{put_words}
 use Rattle.auc_script.specs.Numbers.{longest_realm, most_workers}
 use Rattle.auc_sqn.specs.Number.{max_seq}
 use Rattle.auc_subs.specs.Subscriber.{AreSubscribers}
-use Rattle.auc_world.specs.Lines.{all_lines}
-use Rattle.auc_world.specs.Released.{AreReleased}
-use Rattle.auc_world.specs.Setting.{Setting}
-use Rattle.auc_world.specs.Vectors.{vectors_in}
-use Rattle.auc_world.specs.declared.record.LineRecord.{LineRecord}
+use Rattle.auc_record.specs.Lines.{all_lines}
+use Rattle.auc_record.specs.Released.{AreReleased}
+use Rattle.auc_subs.specs.Setting.{Setting}
+use Rattle.auc_record.specs.Vectors.{vectors_in}
+use Rattle.auc_record.specs.declared.record.LineRecord.{LineRecord}
 
 -- a round of these jobs may be served from a state and a journal: the lines are of known subscribers, the journal is of all
 -- subscribers, and each limit is a number

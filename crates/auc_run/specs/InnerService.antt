@@ -1,12 +1,9 @@
 -- Inner facts of a service: what only private contracts of this crate cite.
-use Rattle.std.specs.Prelude.{◌≡◌, ℕ, ◌+◌, ◌≤◌, ◌-◌, ◌^◌, ◌⊎◌, ◌∷◌, ◌++◌, true, false, All, Bool, List, [], length, Option, None, Result, Ok, Err}
+use Rattle.std.specs.Prelude.{◌≡◌, ℕ, ◌+◌, ◌⊎◌, ◌∷◌, ◌++◌, true, false, All, Bool, List, [], length, Option, None, Result, Ok, Err}
 use Rattle.std.specs.List.{concat}
 use Rattle.auc_block.specs.Block.{blocks_in}
-use Rattle.auc_block.specs.Turns.{Says, SaysFront, Turns}
-use Rattle.auc_block.specs.declared.trouble.Trouble.{Trouble}
-use Rattle.auc_block.specs.declared.trouble.Trouble.TheVariants as trouble
+use Rattle.auc_block.specs.Turns.{Turns}
 use Rattle.auc_block.specs.declared.turn.Turn.{Turn}
-use Rattle.auc_block.specs.declared.turn.Turn.TheVariants.{Heard, Said}
 use Rattle.auc_edge.specs.Shelf.{File}
 use Rattle.auc_edge.specs.declared.stop.Stop.{Stop}
 use Rattle.auc_jobs.specs.State.{Standing}
@@ -15,37 +12,20 @@ use Rattle.auc_journal.specs.Image.{Keeps}
 use Rattle.auc_journal.specs.Journal.{JournalState}
 use Rattle.auc_journal.specs.Settled.{IsClosable, LeavesOnly}
 use Rattle.auc_print.specs.OneText.{PartFits}
-use Rattle.auc_script.specs.Reading.{header_of}
 use Rattle.auc_script.specs.declared.script.Script.{Script}
 use Rattle.auc_subs.specs.declared.row.Row.{Row}
 use Rattle.auc_world.specs.Transcript.{Course, Leads, beginning}
 use Rattle.auc_run.specs.Crash.{IsFull, IsKept, MayLeave}
 use Rattle.auc_run.specs.Inner.{IsKnownPart, IsLeftInRun, StandsAfter, stopped_by}
-use Rattle.auc_run.specs.Outcome.{BeginsWith}
 use Rattle.auc_run.specs.Output.{setting_of}
-use Rattle.auc_run.specs.Refusal.{status_of}
-use Rattle.auc_run.specs.Service.{Answer, HasReplied, IsAnswer, IsEarlyCause, IsHeaderWrong, IsLastReply, IsLate, IsSaid, IsServiceStop, IsTold, LeavesNone, Serves, blocks_of, most_block, parts_in, ready_reply, records_in, replies_in}
-use Rattle.auc_run.specs.Turns.{heard_in, said_in}
-use Rattle.auc_run.specs.declared.refusal.Refusal.{Refusal}
-use Rattle.auc_run.specs.declared.refusal.Refusal.TheVariants as refused
-use Rattle.auc_run.specs.declared.status.Status.{Status}
-use Rattle.auc_run.specs.declared.status.Status.TheVariants.{Done, NoMemory, StoreFull, TooLong}
-
--- the refusal of a block that isn't heard
-abbrev pub trouble_refusal : Trouble → Refusal
-trouble_refusal trouble.Failed = refused.ReadFault
-trouble_refusal trouble.NoMemory = refused.NoMemory
-trouble_refusal trouble.Endless = refused.TooLong
-
--- why a text isn't said whole: saying failed after its first bytes, or memory ran out before
-abbrev pub IsSaidUpTo : List ℕ → Option (List Turn) → Option (List Turn) → Refusal → Type 0
-IsSaidUpTo text old new refused.WriteFault = SaysFront old new text
-IsSaidUpTo text old new refused.NoMemory = new ≡ old
-IsSaidUpTo text old new _ = ⊥
-
--- the line of a refusal was told, and nothing was heard
-abbrev pub SaysTold : Refusal → Status → Option (List Turn) → Option (List Turn) → Type 0
-SaysTold refusal status old new = (said : List ℕ) × Says old new said × IsTold refusal status said
+use Rattle.auc_refusal.specs.Refusal.{status_of}
+use Rattle.auc_run.specs.Service.{Answer, IsAnswer, IsLastReply, IsLate, IsSaid, IsServiceStop, LeavesNone, Serves, blocks_of, parts_in, records_in, replies_in}
+use Rattle.auc_input.specs.Turns.{heard_in, said_in}
+use Rattle.auc_refusal.specs.declared.refusal.Refusal.{Refusal}
+use Rattle.auc_refusal.specs.declared.refusal.Refusal.TheVariants as refused
+use Rattle.auc_refusal.specs.declared.status.Status.{Status}
+use Rattle.auc_refusal.specs.declared.status.Status.TheVariants.{Done, NoMemory, StoreFull, TooLong}
+use Rattle.auc_input.specs.Header.{AreTaken, HasRepliedEach}
 
 -- why a service ends before the end of its input
 abbrev pub ServiceStops : Refusal → Type 0
@@ -56,16 +36,6 @@ ServiceStops refused.StoreFull = Unit {0}
 ServiceStops refused.TooLong = Unit {0}
 ServiceStops refused.NoMemory = Unit {0}
 ServiceStops _ = ⊥
-
--- the first whole blocks of what was heard were taken, and the others are those of what waits
-abbrev pub AreTaken : List ℕ → List (List ℕ) → List ℕ → Type 0
-AreTaken heard front waiting = blocks_in heard ≡ record { whole = front ++ (blocks_in waiting).whole; left = (blocks_in waiting).left }
-
--- so it was whenever more was heard, from here on
-abbrev pub HasRepliedEach : List (List ℕ) → List ℕ → List ℕ → List Turn → Type 0
-HasRepliedEach replies heard said [] = Unit {0}
-HasRepliedEach replies heard said (Heard piece ∷ turns) = HasReplied replies heard said × HasRepliedEach replies (heard ++ piece) said turns
-HasRepliedEach replies heard said (Said bytes ∷ turns) = HasRepliedEach replies heard (said ++ bytes) turns
 
 -- blocks were answered, the next ones were taken, and a round goes on from here; the state knows no lines of earlier rounds
 pub record IsServing {D : Type 0} (seen : D → Option (List ℕ)) (may_leave : D → List ℕ → Type 0) (moment : D → ℕ) (left_since : D → ℕ → List ℕ → Type 0) (rows : List Row) (header : Script) (from : D) (reserved first : List ℕ) (taken : List (List ℕ)) (waiting : List ℕ)
@@ -145,50 +115,6 @@ IsTurned {D} seen may_leave moment left_since rows header taken waiting waits nu
     EndsServing seen may_leave moment left_since rows header taken waiting number state journal (status_of refusal) after.disk old new
 
 -- ---- the header
-
--- the first whole block was taken, and nothing was said: each piece was heard because no block was whole
-pub record TookHeader (first waiting : List ℕ) (old new : Option (List Turn)) : Type 0 where
-  pub turns : List Turn
-  pub took : Turns old new turns
-  pub heard : AreTaken (heard_in turns) (first ∷ []) waiting
-  pub silent : said_in turns ≡ []
-  pub prompt : HasRepliedEach (ready_reply ∷ []) [] [] turns
-
--- and it is a header that is right after some subscribers
-pub record HearsFirst (before rows : List Row) (header : Script) (waiting : List ℕ) (old new : Option (List Turn)) : Type 0 where
-  pub first : List ℕ
-  pub took : TookHeader first waiting old new
-  pub short : length first ≤ most_block
-  pub is_header : header_of before first ≡ Ok (header, rows)
-
--- the subscribers were read, and the header
-pub record HearsHeader (told : Option (List File)) (subscribers : Option (List ℕ)) (rows : List Row) (header : Script) (waiting : List ℕ) (old new : Option (List Turn)) : Type 0 where
-  pub before : List Row
-  pub begins : BeginsWith told subscribers before
-  pub hears : HearsFirst before rows header waiting old new
-
--- a refusal before the header was answered has its cause, and nothing was said
-pub record IsEarly (told : Option (List File)) (subscribers : Option (List ℕ)) (seen : Option (List ℕ)) (refusal : Refusal) (old new : Option (List Turn)) : Type 0 where
-  pub turns : List Turn
-  pub took : Turns old new turns
-  pub silent : said_in turns ≡ []
-  pub cause : IsEarlyCause told subscribers seen (heard_in turns) refusal
-
--- why no header is read after some subscribers
-abbrev pub IsHeaderStop : List Row → Option (List Turn) → Option (List Turn) → Refusal → Type 0
-IsHeaderStop rows old new (refused.Scenario line fault) = (turns : List Turn) × Turns old new turns × (said_in turns ≡ []) × IsHeaderWrong rows (heard_in turns) line fault
-IsHeaderStop rows old new refused.ReadFault = (turns : List Turn) × Turns old new turns × (said_in turns ≡ [])
-IsHeaderStop rows old new refused.NoMemory = (turns : List Turn) × Turns old new turns × (said_in turns ≡ [])
-IsHeaderStop rows old new refused.TooLong = (turns : List Turn) × Turns old new turns × (said_in turns ≡ []) × (2 ^ 64 - 1 ≤ length (heard_in turns))
-IsHeaderStop rows old new _ = ⊥
-
-abbrev pub HeaderStops : Refusal → Type 0
-HeaderStops (refused.Subscribers row fault) = Unit {0}
-HeaderStops (refused.Scenario line fault) = Unit {0}
-HeaderStops refused.ReadFault = Unit {0}
-HeaderStops refused.TooLong = Unit {0}
-HeaderStops refused.NoMemory = Unit {0}
-HeaderStops _ = ⊥
 
 -- blocks were served after a header, or memory ran out before it was answered
 abbrev pub EndsReady : {D : Type 0} → (D → Option (List ℕ)) → (D → List ℕ → Type 0) → (D → ℕ) → (D → ℕ → List ℕ → Type 0) → List Row → Script → D → List ℕ → List ℕ → Status → D → Option (List Turn) → Option (List Turn) → Option (List Turn) → Type 0

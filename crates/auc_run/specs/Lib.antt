@@ -1,11 +1,8 @@
-pub mod Words
 pub mod Crash
 pub mod Output
-pub mod Refusal
 pub mod Telling
 pub mod Outcome
 pub mod Chain
-pub mod Turns
 pub mod Service
 pub mod InnerService
 pub mod InnerNamed

@@ -1,6 +1,6 @@
 -- How a run ends: what each status says of the words, the shelf's files, the journal and the output.
-use Rattle.std.specs.Prelude.{◌≡◌, ℕ, ◌≤◌, ◌⊎◌, List, [], ◌∷◌, ◌++◌, length, Option, Some, None, Ok, Err}
-use Rattle.auc_edge.specs.Shelf.{File, IsFile, IsLongerFile}
+use Rattle.std.specs.Prelude.{◌≡◌, ℕ, ◌⊎◌, List, [], ◌∷◌, ◌++◌, Option, Some, None, Ok}
+use Rattle.auc_edge.specs.Shelf.{File}
 use Rattle.auc_edge.specs.Sink.{Appends, AppendsFront}
 use Rattle.auc_edge.specs.declared.stop.Stop.{Stop}
 use Rattle.auc_edge.specs.declared.stop.Stop.TheVariants.{Fault, Full}
@@ -14,62 +14,26 @@ use Rattle.auc_load.specs.Summary.{load_text}
 use Rattle.auc_load.specs.Words.{load_named}
 use Rattle.auc_load.specs.declared.words.LoadWords.{LoadWords}
 use Rattle.auc_script.specs.Reading.{script_of}
-use Rattle.auc_script.specs.declared.refusal.ScriptRefusal.TheVariants.{Line}
 use Rattle.auc_script.specs.declared.script.Script.{Script}
-use Rattle.auc_subs.specs.File.{subscribers_in}
-use Rattle.auc_subs.specs.declared.refusal.SubsRefusal.TheVariants.{Row as wrong_row}
 use Rattle.auc_subs.specs.declared.row.Row.{Row}
 use Rattle.auc_world.specs.Transcript.{Course}
-use Rattle.auc_world.specs.declared.record.PartRecord.{PartRecord}
-use Rattle.auc_world.specs.declared.record.PartRecord.TheVariants as record_of
-use Rattle.auc_world.specs.declared.record.RoundRecord.{RoundRecord}
-use Rattle.auc_run.specs.Crash.{IsFound, IsKept, IsLeftAnyTime, IsNoJournal, ReservesBelow, limits_in}
+use Rattle.auc_record.specs.declared.record.PartRecord.{PartRecord}
+use Rattle.auc_record.specs.declared.record.PartRecord.TheVariants as record_of
+use Rattle.auc_record.specs.declared.record.RoundRecord.{RoundRecord}
+use Rattle.auc_input.specs.Opening.{IsFound, IsNoJournal, limits_in}
+use Rattle.auc_run.specs.Crash.{IsKept, IsLeftAnyTime, ReservesBelow}
 use Rattle.auc_run.specs.Output.{IsOutput, IsTranscript, text_of}
-use Rattle.auc_run.specs.Refusal.{status_of, line_of}
-use Rattle.auc_run.specs.Telling.{journal_named}
-use Rattle.auc_run.specs.Words.{Files, files_named}
-use Rattle.auc_run.specs.declared.forms.JournalForm.{JournalForm}
-use Rattle.auc_run.specs.declared.forms.JournalForm.TheVariants as telling
-use Rattle.auc_run.specs.declared.refusal.Refusal.{Refusal}
-use Rattle.auc_run.specs.declared.refusal.Refusal.TheVariants as refused
-use Rattle.auc_run.specs.declared.status.Status.{Status}
-use Rattle.auc_run.specs.declared.status.Status.TheVariants.{Done, Usage, SubscribersRefused, ScenarioRefused, ReadFault, WriteFault, StoreFault, NotJournal, StoreFull, TooLong, NoMemory}
+use Rattle.auc_refusal.specs.Refusal.{status_of, line_of}
+use Rattle.auc_input.specs.Words.{journal_named, Files, files_named}
+use Rattle.auc_input.specs.declared.forms.JournalForm.{JournalForm}
+use Rattle.auc_input.specs.declared.forms.JournalForm.TheVariants as telling
+use Rattle.auc_refusal.specs.declared.refusal.Refusal.{Refusal}
+use Rattle.auc_refusal.specs.declared.refusal.Refusal.TheVariants as refused
+use Rattle.auc_refusal.specs.declared.status.Status.{Status}
+use Rattle.auc_refusal.specs.declared.status.Status.TheVariants.{Done, Usage, SubscribersRefused, ScenarioRefused, ReadFault, WriteFault, StoreFault, NotJournal, StoreFull, TooLong, NoMemory}
+use Rattle.auc_input.specs.Reading.{AreRead, AreRight, AreWrong}
 
 -- ---- the input, in the order in which it is read
-
--- how many bytes an input file may have: 64 MiB
-abbrev pub max_file : ℕ
-max_file = 67108864
-
--- the file with this name has this text, if the shelf tells its files; the text is not too long
-pub record HasText (told : Option (List File)) (name text : List ℕ) : Type 0 where
-  pub file : IsFile told name text
-  pub within : length text ≤ max_file
-
--- the subscribers with which a run begins: those of the file that is named, or none
-abbrev pub BeginsWith : Option (List File) → Option (List ℕ) → List Row → Type 0
-BeginsWith told None rows = rows ≡ []
-BeginsWith told (Some name) rows = (text : List ℕ) × HasText told name text × (subscribers_in text ≡ Ok rows)
-
--- the files give the subscribers with which a run begins, and the scenario's text
-pub record AreRead (told : Option (List File)) (files : Files) (rows : List Row) (text : List ℕ) : Type 0 where
-  pub begins : BeginsWith told files.subscribers rows
-  pub has : HasText told files.scenario text
-
--- the file of this name is the next to be read: it is that of the subscribers, or the scenario after the
--- subscribers were read and are right
-abbrev pub IsReadNext : Option (List File) → Files → List ℕ → Type 0
-IsReadNext told files name =
-    (files.subscribers ≡ Some name) ⊎ ((rows : List Row) × BeginsWith told files.subscribers rows × (files.scenario ≡ name))
-
--- the files are right
-pub record AreRight (told : Option (List File)) (files : Files) : Type 0 where
-  pub rows : List Row
-  pub text : List ℕ
-  pub are_read : AreRead told files rows text
-  pub script : Script
-  pub after : List Row
-  pub is_script : script_of rows text ≡ Ok (script, after)
 
 -- the words ask for the journal, and no file that is read before it is wrong
 abbrev pub OpensJournal : List (List ℕ) → Option (List File) → Type 0
@@ -190,15 +154,6 @@ EndsUsage _ old new = ⊥
 
 -- ---- what is refused
 
--- what is wrong with the files, the first of it in the order in which they are read
-abbrev pub AreWrong : Option (List File) → Files → Refusal → Type 0
-AreWrong told files (refused.Subscribers row fault) =
-    (name text : List ℕ) × (files.subscribers ≡ Some name) × HasText told name text × (subscribers_in text ≡ Err (wrong_row row fault))
-AreWrong told files (refused.Scenario line fault) =
-    (rows : List Row) × (text : List ℕ) × AreRead told files rows text × (script_of rows text ≡ Err (Line line fault))
-AreWrong told files refused.TooLong = (name : List ℕ) × IsReadNext told files name × IsLongerFile told name max_file
-AreWrong told files _ = ⊥
-
 -- the cause of a refusal: the words have no form, what is wrong with the files that they name, or that the file of the
 -- journal is none
 abbrev pub IsCause : List (List ℕ) → Option (List File) → Option (List ℕ) → Refusal → Type 0
@@ -236,13 +191,6 @@ EndsBefore words told seen _ old new = ⊥
 -- a fault, a journal that is full, or want of memory
 abbrev pub IsStop : Status → Type 0
 IsStop status = (status ≡ ReadFault) ⊎ (status ≡ WriteFault) ⊎ (status ≡ StoreFault) ⊎ (status ≡ StoreFull) ⊎ (status ≡ NoMemory)
-
--- no call of the disk failed in a run that ended so
-abbrev pub IsQuiet : Status → Type 0
-IsQuiet StoreFault = ⊥
-IsQuiet WriteFault = ⊥
-IsQuiet NoMemory = ⊥
-IsQuiet _ = Unit {0}
 
 -- how a run may end whose words name files that are right, and whose journal is one
 abbrev pub MayRun : Status → Type 0

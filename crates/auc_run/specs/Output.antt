@@ -6,7 +6,7 @@ use Rattle.auc_lines.specs.declared.part.Part.{Part}
 use Rattle.auc_print.specs.Text.{transcript_text}
 use Rattle.auc_script.specs.declared.script.Script.{Script}
 use Rattle.auc_subs.specs.declared.row.Row.{Row}
-use Rattle.auc_world.specs.Setting.{Setting}
+use Rattle.auc_subs.specs.Setting.{Setting}
 use Rattle.auc_transcript.specs.Completeness.{PlainSessionsAgree, ResumedSessionsAgree}
 use Rattle.auc_transcript.specs.Counters.{KeepsContexts}
 use Rattle.auc_transcript.specs.Headline.{AreAboveReserved, VectorsDiffer, AcceptsNoneTwice, FailsExactlyByPlace}
@@ -17,7 +17,7 @@ use Rattle.auc_transcript.specs.SimSessions.{SimSessionsAgree}
 use Rattle.auc_transcript.specs.Systems.{AuthenticationsAreConfirmed}
 use Rattle.auc_world.specs.Net.{Net}
 use Rattle.auc_world.specs.Transcript.{Course, Leads, IsLawful, beginning, lines_of}
-use Rattle.auc_world.specs.declared.record.PartRecord.{PartRecord}
+use Rattle.auc_record.specs.declared.record.PartRecord.{PartRecord}
 
 -- the keys of the random bytes and of the names, the rows and the realm with which the lines of a script are served
 abbrev pub setting_of : List Row → Script → Setting

@@ -1,11 +1,10 @@
 -- What a service does: the blocks that it hears, its replies, and how it ends.
-use Rattle.std.specs.Prelude.{◌≡◌, ℕ, ◌+◌, ◌<◌, ◌≤◌, ◌^◌, ◌-◌, ◌==◌, ◌⊎◌, ◌∷◌, ◌++◌, nat_lt, Bool, All, List, [], length, map, take, codes, Option, Some, None, Result, Ok, Err, if◌then◌else◌}
-use Rattle.std.specs.List.{concat, count_by, flat_map}
-use Rattle.auc_block.specs.Block.{blocks_in, first_block}
+use Rattle.std.specs.Prelude.{◌≡◌, ℕ, ◌≤◌, ◌^◌, ◌-◌, ◌⊎◌, ◌∷◌, ◌++◌, nat_lt, Bool, All, List, [], length, map, Option, Some, None, Result, Ok, Err, if◌then◌else◌}
+use Rattle.std.specs.List.{concat, flat_map}
+use Rattle.auc_block.specs.Block.{blocks_in}
 use Rattle.auc_block.specs.Turns.{Turns}
 use Rattle.auc_block.specs.declared.turn.Turn.{Turn}
-use Rattle.auc_block.specs.declared.turn.Turn.TheVariants.{Heard}
-use Rattle.auc_edge.specs.Shelf.{File, IsLongerFile}
+use Rattle.auc_edge.specs.Shelf.{File}
 use Rattle.auc_edge.specs.declared.stop.Stop.{Stop}
 use Rattle.auc_edge.specs.declared.stop.Stop.TheVariants.{Fault, Full}
 use Rattle.auc_journal.specs.Image.{Frame}
@@ -16,43 +15,28 @@ use Rattle.auc_print.specs.Text.{round_text}
 use Rattle.auc_script.specs.Reading.{block_of, header_of}
 use Rattle.auc_script.specs.declared.refusal.ScriptRefusal.{ScriptRefusal}
 use Rattle.auc_script.specs.declared.refusal.ScriptRefusal.TheVariants as wrong
-use Rattle.auc_reading.specs.declared.refusal.ScriptWhy.{ScriptWhy}
 use Rattle.auc_reading.specs.declared.refusal.ScriptWhy.TheVariants as why
 use Rattle.auc_script.specs.declared.script.Script.{Script}
-use Rattle.auc_subs.specs.File.{subscribers_in}
-use Rattle.auc_subs.specs.declared.refusal.SubsRefusal.TheVariants.{Row as wrong_row}
 use Rattle.auc_subs.specs.declared.row.Row.{Row}
-use Rattle.auc_world.specs.Setting.{Setting}
+use Rattle.auc_subs.specs.Setting.{Setting}
 use Rattle.auc_world.specs.Transcript.{Course}
-use Rattle.auc_world.specs.declared.record.PartRecord.{PartRecord}
-use Rattle.auc_world.specs.declared.record.PartRecord.TheVariants as record_of
-use Rattle.auc_world.specs.declared.record.RoundRecord.{RoundRecord}
-use Rattle.auc_run.specs.Crash.{IsFound, IsKept, IsLeftAnyTime, IsNoJournal, limits_in}
-use Rattle.auc_run.specs.Outcome.{BeginsWith, HasText, max_file}
+use Rattle.auc_record.specs.declared.record.PartRecord.{PartRecord}
+use Rattle.auc_record.specs.declared.record.PartRecord.TheVariants as record_of
+use Rattle.auc_record.specs.declared.record.RoundRecord.{RoundRecord}
+use Rattle.auc_input.specs.Opening.{IsFound, limits_in}
+use Rattle.auc_run.specs.Crash.{IsKept, IsLeftAnyTime}
+use Rattle.auc_input.specs.Reading.{BeginsWith}
 use Rattle.auc_run.specs.Output.{IsOutput, setting_of}
-use Rattle.auc_run.specs.Refusal.{line_of, status_of}
-use Rattle.auc_run.specs.Turns.{heard_in, said_in}
-use Rattle.auc_run.specs.declared.refusal.Refusal.{Refusal}
-use Rattle.auc_run.specs.declared.refusal.Refusal.TheVariants as refused
-use Rattle.auc_run.specs.declared.status.Status.{Status}
-use Rattle.auc_run.specs.declared.status.Status.TheVariants.{Done, SubscribersRefused, ScenarioRefused, ReadFault, WriteFault, StoreFault, StoreFull, TooLong, NoMemory}
+use Rattle.auc_input.specs.Turns.{heard_in, said_in}
+use Rattle.auc_refusal.specs.declared.refusal.Refusal.{Refusal}
+use Rattle.auc_refusal.specs.declared.refusal.Refusal.TheVariants as refused
+use Rattle.auc_refusal.specs.declared.status.Status.{Status}
+use Rattle.auc_refusal.specs.declared.status.Status.TheVariants.{Done, SubscribersRefused, ScenarioRefused, ReadFault, WriteFault, StoreFault, StoreFull, TooLong, NoMemory}
+use Rattle.auc_refusal.specs.Replies.{end_line, most_block, ready_reply, refusal_reply, reply_to_rest}
+use Rattle.auc_input.specs.Header.{IsEarlyCause, IsPrompt}
+use Rattle.auc_refusal.specs.Told.{IsTold}
 
 -- ---- blocks and replies
-
--- how many bytes a block may have, without its line `end`
-abbrev pub most_block : ℕ
-most_block = 1048576
-
--- the last line of each reply, and the reply to a header that is right
-abbrev pub end_line : List ℕ
-end_line = codes "end\n"
-
-abbrev pub ready_reply : List ℕ
-ready_reply = codes "ready\n" ++ end_line
-
--- the reply that refuses a line
-abbrev pub refusal_reply : ℕ → ScriptWhy → List ℕ
-refusal_reply line fault = line_of (refused.Scenario line fault) ++ end_line
 
 -- what a block asks for: the jobs of its round, if it has one, or its first wrong line. One that is too long is refused as line 0
 abbrev pub asked_of : List Row → List ℕ → Result (Option (List (List Line))) ScriptRefusal
@@ -88,19 +72,6 @@ records_in answers = flat_map (λ a. a.records) answers
 abbrev pub replies_in : List Answer → List (List ℕ)
 replies_in answers = ready_reply ∷ map (λ a. a.reply) answers
 
--- the number of the last line of a text, from 1; the text ends in it, or with the LF before it
-abbrev pub last_line : List ℕ → ℕ
-last_line text = count_by (λ byte. byte == 10) text + 1
-
--- what is wrong with a block that the end of the input cuts off, by what was heard of it
-abbrev pub cut_off : List ℕ → ℕ × ScriptWhy
-cut_off left = if nat_lt most_block (length left) then (0, why.Limit) else (last_line left, why.Unfinished)
-
--- the reply to it; there is none if nothing of it was heard
-abbrev pub reply_to_rest : List ℕ → List ℕ
-reply_to_rest [] = []
-reply_to_rest (byte ∷ more) = refusal_reply (cut_off (byte ∷ more)).0 (cut_off (byte ∷ more)).1
-
 -- ---- a service
 
 -- why reservations had stopped in the last round of a service that ended so, if they had; a reply that fails may end either
@@ -130,15 +101,6 @@ IsLastReply _ left reply = reply ≡ []
 abbrev pub IsSaid : Status → List ℕ → List ℕ → Type 0
 IsSaid WriteFault said text = (rest : List ℕ) × (said ++ rest ≡ text)
 IsSaid _ said text = said ≡ text
-
--- each whole block of what was heard had its reply, and nothing else was said
-pub record HasReplied (replies : List (List ℕ)) (heard said : List ℕ) : Type 0 where
-  pub count : length (blocks_in heard).whole ≤ length replies
-  pub only : said ≡ concat (take (length (blocks_in heard).whole) replies)
-
--- so it was whenever more was heard
-abbrev pub IsPrompt : List (List ℕ) → List Turn → Type 0
-IsPrompt replies turns = (before after : List Turn) (piece : List ℕ) → turns ≡ before ++ Heard piece ∷ after → HasReplied replies (heard_in before) (said_in before)
 
 -- how many blocks a service answers after its header
 abbrev pub most_blocks : ℕ
@@ -189,12 +151,6 @@ pub record Serves (told : Option (List File)) (subscribers : Option (List ℕ)) 
   -- what a crash at any moment of the service has left of the journal, also while the threads of a round ran
   pub always : (image : List ℕ) → ever image → IsLeftAnyTime seen status rows (limits_in rows found) service.end image
 
--- a service that ended so had no fault of its wire
-abbrev pub HasQuietWire : Status → Type 0
-HasQuietWire ReadFault = ⊥
-HasQuietWire WriteFault = ⊥
-HasQuietWire _ = Unit {0}
-
 -- a service ended before the journal was opened, by what was read or heard
 abbrev pub IsBeforeOpening : Status → Type 0
 IsBeforeOpening SubscribersRefused = Unit {0}
@@ -202,32 +158,6 @@ IsBeforeOpening ScenarioRefused = Unit {0}
 IsBeforeOpening _ = ⊥
 
 -- ---- a service that serves nothing
-
--- what is wrong with the header by what was heard: its first wrong line, that it is too long, or that the input ended before its end
-abbrev pub IsHeaderWrong : List Row → List ℕ → ℕ → ScriptWhy → Type 0
-IsHeaderWrong rows heard line fault =
-    ((first rest : List ℕ) × (first_block heard ≡ Some (first, rest)) × (length first ≤ most_block) × (header_of rows first ≡ Err (wrong.Line line fault)))
-    ⊎ ((first rest : List ℕ) × (first_block heard ≡ Some (first, rest)) × (most_block < length first) × (line ≡ 0) × (fault ≡ why.Limit))
-    ⊎ ((first_block heard ≡ None) × ((line, fault) ≡ cut_off heard))
-
--- the cause of a refusal before the header was answered, by what was heard
-abbrev pub IsEarlyCause : Option (List File) → Option (List ℕ) → Option (List ℕ) → List ℕ → Refusal → Type 0
-IsEarlyCause told subscribers seen heard (refused.Subscribers row fault) =
-    (name text : List ℕ) × (subscribers ≡ Some name) × HasText told name text × (subscribers_in text ≡ Err (wrong_row row fault)) × (heard ≡ [])
-IsEarlyCause told subscribers seen heard (refused.Scenario line fault) = (rows : List Row) × BeginsWith told subscribers rows × IsHeaderWrong rows heard line fault
-IsEarlyCause told subscribers seen heard (refused.NotJournal place) = IsNoJournal seen place
-IsEarlyCause told subscribers seen heard refused.TooLong =
-    ((name : List ℕ) × (subscribers ≡ Some name) × IsLongerFile told name max_file) ⊎ (2 ^ 64 - 1 ≤ length heard)
-IsEarlyCause told subscribers seen heard refused.ReadFault = Unit {0}
-IsEarlyCause told subscribers seen heard refused.StoreFault = Unit {0}
-IsEarlyCause told subscribers seen heard refused.NoMemory = Unit {0}
-IsEarlyCause told subscribers seen heard _ = ⊥
-
--- the line of a refusal was said, or some first bytes of it if saying failed, or nothing of it if memory ran out
-abbrev pub IsTold : Refusal → Status → List ℕ → Type 0
-IsTold refusal status said = ((status ≡ status_of refusal) × (said ≡ line_of refusal))
-    ⊎ ((status ≡ WriteFault) × (rest : List ℕ) × (said ++ rest ≡ line_of refusal))
-    ⊎ ((status ≡ NoMemory) × (said ≡ []))
 
 -- nothing was served: a refusal has its cause, and its line was told
 pub record EndsUnserved (told : Option (List File)) (subscribers : Option (List ℕ)) (seen : Option (List ℕ)) (status : Status) (old new : Option (List Turn)) : Type 0 where

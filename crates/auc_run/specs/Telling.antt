@@ -1,22 +1,19 @@
 -- The forms that tell the journal: `reserved`, a line for each of its limits, and `compact`, the bytes of a journal that has the
 -- same limits, each identity once.
-use Rattle.std.specs.Prelude.{◌≡◌, ◌≤◌, ◌<◌, ◌+◌, ◌*◌, ◌^◌, ◌⊎◌, ℕ, List, length, Option, Some, None, if◌then◌else◌}
-use Rattle.auc_compact.specs.Compact.{IsAnew, asks_compact, compact_image}
+use Rattle.std.specs.Prelude.{◌≡◌, ◌≤◌, ◌<◌, ◌+◌, ◌*◌, ◌^◌, ◌⊎◌, ℕ, List, length, Option, Some}
+use Rattle.auc_compact.specs.Compact.{IsAnew, compact_image}
 use Rattle.auc_edge.specs.Sink.{Appends, AppendsFront}
-use Rattle.auc_forms.specs.Reserved.{IsReservedText, asks_reserved}
+use Rattle.auc_forms.specs.Reserved.{IsReservedText}
 use Rattle.auc_journal.specs.Image.{Frame}
 use Rattle.auc_journal.specs.Limits.{AreLimits}
-use Rattle.auc_run.specs.Crash.{IsFound, IsNoJournal}
-use Rattle.auc_run.specs.Refusal.{line_of}
-use Rattle.auc_run.specs.declared.forms.JournalForm.{JournalForm}
-use Rattle.auc_run.specs.declared.forms.JournalForm.TheVariants.{Reserved, Compact}
-use Rattle.auc_run.specs.declared.refusal.Refusal.TheVariants as refused
-use Rattle.auc_run.specs.declared.status.Status.{Status}
-use Rattle.auc_run.specs.declared.status.Status.TheVariants.{Done, WriteFault, StoreFault, NotJournal, TooLong, NoMemory}
-
--- the form of these two that the words have, and none if they have neither
-abbrev pub journal_named : List (List ℕ) → Option JournalForm
-journal_named words = if asks_reserved words then Some Reserved else if asks_compact words then Some Compact else None
+use Rattle.auc_input.specs.Opening.{IsFound, IsNoJournal}
+use Rattle.auc_refusal.specs.Refusal.{line_of}
+use Rattle.auc_input.specs.declared.forms.JournalForm.{JournalForm}
+use Rattle.auc_input.specs.declared.forms.JournalForm.TheVariants.{Reserved, Compact}
+use Rattle.auc_refusal.specs.declared.refusal.Refusal.TheVariants as refused
+use Rattle.auc_refusal.specs.declared.status.Status.{Status}
+use Rattle.auc_refusal.specs.declared.status.Status.TheVariants.{Done, WriteFault, StoreFault, NotJournal, TooLong, NoMemory}
+use Rattle.auc_input.specs.Words.{journal_named}
 
 -- ---- what is told
 

@@ -1,44 +1,36 @@
 //! The blocks of a service, one after the other.
 
-ghost use Rattle.std.specs.Prelude.{◌≡◌, ◌≤◌, ◌<◌, ◌+◌, ◌^◌, ◌++◌, ◌∷◌, ℕ, List, [], false, length, Some, Ok, Err, OnOk, OnErr, IfOk, IfErr, IsOk, IsTrue, true};
-ghost use Rattle.auc_block.specs.Turns.{Says};
+ghost use Rattle.std.specs.Prelude.{◌≡◌, ◌≤◌, ◌<◌, ◌+◌, ◌^◌, ◌∷◌, ℕ, List, [], false, length, Some, Ok, Err, OnOk, OnErr, IfOk, IfErr, IsOk, IsTrue, true};
 ghost use Rattle.auc_script.specs.Limits.{IsBlock, IsWithin};
 ghost use Rattle.auc_world.specs.Transcript.{Course};
-ghost use Rattle.auc_world.specs.declared.record.LineRecord.{LineRecord};
-ghost use Rattle.auc_run.specs.Inner.{AreEnough, Covers, MakesRound, RoundsStop, StandsAfter, status_in};
-ghost use Rattle.auc_run.specs.InnerFaults.{RoseAt, RoseInRound, RoseOnDisk, RoseOnWire};
-ghost use Rattle.auc_run.specs.InnerService.{EndsServing, IsSaidUpTo, IsServingAny, IsTurned, ServiceStops, round_answer, trouble_refusal, turned_by};
+ghost use Rattle.auc_record.specs.declared.record.LineRecord.{LineRecord};
+ghost use Rattle.auc_refusal.specs.Refusal.{status_in};
+ghost use Rattle.auc_run.specs.Inner.{AreEnough, Covers, MakesRound, RoundsStop, StandsAfter};
+ghost use Rattle.auc_refusal.specs.Faults.{RoseAt, RoseOnDisk, RoseOnWire};
+ghost use Rattle.auc_run.specs.InnerFaults.{RoseInRound};
+ghost use Rattle.auc_run.specs.InnerService.{EndsServing, IsServingAny, IsTurned, ServiceStops, round_answer, turned_by};
 ghost use Rattle.auc_run.specs.Output.{setting_of};
-ghost use Rattle.auc_run.specs.Service.{asked_of, end_line, most_block, reply_to_rest};
+ghost use Rattle.auc_refusal.specs.Replies.{most_block, reply_to_rest};
+ghost use Rattle.auc_run.specs.Service.{asked_of};
 
-use crate::refusal::{Performed, Refusal};
-use crate::replies::{END, last_line, reply_refusal, say_end};
+use crate::ended::Performed;
 use crate::resources::Resources;
 use crate::rounds::{Made, Settings, Stand, make_round, stopped};
-use crate::top_call::Input;
-use auc_block::{
-    NextBlock, Trouble, Wire, each_block_is_split_off, earlier_blocks_stand, hear_block, say_whole,
-};
+use auc_block::{NextBlock, Wire, each_block_is_split_off, earlier_blocks_stand, hear_block};
 use auc_disk::Disk;
 use auc_edge::{Gate, NoMemory, Octets, Stop};
 use auc_ident::Names;
+use auc_input::{Ear, Input};
 use auc_lines::RoundPart;
 use auc_random::Rands;
+use auc_refusal::{Refusal, reply_refusal, reply_to_rest, say_end, say_reply};
 use auc_script::{ScriptRefusal, ScriptWhy, read_block};
 use auc_world::Setting;
-use std::alloc::Global;
 use std::sync::Wait;
 use std::thread::Threads;
 
 /// How many blocks a service hears after its header.
 const MOST_BLOCKS: u64 = 18_446_744_073_709_551_614;
-
-/// The bytes that were heard and are no whole block yet, and room for what is heard at once.
-#[derive(Drop)]
-pub(crate) struct Ear {
-    pub(crate) waiting: Vec<u8>,
-    pub(crate) room: Vec<u8>,
-}
 
 /// What came of a block: whether the next one is heard.
 #[derive(Drop)]
@@ -171,20 +163,6 @@ fn turned<D: Disk + Drop>(stand: Stand<D>, said: Result<(), Refusal>, more: bool
     BlockStep { stand, result }
 }
 
-/// Replies to an unfinished block at the end of the input, if there is one.
-fn reply_to_rest<W: Wire>(alloc: Global, rest: &[u8], wire: &mut W) -> Result<(), Refusal>
-    requires { length rest.now ≤ most_block }
-    ensures said { OnOk result (Says (W.turns wire.old) (W.turns wire.new) (reply_to_rest rest.now)) }
-    ensures stopped { IfErr result (IsSaidUpTo (reply_to_rest rest.now) (W.turns wire.old) (W.turns wire.new)) }
-    ensures same { W.ended wire.new ≡ W.ended wire.old }
-    ensures wire { RoseAt Refusal.WriteFault result (W.faults wire.old) (W.faults wire.new) }
-{
-    if rest.is_empty() {
-        return Ok(());
-    }
-    reply_refusal(alloc, last_line(rest), ScriptWhy::Unfinished, wire)
-}
-
 /// Serves a block if it is right, and replies to it.
 fn serve_block<R: Threads + Wait + Sync, W: Wire, D: Disk + Drop + Send, G: Gate + Sync>(
     resources: &Resources<R, G>,
@@ -263,7 +241,7 @@ fn serve_jobs<R: Threads + Wait + Sync, W: Wire, D: Disk + Drop + Send, G: Gate 
     match result {
         Ok(stop) => {
             stand.state.forget(resources.alloc);
-            let said = say_round(resources.alloc, &mut stand.text, wire);
+            let said = say_reply(resources.alloc, &mut stand.text, wire);
             turned(stand, round_answer(said, stop), true)
         }
         Err(NoMemory) => turned(stand, Err(Refusal::NoMemory), true),
@@ -320,31 +298,5 @@ fn round_answer(said: Result<(), Refusal>, stop: Option<Stop>) -> Result<(), Ref
     match said {
         Ok(()) => stopped(stop),
         Err(refusal) => Err(refusal),
-    }
-}
-
-/// Says the text of a round and `end`.
-fn say_round<W: Wire>(alloc: Global, text: &mut Octets, wire: &mut W) -> Result<(), Refusal>
-    ensures said { OnOk result (Says (W.turns wire.old) (W.turns wire.new) (text.old ++ end_line)) }
-    ensures done { OnOk result (text.new ≡ []) }
-    ensures stopped { IfErr result (IsSaidUpTo (text.old ++ end_line) (W.turns wire.old) (W.turns wire.new)) }
-    ensures same { W.ended wire.new ≡ W.ended wire.old }
-    ensures wire { RoseAt Refusal.WriteFault result (W.faults wire.old) (W.faults wire.new) }
-{
-    text.append(END)?;
-    say_whole(wire, text.as_slice())?;
-    *text = Octets::new(alloc);
-    Ok(())
-}
-
-impl From<Trouble> for Refusal {
-    ghost from_gives = { λ trouble e. e ≡ trouble_refusal trouble };
-
-    fn from(trouble: Trouble) -> Refusal {
-        match trouble {
-            Trouble::Failed => Refusal::ReadFault,
-            Trouble::NoMemory => Refusal::NoMemory,
-            Trouble::Endless => Refusal::TooLong,
-        }
     }
 }

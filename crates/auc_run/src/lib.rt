@@ -20,30 +20,25 @@
 //! A service hears blocks of lines and replies to each before it hears more. All that is said above of one run's output holds of
 //! the rounds of all blocks that it answered (`specs/Service`).
 //!
-//! `specs/Outcome` says how a run ends, `specs/Refusal` which status and line a refusal has, `specs/Output` what
-//! a run writes; `auc_transcript` says which transcripts are lawful. Memory is taken, the workers' threads are
+//! `specs/Outcome` says how a run ends, `auc_refusal` which status and line a refusal has, `auc_input` what words name and files
+//! give, `specs/Output` what a run writes; `auc_transcript` says which transcripts are lawful. Memory is taken, the workers' threads are
 //! started, and the call waits for them.
 #![tactic(auto)]
 
 mod blocks;
-mod forms;
-mod input;
+mod ended;
 mod law;
 mod load;
 mod named;
-mod opening;
-mod refusal;
-mod refusing;
-mod replies;
 mod resources;
 mod rounds;
 mod service;
-mod status;
 mod telling;
 mod top_call;
 
-pub use input::MAX_FILE;
+pub use auc_input::MAX_FILE;
+pub use auc_refusal::Status;
+pub use ended::Ended;
 pub use law::{each_run_is_one_of_a_chain, no_later_run_draws_a_number_again};
 pub use service::serve;
-pub use status::{Ended, Status};
 pub use top_call::run;

@@ -13,20 +13,22 @@ ghost use Rattle.auc_script.specs.Numbers.{longest_realm, most_jobs, most_worker
 ghost use Rattle.auc_subs.specs.Subscriber.{AreSubscribers};
 ghost use Rattle.auc_world.specs.Round.{IsLawfulRound};
 ghost use Rattle.auc_world.specs.Start.{Kept};
-ghost use Rattle.auc_run.specs.Inner.{LoadStops, OutputStops, status_in};
-ghost use Rattle.auc_run.specs.InnerFaults.{RoseAt};
+ghost use Rattle.auc_refusal.specs.Refusal.{status_in};
+ghost use Rattle.auc_refusal.specs.Told.{OutputStops};
+ghost use Rattle.auc_run.specs.Inner.{LoadStops};
+ghost use Rattle.auc_refusal.specs.Faults.{RoseAt};
 ghost use Rattle.auc_run.specs.Outcome.{EndsLoad, RunsLoad};
 
-use crate::opening::open_journal;
-use crate::refusal::Refusal;
 use auc_disk::{FailList, MemDisk};
 use auc_edge::{Gate, Items, NoMemory, Octets, Sink, write_whole};
 use auc_ident::Names;
+use auc_input::open_journal;
 use auc_jobs::{Ran, Round, Served, State, serve};
 use auc_journal::Journal;
 use auc_lines::JobPart;
 use auc_load::{LoadWords, jobs, key_of, load_words, subscribers, summary};
 use auc_random::Rands;
+use auc_refusal::Refusal;
 use auc_subs::Subscribers;
 use auc_world::{Closing, RoundRecord, Setting};
 use std::alloc::Global;

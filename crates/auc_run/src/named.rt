@@ -1,15 +1,14 @@
 //! A round of plain lines, served over the subscribers that its lines name.
 
-ghost use Rattle.std.specs.Prelude.{◌≡◌, ◌<◌, ◌≤◌, ◌++◌, ℕ, List, [], true, All, length, map, slice_index, IfOk, OnErr, OnOk, if◌then◌else◌};
+ghost use Rattle.std.specs.Prelude.{◌≡◌, ◌<◌, ◌≤◌, List, [], true, All, length, map, slice_index, IfOk, OnErr, OnOk, if◌then◌else◌};
 ghost use Rattle.auc_jobs.specs.Serving.{AreAllKnown};
 ghost use Rattle.auc_jobs.specs.State.{StandsAt};
 ghost use Rattle.auc_lines.specs.declared.part.Line.{Line as LineOf};
 ghost use Rattle.auc_named.specs.Named.{AreNamed, ArePlain, put_words, records_of, round_of};
-ghost use Rattle.auc_subs.specs.Subscriber.{AreSubscribers};
-ghost use Rattle.auc_world.specs.Record.{NamesBelow};
-ghost use Rattle.auc_world.specs.Setting.{Setting as SettingOf};
-ghost use Rattle.auc_world.specs.Vectors.{IsReleasableLine, vectors_in};
-ghost use Rattle.auc_world.specs.declared.record.LineRecord.{LineRecord};
+ghost use Rattle.auc_record.specs.Record.{NamesBelow};
+ghost use Rattle.auc_subs.specs.Setting.{Setting as SettingOf};
+ghost use Rattle.auc_record.specs.Vectors.{IsReleasableLine, vectors_in};
+ghost use Rattle.auc_record.specs.declared.record.LineRecord.{LineRecord};
 ghost use Rattle.auc_run.specs.InnerNamed.{IsLed, IsServed, MayServe};
 
 use crate::rounds::Settings;

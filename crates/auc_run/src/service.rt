@@ -1,6 +1,6 @@
 //! The program's form that stays alive.
 
-ghost use Rattle.std.specs.Prelude.{◌≡◌, ◌≢◌, ◌<◌, ◌⊎◌, ℕ, List, [], length, Option, Some, None, Err, OnOk, IfOk, IfErr, IsErrOf, IsTrue};
+ghost use Rattle.std.specs.Prelude.{◌≡◌, ◌≢◌, ◌<◌, ◌⊎◌, ℕ, List, length, Option, Some, None, Err, OnOk, IfErr, IsErrOf, IsTrue};
 ghost use Rattle.std.specs.Option.{option_copied};
 ghost use Rattle.auc_block.specs.declared.turn.Turn.{Turn};
 ghost use Rattle.auc_edge.specs.Faults.{Rose};
@@ -9,36 +9,32 @@ ghost use Rattle.auc_journal.specs.Durable.{IsTold};
 ghost use Rattle.auc_journal.specs.Journal.{limits_of};
 ghost use Rattle.auc_script.specs.Limits.{IsWithin};
 ghost use Rattle.auc_run.specs.Crash.{IsFull, MayHaveLeft, MayLeave, Remembers, RemembersAlways};
-ghost use Rattle.auc_run.specs.Inner.{Begins, JournalStops, status_in};
-ghost use Rattle.auc_run.specs.InnerFaults.{RoseAt, RoseInService, RoseOnDisk, RoseOnWire};
-ghost use Rattle.auc_run.specs.InnerService.{EndsReady, HeaderStops, HearsFirst, HearsHeader, IsEarly, IsHeaderStop, ServesOr, ServiceStops, TookHeader};
-ghost use Rattle.auc_run.specs.Outcome.{IsQuiet};
-ghost use Rattle.auc_run.specs.Service.{EndsUnnamed, EndsUnserved, HasQuietWire, IsBeforeOpening, Serves};
-ghost use Rattle.auc_run.specs.Words.{service_named};
+ghost use Rattle.auc_input.specs.Opening.{Begins, JournalStops};
+ghost use Rattle.auc_refusal.specs.Refusal.{status_in};
+ghost use Rattle.auc_refusal.specs.Faults.{RoseInService, RoseOnDisk, RoseOnWire, IsQuiet, HasQuietWire};
+ghost use Rattle.auc_input.specs.Header.{HearsHeader, IsEarly, TookHeader};
+ghost use Rattle.auc_run.specs.InnerService.{EndsReady, ServesOr, ServiceStops};
+ghost use Rattle.auc_run.specs.Service.{EndsUnnamed, EndsUnserved, IsBeforeOpening, Serves};
+ghost use Rattle.auc_input.specs.Words.{service_named};
 
-use crate::blocks::{Ear, serve_blocks};
-use crate::forms::{ServiceWords, service_words};
-use crate::input::read_subscribers;
+use crate::blocks::serve_blocks;
+use crate::ended::{Ended, Performed, refused};
 use crate::law::laws_of_transcripts;
-use crate::opening::open_journal;
-use crate::refusal::{Performed, Refusal, refused};
-use crate::replies::{READY, last_line, say_refusal};
 use crate::resources::Resources;
 use crate::rounds::{Stand, first_state};
-use crate::status::{Ended, Status};
-use crate::top_call::{Input, is_realm};
-use auc_block::{NextBlock, Wire, each_block_is_split_off, hear_block, say_whole};
+use crate::top_call::is_realm;
+use auc_block::{Wire, say_whole};
 use auc_disk::Disk;
 use auc_edge::{Gate, Octets, Shelf};
+use auc_input::{Ear, Input, ServiceWords, new_ear, open_journal, read_header, service_words};
 use auc_journal::{Journal, OpenRefused};
-use auc_script::{Script, ScriptWhy};
-use auc_subs::Subscribers;
-use std::alloc::{AllocError, Global};
+use auc_refusal::{Refusal, Status, say_refusal};
+use std::alloc::Global;
 use std::sync::Wait;
 use std::thread::Threads;
 
-/// How many bytes are heard at once.
-const ROOM: usize = 65_536;
+/// The reply to a header that is right.
+const READY: &[u8] = b"ready\nend\n";
 
 /// Serves blocks that are heard, and replies to each before the next one is heard.
 ///
@@ -150,74 +146,6 @@ fn serve_words<R: Threads + Wait + Sync, H: Shelf, W: Wire, D: Disk + Drop + Sen
             disk,
             result: Err(refusal),
         },
-    }
-}
-
-/// Nothing was heard yet.
-fn new_ear(alloc: Global) -> Result<Ear, AllocError>
-    ensures { IfOk result (λ ear. (ear.waiting.items ≡ []) × (0 < length ear.room.items)) }
-{
-    let room = vec![in alloc; 0u8; ROOM]?;
-    Ok(Ear {
-        waiting: Vec::new(alloc),
-        room,
-    })
-}
-
-/// Reads the subscribers, if a file of them is named, and hears the header.
-fn read_header<H: Shelf, W: Wire>(
-    alloc: Global,
-    form: &ServiceWords,
-    shelf: &mut H,
-    wire: &mut W,
-    ear: &mut Ear,
-) -> Result<Input, Refusal>
-    requires room { 0 < length ear.old.room.items }
-    requires nothing { ear.old.waiting.items ≡ [] }
-
-    ensures read { IfOk result (λ input. HearsHeader (H.files shelf.old) (option_copied form.now.subscribers)
-        input.subs input.script ear.new.waiting.items (W.turns wire.old) (W.turns wire.new)) }
-    ensures within { IfOk result (λ input. IsWithin input.subs input.script) }
-    ensures room { length ear.new.room.items ≡ length ear.old.room.items }
-    ensures refused { (seen : Option (List ℕ)) → IfErr result (λ refusal. IsEarly (H.files shelf.old)
-        (option_copied form.now.subscribers) seen refusal (W.turns wire.old) (W.turns wire.new)) }
-    ensures causes { IfErr result HeaderStops }
-
-    // A fault comes only with a risen count.
-    ensures input { RoseInService (λ name. option_copied form.now.subscribers ≡ Some name) result
-        (H.faults shelf.old) (H.faults shelf.new) (W.faults wire.old) (W.faults wire.new) }
-{
-    let mut subs = read_subscribers(alloc, form.subscribers, shelf)?;
-    let script = hear_header(alloc, wire, ear, &mut subs)?;
-    Ok(Input { subs, script })
-}
-
-/// Hears the header, and adds its subscribers to those that there are.
-fn hear_header<W: Wire>(
-    alloc: Global,
-    wire: &mut W,
-    ear: &mut Ear,
-    subs: &mut Subscribers,
-) -> Result<Script, Refusal>
-    requires room { 0 < length ear.old.room.items }
-    requires nothing { ear.old.waiting.items ≡ [] }
-
-    ensures read { IfOk result (λ script. HearsFirst subs.old subs.new script ear.new.waiting.items
-        (W.turns wire.old) (W.turns wire.new)) }
-    ensures within { IfOk result (IsWithin subs.new) }
-    ensures room { length ear.new.room.items ≡ length ear.old.room.items }
-    ensures refused { IfErr result (IsHeaderStop subs.old (W.turns wire.old) (W.turns wire.new)) }
-    ensures wire { RoseAt Refusal.ReadFault result (W.faults wire.old) (W.faults wire.new) }
-{
-    each_block_is_split_off();
-    match hear_block(alloc, wire, &mut ear.waiting, ear.room.as_mut_slice())? {
-        NextBlock::Whole(block) => Ok(Script::read_header(alloc, block.as_slice(), subs)?),
-        NextBlock::TooLong => Err(Refusal::Scenario(0, ScriptWhy::Limit)),
-        NextBlock::EndedTooLong => Err(Refusal::Scenario(0, ScriptWhy::Limit)),
-        NextBlock::Ended => Err(Refusal::Scenario(
-            last_line(ear.waiting.as_slice()),
-            ScriptWhy::Unfinished,
-        )),
     }
 }
 

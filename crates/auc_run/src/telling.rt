@@ -2,15 +2,16 @@
 
 ghost use Rattle.std.specs.Prelude.{◌≡◌, ◌≢◌, ℕ, List, Err, OnOk, IfOk, IfErr};
 ghost use Rattle.auc_edge.specs.Sink.{Appends};
-ghost use Rattle.auc_run.specs.Inner.{LimitsStop, TellsLimits, WritesLimits, status_in};
-ghost use Rattle.auc_run.specs.InnerFaults.{RoseAt};
+ghost use Rattle.auc_refusal.specs.Refusal.{status_in};
+ghost use Rattle.auc_run.specs.Inner.{LimitsStop, TellsLimits, WritesLimits};
+ghost use Rattle.auc_refusal.specs.Faults.{RoseAt};
 
-use crate::forms::JournalForm;
-use crate::refusal::Refusal;
 use auc_compact::compact;
 use auc_edge::{Octets, Sink, write_whole};
 use auc_forms::reserved_lines;
+use auc_input::JournalForm;
 use auc_journal::LimitList;
+use auc_refusal::Refusal;
 use std::alloc::Global;
 
 /// Writes limits in a form.

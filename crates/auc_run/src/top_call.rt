@@ -1,6 +1,6 @@
 //! The top call.
 
-ghost use Rattle.std.specs.Prelude.{◌≡◌, ◌≢◌, ◌≤◌, ◌⊎◌, ℕ, length, true, false, Option, List, [], Some, None, Ok, Err, OnOk, IfOk, IfErr, IsErrOf};
+ghost use Rattle.std.specs.Prelude.{◌≡◌, ◌≢◌, ◌≤◌, ◌⊎◌, ℕ, length, Option, List, [], Some, None, Ok, Err, OnOk, IfErr, IsErrOf};
 ghost use Rattle.auc_edge.specs.Faults.{Rose};
 ghost use Rattle.auc_edge.specs.Shelf.{File};
 ghost use Rattle.auc_edge.specs.Sink.{Appends};
@@ -16,31 +16,30 @@ ghost use Rattle.auc_script.specs.declared.script.Script.{Script};
 ghost use Rattle.auc_subs.specs.declared.row.Row.{Row};
 ghost use Rattle.auc_world.specs.Agreement.{IsRealm};
 ghost use Rattle.auc_run.specs.Crash.{IsFull, MayHaveLeft, MayLeave, Remembers, RemembersAlways};
-ghost use Rattle.auc_run.specs.Inner.{FilesLeave, FilesStop, InputStops, IsBeforeJournal, IsRead, IsSilent, LimitsLeave, OutputStops, ReadingStops, Stops, TellingStops, files_seen, status_in};
-ghost use Rattle.auc_run.specs.InnerFaults.{RoseAmong, RoseAt, RoseOnDisk};
-ghost use Rattle.auc_run.specs.Outcome.{AreRead, AreUnknown, AreWrong, EndsAlgorithm, EndsBefore, EndsLoad, EndsUsage, IsCause, IsQuiet, IsReadNext, IsStop, MayPrint, MayRun, MayTell, NeedsNoJournal, PrintsAlgorithm, Refuses, RunsFiles, RunsFull, RunsLoad, RunsScenario};
-ghost use Rattle.auc_run.specs.Refusal.{MayRefuse};
-ghost use Rattle.auc_run.specs.Telling.{EndsTelling, IsLongTold, IsTooLong, MayBeLong, PrintsJournal, TellsJournal, journal_named};
-ghost use Rattle.auc_run.specs.Words.{Files, files_named};
-ghost use Rattle.auc_run.specs.declared.forms.JournalForm.{JournalForm};
+ghost use Rattle.auc_input.specs.Reading.{IsRead, AreRead, AreWrong, IsReadNext};
+ghost use Rattle.auc_input.specs.Words.{files_seen, journal_named, Files, files_named};
+ghost use Rattle.auc_refusal.specs.Refusal.{status_in, MayRefuse};
+ghost use Rattle.auc_refusal.specs.Told.{OutputStops};
+ghost use Rattle.auc_run.specs.Inner.{FilesLeave, FilesStop, InputStops, IsBeforeJournal, IsSilent, LimitsLeave, Stops, TellingStops};
+ghost use Rattle.auc_refusal.specs.Faults.{RoseAmong, RoseAt, RoseOnDisk, IsQuiet};
+ghost use Rattle.auc_run.specs.Outcome.{AreUnknown, EndsAlgorithm, EndsBefore, EndsLoad, EndsUsage, IsCause, IsStop, MayPrint, MayRun, MayTell, NeedsNoJournal, PrintsAlgorithm, Refuses, RunsFiles, RunsFull, RunsLoad, RunsScenario};
+ghost use Rattle.auc_run.specs.Telling.{EndsTelling, IsLongTold, IsTooLong, MayBeLong, PrintsJournal, TellsJournal};
+ghost use Rattle.auc_input.specs.declared.forms.JournalForm.{JournalForm};
 
-use crate::forms::{InputFiles, JournalForm, input_files, journal_form};
-use crate::input::{read_script, read_subscribers};
+use crate::ended::{Ended, Performed};
 use crate::law::laws_of_transcripts;
 use crate::load::run_load;
-use crate::opening::open_journal;
-use crate::refusal::{Performed, Refusal};
-use crate::refusing::tell;
 use crate::resources::Resources;
 use crate::rounds::serve_parts;
-use crate::status::{Ended, Status};
 use crate::telling::write_limits;
 use auc_disk::Disk;
 use auc_edge::{Gate, Octets, Shelf, Sink, write_whole};
 use auc_forms::{AlgorithmForm, algorithm_lines, algorithm_words};
+use auc_input::{
+    Input, InputFiles, JournalForm, input_files, journal_form, open_journal, read_input,
+};
 use auc_journal::{Journal, OpenRefused};
-use auc_script::Script;
-use auc_subs::Subscribers;
+use auc_refusal::{Refusal, Status, tell};
 use std::alloc::Global;
 use std::sync::Wait;
 use std::thread::Threads;
@@ -299,29 +298,6 @@ pub(crate) fn is_realm(realm: &[u8])
     requires { length realm.now ≤ longest_realm }
     ensures { IsRealm realm.now }
 {}
-
-/// The subscribers and the script of the files of a run.
-#[derive(Drop)]
-pub(crate) struct Input {
-    pub(crate) subs: Subscribers,
-    pub(crate) script: Script,
-}
-
-/// Reads the subscribers, if a file of them is named, and then the scenario.
-#[tactic(auto, using(crate::proofs::RefusalLemmas::subscribers_stop, crate::proofs::RefusalLemmas::scenario_stops))]
-fn read_input<H: Shelf>(alloc: Global, files: &InputFiles, shelf: &mut H) -> Result<Input, Refusal>
-    ensures read { IfOk result (λ input. IsRead (H.files shelf.old) (files_seen files.now) input.subs input.script) }
-    ensures within { IfOk result (λ input. IsWithin input.subs input.script) }
-    ensures refused { IfErr result (ReadingStops (H.files shelf.old) (files_seen files.now)) }
-
-    // A fault comes only with a risen count.
-    ensures shelf { RoseAmong (IsReadNext (H.files shelf.old) (files_seen files.now)) result
-        (H.faults shelf.old) (H.faults shelf.new) }
-{
-    let mut subs = read_subscribers(alloc, files.subscribers, shelf)?;
-    let script = read_script(alloc, files.scenario, shelf, &mut subs)?;
-    Ok(Input { subs, script })
-}
 
 /// Tells a disk's journal in a form.
 fn print_journal<K: Sink, D: Disk + Drop>(

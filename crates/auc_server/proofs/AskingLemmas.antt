@@ -12,14 +12,14 @@ use Rattle.auc_vector.specs.declared.turn.Turn.{Turn}
 use Rattle.auc_server.specs.InnerAsking.{IsRedrawn, number_noted, resync_noted}
 use Rattle.auc_server.specs.InnerServer.{IsNumbered}
 use Rattle.auc_server.specs.Server.{ServerEnd}
-use Rattle.auc_server.specs.Setting.{Setting}
+use Rattle.auc_subs.specs.Setting.{Setting}
 use Rattle.auc_server.specs.Steps.{challenges_again}
 use Rattle.auc_server.specs.Table.{challenged, noted, resynchronised, resynchronising}
 use Rattle.auc_server.specs.declared.asking.Redrawn.{Redrawn}
 use Rattle.auc_server.specs.declared.asking.Redrawn.TheVariants as redrawn
 use Rattle.auc_server.specs.declared.plan.Plan.{Plan}
 use Rattle.auc_server.specs.declared.setting.HomeRow.{HomeRow}
-use Rattle.auc_server.specs.declared.why.ServerWhy.{ServerWhy}
+use Rattle.auc_vector.specs.declared.why.ServerWhy.{ServerWhy}
 
 -- a centre draws a number of the subscriber
 pub numbered : (top : ℕ) (kept : Option ℕ) (drawn : NumberNote) → AnswersNote top kept drawn → IsNumbered top drawn

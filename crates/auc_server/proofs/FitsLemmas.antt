@@ -19,7 +19,7 @@ use Rattle.auc_server.specs.Laws.{EachTurnFits, Fits, Has, HasRenewed, awaits_id
 use Rattle.auc_server.specs.Rows.{server_row, subscriber_in, text_in}
 use Rattle.auc_server.specs.Server.{ServerEnd, challenged_of, resumed_of, started}
 use Rattle.auc_server.specs.State.{last_of}
-use Rattle.auc_server.specs.Setting.{Setting}
+use Rattle.auc_subs.specs.Setting.{Setting}
 use Rattle.auc_server.specs.Table.{asked, challenge_of, challenged, challenged_with, ended, failed, gave_up, identified, names_given, next_given, noted, notified, packets_after, reauthenticated, resumed_keys, resumed_with, resumption, resynchronised, resynchronising, server_does, silent, succeeded, vector_at}
 use Rattle.auc_request.specs.declared.identities.IdentityRequest.{IdentityRequest}
 use Rattle.auc_server.specs.declared.naming.GivenNames.{GivenNames}
@@ -32,8 +32,8 @@ use Rattle.auc_server.specs.declared.server.Resumed.{Resumed}
 use Rattle.auc_server.specs.declared.server.ServerState.{ServerState}
 use Rattle.auc_server.specs.declared.server.ServerState.TheVariants as state
 use Rattle.auc_server.specs.declared.setting.HomeRow.{HomeRow}
-use Rattle.auc_server.specs.declared.why.ServerWhy.{ServerWhy}
-use Rattle.auc_server.specs.declared.why.ServerWhy.TheVariants as why
+use Rattle.auc_vector.specs.declared.why.ServerWhy.{ServerWhy}
+use Rattle.auc_vector.specs.declared.why.ServerWhy.TheVariants as why
 use Rattle.auc_server.proofs.LawLemmas.{IsRight, IsRightToo, Says, awaits_challenge, awaits_reauth, none_challenged, says_row}
 
 no_success : (cause : ServerWhy) (keys : KeySet) (l last : Last) → state.Notifying cause l ≡ state.Ended (outcome.Success keys) last → ⊥

@@ -26,7 +26,7 @@ use Rattle.auc_server.specs.Ordinals.{home_at, home_place, homes_given, homes_wi
 use Rattle.auc_server.specs.Rows.{by_auts, is_held}
 use Rattle.auc_server.specs.Server.{ServerEnd, challenged_of, resumed_of}
 use Rattle.auc_server.specs.Steps.{IsHeld, IsHeldToo, IsHome, IsServed}
-use Rattle.auc_server.specs.Setting.{Setting}
+use Rattle.auc_subs.specs.Setting.{Setting}
 use Rattle.auc_server.specs.Table.{challenged, challenged_with, homes_challenged, homes_done, homes_named, identified, names_given, noted, resumed_with, resynchronised, resynchronising, server_does, vector_at}
 use Rattle.auc_server.specs.declared.naming.GivenNames.{GivenNames}
 use Rattle.auc_server.specs.declared.options.ServerOptions.{ServerOptions}
@@ -35,7 +35,7 @@ use Rattle.auc_server.specs.declared.rows.Row.TheVariants as row
 use Rattle.auc_server.specs.declared.server.Challenged.{Challenged}
 use Rattle.auc_server.specs.declared.server.Resumed.{Resumed}
 use Rattle.auc_server.specs.declared.setting.HomeRow.{HomeRow}
-use Rattle.auc_server.specs.declared.why.ServerWhy.{ServerWhy}
+use Rattle.auc_vector.specs.declared.why.ServerWhy.{ServerWhy}
 
 -- numbers that are tested as equal are
 same_number : (m n : ℕ) → (m == n) ≡ true → m ≡ n

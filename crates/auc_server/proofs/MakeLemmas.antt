@@ -27,7 +27,7 @@ use Rattle.auc_server.specs.Moves.{EachTurnMakesOneMove, IsNewName, IsNewOrNone,
 use Rattle.auc_server.specs.Ordinals.{home_at, home_place, homes_given, homes_with, ordinal_after, ordinal_at, ordinal_given, with_next}
 use Rattle.auc_server.specs.Rows.{server_row, subscriber_in, text_in}
 use Rattle.auc_server.specs.Server.{ServerEnd}
-use Rattle.auc_server.specs.Setting.{Setting}
+use Rattle.auc_subs.specs.Setting.{Setting}
 use Rattle.auc_server.specs.Table.{asked, both_of, challenge_of, challenged, challenged_with, homes_challenged, homes_done, failed, homes_named, identified, identity_given, ignored, name_of, names_given, next_given, noted, notified, packets_after, pseudonym_given, random_at, reauthenticated, resumed_with, resumption, resynchronised, resynchronising, server_does, silent, succeeded, under, unknown, vector_at}
 use Rattle.auc_server.specs.declared.naming.GivenNames.{GivenNames}
 use Rattle.auc_server.specs.declared.options.ServerOptions.{ServerOptions}
@@ -37,7 +37,7 @@ use Rattle.auc_server.specs.declared.server.Challenged.{Challenged}
 use Rattle.auc_server.specs.declared.server.Resumed.{Resumed}
 use Rattle.auc_server.specs.declared.server.ServerState.TheVariants as state
 use Rattle.auc_server.specs.declared.setting.HomeRow.{HomeRow}
-use Rattle.auc_server.specs.declared.why.ServerWhy.TheVariants as why
+use Rattle.auc_vector.specs.declared.why.ServerWhy.TheVariants as why
 use Rattle.auc_server.proofs.HomeLemmas.{challenged_subs, given_subs, left_subs, resumed_subs}
 use Rattle.auc_server.proofs.LawLemmas.{Says, says_row}
 use Rattle.auc_server.proofs.OrdinalLemmas.{IsNear, given_near, left_near}

@@ -14,7 +14,7 @@ use Rattle.auc_server.specs.Contexts.{context_in, homes_left}
 use Rattle.auc_server.specs.Laws.{EachTurnKeepsOrChallenges, Fits, KeepsChallenge, SendsChallenge, awaits_identity}
 use Rattle.auc_server.specs.Rows.{server_row, subscriber_in, text_in}
 use Rattle.auc_server.specs.Server.{ServerEnd, challenged_of}
-use Rattle.auc_server.specs.Setting.{Setting}
+use Rattle.auc_subs.specs.Setting.{Setting}
 use Rattle.auc_server.specs.Steps.{asking}
 use Rattle.auc_server.specs.Table.{challenged, challenged_with, identified, names_given, next_given, noted, packets_after, reauthenticated, resumed_with, resynchronised, resynchronising, server_does, succeeded, vector_at}
 use Rattle.auc_server.specs.declared.naming.GivenNames.{GivenNames}
@@ -23,7 +23,7 @@ use Rattle.auc_server.specs.declared.rows.Row.TheVariants as row
 use Rattle.auc_server.specs.declared.server.Challenged.{Challenged}
 use Rattle.auc_server.specs.declared.server.Resumed.{Resumed}
 use Rattle.auc_server.specs.declared.setting.HomeRow.{HomeRow}
-use Rattle.auc_server.specs.declared.why.ServerWhy.{ServerWhy}
+use Rattle.auc_vector.specs.declared.why.ServerWhy.{ServerWhy}
 use Rattle.auc_server.proofs.FitsLemmas.{no_sent}
 use Rattle.auc_server.proofs.LawLemmas.{Says, none_challenged, says_row}
 

@@ -11,7 +11,7 @@ use Rattle.auc_server.specs.Contexts.{context_in, homes_left}
 use Rattle.auc_server.specs.InnerPlan.{IsPlan, deed_does, homes_planned, needs_of, plan_asks, plan_does}
 use Rattle.auc_server.specs.Rows.{server_row}
 use Rattle.auc_server.specs.Server.{ServerEnd}
-use Rattle.auc_server.specs.Setting.{Setting}
+use Rattle.auc_subs.specs.Setting.{Setting}
 use Rattle.auc_server.specs.Steps.{Steps, asking, needs_number}
 use Rattle.auc_server.specs.Table.{resumed_with}
 use Rattle.auc_server.specs.declared.plan.Deed.{Deed}
@@ -20,7 +20,7 @@ use Rattle.auc_server.specs.declared.plan.Plan.{Plan}
 use Rattle.auc_server.specs.declared.rows.Row.{Row}
 use Rattle.auc_server.specs.declared.rows.Row.TheVariants as row
 use Rattle.auc_server.specs.declared.setting.HomeRow.{HomeRow}
-use Rattle.auc_server.specs.declared.why.ServerWhy.{ServerWhy}
+use Rattle.auc_vector.specs.declared.why.ServerWhy.{ServerWhy}
 
 -- a row needs a number as what it asks for does
 needs_same : (r : Row) (notes : Notes) → needs_of (asking r) notes ≡ needs_number r notes

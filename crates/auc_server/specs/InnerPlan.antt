@@ -14,7 +14,7 @@ use Rattle.auc_server.specs.InnerServer.{HasNext}
 use Rattle.auc_server.specs.Replies.{Replies}
 use Rattle.auc_server.specs.Rows.{is_held, server_row, text_in}
 use Rattle.auc_server.specs.Server.{ServerEnd}
-use Rattle.auc_server.specs.Setting.{Setting}
+use Rattle.auc_subs.specs.Setting.{Setting}
 use Rattle.auc_server.specs.Steps.{asking, challenges_again}
 use Rattle.auc_server.specs.Table.{challenged, failed, first_challenge, homes_challenged, homes_done, identified, identity_asked, ignored, noted, notified, packets_after, reauthenticated, requested, resumed, resynchronised, server_does, silent, succeeded, unknown}
 use Rattle.auc_server.specs.declared.options.ServerOptions.{ServerOptions}
@@ -27,7 +27,7 @@ use Rattle.auc_server.specs.declared.rows.Row.TheVariants as row
 use Rattle.auc_server.specs.declared.reply.Reply.{Reply}
 use Rattle.auc_server.specs.declared.server.ServerState.TheVariants as state
 use Rattle.auc_server.specs.declared.setting.HomeRow.{HomeRow}
-use Rattle.auc_server.specs.declared.why.ServerWhy.{ServerWhy}
+use Rattle.auc_vector.specs.declared.why.ServerWhy.{ServerWhy}
 
 -- ---- what it does
 

@@ -17,7 +17,7 @@ use Rattle.auc_server.specs.Contexts.{homes_left}
 use Rattle.auc_server.specs.Ordinals.{home_at, home_place}
 use Rattle.auc_server.specs.Rows.{server_row, text_in}
 use Rattle.auc_server.specs.Server.{ServerEnd, challenged_of, resumed_of}
-use Rattle.auc_server.specs.Setting.{Setting}
+use Rattle.auc_subs.specs.Setting.{Setting}
 use Rattle.auc_server.specs.Steps.{asking}
 use Rattle.auc_server.specs.Table.{challenge_of, gave_up, homes_after, resumed_keys, resumption, server_step, vector_at}
 use Rattle.auc_server.specs.declared.reply.Reply.{Reply}
@@ -27,7 +27,7 @@ use Rattle.auc_server.specs.declared.server.Resumed.{Resumed}
 use Rattle.auc_server.specs.declared.server.ServerState.{ServerState}
 use Rattle.auc_server.specs.declared.server.ServerState.TheVariants as state
 use Rattle.auc_server.specs.declared.setting.HomeRow.{HomeRow}
-use Rattle.auc_server.specs.declared.why.ServerWhy.{ServerWhy}
+use Rattle.auc_vector.specs.declared.why.ServerWhy.{ServerWhy}
 
 -- keys of the last challenge, under which received bytes have a right AT_MAC
 pub record AreProved (s : ServerEnd) (seen : Seen) (keys : KeySet) : Type 0 where

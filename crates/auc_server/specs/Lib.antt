@@ -16,7 +16,6 @@ pub mod Replies
 pub mod Rounds
 pub mod Rows
 pub mod Server
-pub mod Setting
 pub mod State
 pub mod Steps
 pub mod Table

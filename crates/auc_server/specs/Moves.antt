@@ -12,7 +12,7 @@ use Rattle.auc_vector.specs.declared.notes.NumberNote.TheVariants as number
 use Rattle.auc_server.specs.Contexts.{context_after, won_context}
 use Rattle.auc_server.specs.Ordinals.{home_at, home_place}
 use Rattle.auc_server.specs.Server.{ServerEnd}
-use Rattle.auc_server.specs.Setting.{Setting}
+use Rattle.auc_subs.specs.Setting.{Setting}
 use Rattle.auc_server.specs.Table.{homes_after, server_step}
 use Rattle.auc_server.specs.declared.reply.Reply.{Reply}
 use Rattle.auc_server.specs.declared.server.ServerState.{ServerState}

@@ -31,7 +31,7 @@ use Rattle.auc_server.specs.Attributes.{res_of, auts_of, checkcode_of, error_cod
 use Rattle.auc_server.specs.Contexts.{context_in}
 use Rattle.auc_server.specs.Rounds.{checkcode}
 use Rattle.auc_server.specs.Server.{ServerEnd}
-use Rattle.auc_server.specs.Setting.{Setting}
+use Rattle.auc_subs.specs.Setting.{Setting}
 use Rattle.auc_request.specs.declared.identities.IdentityRequest.{IdentityRequest}
 use Rattle.auc_request.specs.declared.identities.IdentityRequest.TheVariants as asks
 use Rattle.auc_server.specs.declared.options.ServerOptions.{ServerOptions}

@@ -16,7 +16,7 @@ use Rattle.auc_vector.specs.declared.turn.Turn.{Turn}
 use Rattle.auc_server.specs.Replies.{Replies}
 use Rattle.auc_server.specs.Rows.{is_held, server_row}
 use Rattle.auc_server.specs.Server.{ServerEnd, challenged_of, resumed_of}
-use Rattle.auc_server.specs.Setting.{Setting}
+use Rattle.auc_subs.specs.Setting.{Setting}
 use Rattle.auc_server.specs.Table.{homes_after, server_step}
 use Rattle.auc_server.specs.declared.rows.Row.{Row}
 use Rattle.auc_server.specs.declared.rows.Row.TheVariants as row
@@ -24,7 +24,7 @@ use Rattle.auc_server.specs.declared.reply.Reply.{Reply}
 use Rattle.auc_server.specs.declared.server.Challenged.{Challenged}
 use Rattle.auc_server.specs.declared.server.Resumed.{Resumed}
 use Rattle.auc_server.specs.declared.setting.HomeRow.{HomeRow}
-use Rattle.auc_server.specs.declared.why.ServerWhy.{ServerWhy}
+use Rattle.auc_vector.specs.declared.why.ServerWhy.{ServerWhy}
 
 -- a home: a row of the subscribers, and a subscriber of the centre with the row's greatest number
 pub record IsHome (all : List rows.Row) (subs : ℕ) (top : ℕ → ℕ) (sub : ℕ) : Type 0 where

@@ -33,7 +33,7 @@ use Rattle.auc_server.specs.Rounds.{checkcode, heard}
 use Rattle.auc_server.specs.Rows.{server_row, text_in}
 use Rattle.auc_server.specs.Server.{ServerEnd, resumed_of}
 use Rattle.auc_server.specs.State.{last_of}
-use Rattle.auc_server.specs.Setting.{Setting}
+use Rattle.auc_subs.specs.Setting.{Setting}
 use Rattle.auc_request.specs.declared.identities.IdentityRequest.{IdentityRequest}
 use Rattle.auc_server.specs.declared.naming.GivenNames.{GivenNames}
 use Rattle.auc_server.specs.declared.naming.NewNames.{NewNames}
@@ -47,8 +47,8 @@ use Rattle.auc_server.specs.declared.server.Resumed.{Resumed}
 use Rattle.auc_server.specs.declared.server.ServerState.{ServerState}
 use Rattle.auc_server.specs.declared.server.ServerState.TheVariants as state
 use Rattle.auc_server.specs.declared.setting.HomeRow.{HomeRow}
-use Rattle.auc_server.specs.declared.why.ServerWhy.{ServerWhy}
-use Rattle.auc_server.specs.declared.why.ServerWhy.TheVariants as why
+use Rattle.auc_vector.specs.declared.why.ServerWhy.{ServerWhy}
+use Rattle.auc_vector.specs.declared.why.ServerWhy.TheVariants as why
 
 -- ---- notes
 

@@ -17,11 +17,11 @@ use crate::plan::Request;
 use crate::rooms::{ChallengeRooms, ReauthRooms, RequestRooms};
 use crate::rounds::checkcode;
 use crate::server::{Challenged, Server, ServerState};
-use crate::setting::{HomeRow, Setting};
+use crate::setting::HomeRow;
 use crate::turns::{Told, noted};
-use crate::why::ServerWhy;
 use auc_hmac::{Master, Method};
-use auc_vector::{NumberNote, ResyncNote, Turn, Vector, keys_of, master_of, vector};
+use auc_subs::Setting;
+use auc_vector::{NumberNote, ResyncNote, ServerWhy, Turn, Vector, keys_of, master_of, vector};
 
 /// The vector of a subscriber's number, by a session's method and network name.
 fn vector_at(set: &Setting, options: &ServerOptions, sub: u32, n: u64) -> Vector

@@ -9,10 +9,11 @@ use crate::contexts::has_context;
 use crate::options::ServerOptions;
 use crate::rows::Row;
 use crate::server::Server;
-use crate::setting::{HomeRow, Setting};
+use crate::setting::HomeRow;
 use auc_hmac::Method;
 use auc_ident::{NameKind, permanent_in, username};
 use auc_request::IdentityRequest;
+use auc_subs::Setting;
 use auc_vector::{Notes, ResyncNote};
 
 /// Whether a subscriber is one of the homes.

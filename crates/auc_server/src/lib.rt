@@ -32,8 +32,9 @@ mod server;
 mod setting;
 mod sizes;
 mod turns;
-mod why;
 
+pub use auc_subs::Setting;
+pub use auc_vector::ServerWhy;
 pub use law::{
     each_turn_keeps_the_challenge_or_sends_one, each_turn_keeps_the_keys_of_its_inputs,
     each_turn_keeps_the_re_authentication_or_resumes, each_turn_leaves_fewer_packets,
@@ -45,5 +46,4 @@ pub use options::ServerOptions;
 pub use reply::Reply;
 pub use rows::Row;
 pub use server::{Challenged, Last, Resumed, Server, ServerState};
-pub use setting::{HomeRow, Setting};
-pub use why::ServerWhy;
+pub use setting::HomeRow;

@@ -6,8 +6,9 @@ ghost use Rattle.auc_server.specs.Ordinals.{home_place, homes_given, ordinal_aft
 ghost use Rattle.auc_server.specs.Table.{both_of, homes_named, identity_among, index_after, iv_after, name_of, names_given, next_given, random_at, under};
 
 use crate::server::Server;
-use crate::setting::{HomeRow, Setting};
+use crate::setting::HomeRow;
 use auc_ident::NameKind;
+use auc_subs::Setting;
 
 /// The names that a Challenge gives. None has a realm.
 #[derive(Clone, Copy)]

@@ -9,12 +9,12 @@ use crate::asking::{draw, redraw};
 use crate::challenge::Drawn;
 use crate::plan::{Deed, Notice, Plan};
 use crate::server::Server;
-use crate::setting::{HomeRow, Setting};
+use crate::setting::HomeRow;
 use crate::turns::{Told, noted};
-use crate::why::ServerWhy;
 use auc_edge::NoMemory;
 use auc_packet::receive;
-use auc_vector::{Centre, NumberNote, Turn};
+use auc_subs::Setting;
+use auc_vector::{Centre, NumberNote, ServerWhy, Turn};
 use std::sync::Wait;
 
 /// A number that was drawn without a resynchronisation.

@@ -15,14 +15,14 @@ use crate::plan::{Heard, Request};
 use crate::rooms::{MessageRoom, ReauthRooms, RequestRooms};
 use crate::rounds::checkcode;
 use crate::server::{Resumed, Server, ServerState};
-use crate::setting::{HomeRow, Setting};
+use crate::setting::HomeRow;
 use crate::turns::Told;
-use crate::why::ServerWhy;
 use auc_hmac::KeySet;
 use auc_ident::NameKind;
 use auc_packet::Packet;
 use auc_reauth::Context;
-use auc_vector::{Notes, Outcome, Reason, Turn, reauth_keys};
+use auc_subs::Setting;
+use auc_vector::{Notes, Outcome, Reason, ServerWhy, Turn, reauth_keys};
 
 /// The counter of a context that was taken up again is noted.
 fn resuming(counter: u16) -> Notes

@@ -21,8 +21,7 @@ use crate::identities::{on_first, on_requested};
 use crate::reply::Reply;
 use crate::rounds::is_checkcode;
 use crate::server::{Challenged, Resumed, Server, ServerState};
-use crate::setting::{HomeRow, Setting};
-use crate::why::ServerWhy;
+use crate::setting::HomeRow;
 use auc_attr::AttrList;
 use auc_edge::Octets;
 use auc_hmac::Method;
@@ -31,7 +30,8 @@ use auc_packet::{
 };
 use auc_request::IdentityRequest;
 use auc_seal::IdentityPackets;
-use auc_vector::{Auts, Reason, read_auts};
+use auc_subs::Setting;
+use auc_vector::{Auts, Reason, ServerWhy, read_auts};
 
 /// A row of a server's table.
 #[derive(Clone, Copy)]

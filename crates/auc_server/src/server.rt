@@ -4,13 +4,12 @@ ghost use Rattle.std.specs.Prelude.{◌≡◌};
 ghost use Rattle.auc_server.specs.State.{last_of};
 
 use crate::options::ServerOptions;
-use crate::why::ServerWhy;
 use auc_edge::Octets;
 use auc_hmac::{KeySet, Master};
 use auc_reauth::Context;
 use auc_request::IdentityRequest;
 use auc_seal::IdentityPackets;
-use auc_vector::{Outcome, Vector};
+use auc_vector::{Outcome, ServerWhy, Vector};
 use std::alloc::Global;
 use std::marker::Model;
 

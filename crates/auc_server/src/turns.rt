@@ -17,12 +17,11 @@ use crate::plan::{Heard, Request};
 use crate::rooms::{MessageRoom, RequestRooms, message_room};
 use crate::server::{Challenged, Resumed, Server, ServerState};
 use crate::setting::HomeRow;
-use crate::why::ServerWhy;
 use auc_edge::{NoMemory, Octets};
 use auc_packet::Packet;
 use auc_request::IdentityRequest;
 use auc_seal::IdentityPackets;
-use auc_vector::{Notes, NumberNote, Outcome, Reason, ResyncNote, Step, Turn};
+use auc_vector::{Notes, NumberNote, Outcome, Reason, ResyncNote, ServerWhy, Step, Turn};
 use std::alloc::Global;
 
 /// What a server's turn notes.

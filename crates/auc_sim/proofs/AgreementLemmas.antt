@@ -12,15 +12,15 @@ use Rattle.auc_sim.specs.Peer.{SimPeerState, cards, peer_turn, rands_in}
 use Rattle.auc_sim.specs.Server.{SimServerState, challenged, server_turn}
 use Rattle.auc_sim.specs.Session.{Becomes, DeliversAll, EndsWith, SimInputs, SimNet, Starts, packet_numbered, peer_keys, sent_in, server_keys, with_sent}
 use Rattle.auc_sim.specs.SessionLaws.{AreMatched, EachSessionAgrees}
-use Rattle.auc_sim.specs.declared.note.SimBecame.{SimBecame}
-use Rattle.auc_sim.specs.declared.note.SimNote.{SimNote}
-use Rattle.auc_sim.specs.declared.note.SimNote.TheVariants as note
+use Rattle.auc_vector.specs.declared.sim_note.SimBecame.{SimBecame}
+use Rattle.auc_vector.specs.declared.sim_note.SimNote.{SimNote}
+use Rattle.auc_vector.specs.declared.sim_note.SimNote.TheVariants as note
 use Rattle.auc_sim.specs.declared.peer.SimLast.{SimLast}
 use Rattle.auc_sim.specs.declared.peer.SimWait.{SimWait}
 use Rattle.auc_sim.specs.declared.peer.SimWait.TheVariants as wait
 use Rattle.auc_sim.specs.declared.server.SimAwait.{SimAwait}
 use Rattle.auc_sim.specs.declared.server.SimAwait.TheVariants as await
-use Rattle.auc_sim.specs.declared.why.SimWhy.{SimWhy}
+use Rattle.auc_vector.specs.declared.why.SimWhy.{SimWhy}
 use Rattle.auc_sim_packet.specs.Attributes.{first_value, is_value, nonce_of, rands_of, versions_of}
 use Rattle.auc_sim_packet.specs.Keys.{rand_in, sim_key_set}
 use Rattle.auc_sim_packet.specs.Messages.{challenge_request, challenge_response, client_error, start_request, start_response, version_one}

@@ -11,8 +11,8 @@ use Rattle.auc_sim.specs.declared.peer.SimWait.{SimWait}
 use Rattle.auc_sim.specs.declared.peer.SimWait.TheVariants as wait
 use Rattle.auc_sim.specs.declared.server.SimAwait.{SimAwait}
 use Rattle.auc_sim.specs.declared.server.SimAwait.TheVariants as await
-use Rattle.auc_sim.specs.declared.why.SimWhy.{SimWhy}
-use Rattle.auc_sim.specs.declared.why.SimWhy.TheVariants as why
+use Rattle.auc_vector.specs.declared.why.SimWhy.{SimWhy}
+use Rattle.auc_vector.specs.declared.why.SimWhy.TheVariants as why
 use Rattle.auc_sim_packet.specs.Attributes.{code_of, first_value, has, identity_of, nonce_of, rands_of, selected_of, versions_of}
 use Rattle.auc_sim_packet.specs.Keys.{all_sres, sim_key_set}
 use Rattle.auc_sim_packet.specs.Messages.{CHALLENGE, CLIENT_ERROR, START, response_bytes, start_response}

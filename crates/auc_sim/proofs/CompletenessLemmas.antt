@@ -15,14 +15,14 @@ use Rattle.auc_sim.specs.Server as server
 use Rattle.auc_sim.specs.Server.{SimServerState, new_server, server_turn}
 use Rattle.auc_sim.specs.Session.{Alternates, Becomes, Delivers, DeliversAll, EndsWith, Receives, SimInputs, SimNet, SimRuns, Starts, made_in, number_sent, other, packet_numbered, peer_keys, sent_in, server_keys, with_sent}
 use Rattle.auc_sim.specs.SessionLaws.{AreMatched, EachPlainSessionSucceeds, Succeeds}
-use Rattle.auc_sim.specs.declared.note.SimBecame.{SimBecame}
-use Rattle.auc_sim.specs.declared.note.SimBecame.TheVariants.{Did}
-use Rattle.auc_sim.specs.declared.note.SimNote.{SimNote}
-use Rattle.auc_sim.specs.declared.note.SimNote.TheVariants as note
+use Rattle.auc_vector.specs.declared.sim_note.SimBecame.{SimBecame}
+use Rattle.auc_vector.specs.declared.sim_note.SimBecame.TheVariants.{Did}
+use Rattle.auc_vector.specs.declared.sim_note.SimNote.{SimNote}
+use Rattle.auc_vector.specs.declared.sim_note.SimNote.TheVariants as note
 use Rattle.auc_sim.specs.declared.peer.SimWait.TheVariants as wait
 use Rattle.auc_sim.specs.declared.server.SimAwait.TheVariants as await
-use Rattle.auc_sim.specs.declared.why.SimWhy.{SimWhy}
-use Rattle.auc_sim.specs.declared.why.SimWhy.TheVariants as why
+use Rattle.auc_vector.specs.declared.why.SimWhy.{SimWhy}
+use Rattle.auc_vector.specs.declared.why.SimWhy.TheVariants as why
 use Rattle.auc_sim_packet.specs.Keys.{all_sres, rand_in}
 use Rattle.auc_sim_packet.specs.Messages.{challenge_request, challenge_response, request_bytes, response_bytes, start_request, start_response, version_one}
 use Rattle.auc_sim_packet.specs.Received.{IsSimReceived, SimSeen, is_sim_sealed}

@@ -10,12 +10,12 @@ use Rattle.auc_sim.specs.EndLaws.{sends}
 use Rattle.auc_sim.specs.Server.{SimServerState, left_of, server_turn}
 use Rattle.auc_sim.specs.Session.{Alternates, Becomes, Delivers, DeliversAll, EndTurns, SimNet, made_in, number_sent, other, packet_numbered, sent_in, with_sent}
 use Rattle.auc_sim.specs.SessionParts.{Follows, Tells}
-use Rattle.auc_sim.specs.declared.note.SimBecame.{SimBecame}
-use Rattle.auc_sim.specs.declared.note.SimNote.{SimNote}
-use Rattle.auc_sim.specs.declared.note.SimNote.TheVariants as note
+use Rattle.auc_vector.specs.declared.sim_note.SimBecame.{SimBecame}
+use Rattle.auc_vector.specs.declared.sim_note.SimNote.{SimNote}
+use Rattle.auc_vector.specs.declared.sim_note.SimNote.TheVariants as note
 use Rattle.auc_sim.specs.declared.server.SimAwait.{SimAwait}
 use Rattle.auc_sim.specs.declared.server.SimAwait.TheVariants as await
-use Rattle.auc_sim.specs.declared.why.SimWhy.{SimWhy}
+use Rattle.auc_vector.specs.declared.why.SimWhy.{SimWhy}
 use Rattle.auc_sim_packet.specs.Received.{SimSeen}
 use Rattle.auc_vector.specs.declared.turn.Step.{Step}
 use Rattle.auc_vector.specs.declared.turn.Step.TheVariants as step

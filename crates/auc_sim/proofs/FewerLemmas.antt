@@ -5,8 +5,8 @@ use Rattle.auc_sim.specs.EndLaws.{sends}
 use Rattle.auc_sim.specs.Server.{SimServerState, challenging, current_id, ended, ignored, left_of, on_awaited, on_challenge, on_code, on_packet, on_parts, on_response, server_turn, turn_at}
 use Rattle.auc_sim.specs.declared.server.SimAwait.{SimAwait}
 use Rattle.auc_sim.specs.declared.server.SimAwait.TheVariants as await
-use Rattle.auc_sim.specs.declared.why.SimWhy.{SimWhy}
-use Rattle.auc_sim.specs.declared.why.SimWhy.TheVariants as why
+use Rattle.auc_vector.specs.declared.why.SimWhy.{SimWhy}
+use Rattle.auc_vector.specs.declared.why.SimWhy.TheVariants as why
 use Rattle.auc_sim_packet.specs.Attributes.{code_of, first_value, has, identity_of, nonce_of, selected_of}
 use Rattle.auc_sim_packet.specs.Keys.{all_sres, sim_key_set}
 use Rattle.auc_sim_packet.specs.Messages.{CHALLENGE, CLIENT_ERROR, START, version_one}

@@ -10,11 +10,11 @@ use Rattle.auc_sim.specs.Peer.{PeerTurns, SimPeerState, peer_turn}
 use Rattle.auc_sim.specs.Server.{ServerTurns, SimServerState, server_turn}
 use Rattle.auc_sim.specs.Session.{Alternates, Becomes, Delivers, DeliversAll, EndsWith, Receives, Scheduled, SimNet, made_in, number_sent, other, packet_numbered, peer_keys, sent_in, server_keys, with_sent}
 use Rattle.auc_sim.specs.SessionLaws.{EachSessionHasOneRun}
-use Rattle.auc_sim.specs.declared.note.SimBecame.{SimBecame}
-use Rattle.auc_sim.specs.declared.note.SimBecame.TheVariants.{Did}
-use Rattle.auc_sim.specs.declared.note.SimNote.{SimNote}
-use Rattle.auc_sim.specs.declared.note.SimNote.TheVariants as note
-use Rattle.auc_sim.specs.declared.why.SimWhy.{SimWhy}
+use Rattle.auc_vector.specs.declared.sim_note.SimBecame.{SimBecame}
+use Rattle.auc_vector.specs.declared.sim_note.SimBecame.TheVariants.{Did}
+use Rattle.auc_vector.specs.declared.sim_note.SimNote.{SimNote}
+use Rattle.auc_vector.specs.declared.sim_note.SimNote.TheVariants as note
+use Rattle.auc_vector.specs.declared.why.SimWhy.{SimWhy}
 use Rattle.auc_vector.specs.declared.turn.Step.{Step}
 use Rattle.auc_sim_packet.proofs.Facts.{one_received}
 

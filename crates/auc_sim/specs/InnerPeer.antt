@@ -8,7 +8,7 @@ use Rattle.auc_sim.specs.declared.peer.SimWait.{SimWait}
 use Rattle.auc_sim.specs.declared.peer.SimWait.TheVariants as wait
 use Rattle.auc_sim.specs.declared.rows.Row.{Row}
 use Rattle.auc_sim.specs.declared.rows.Row.TheVariants as row
-use Rattle.auc_sim.specs.declared.why.SimWhy.{SimWhy}
+use Rattle.auc_vector.specs.declared.why.SimWhy.{SimWhy}
 use Rattle.auc_sim_packet.specs.Attributes.{first_value, rands_of}
 use Rattle.auc_sim_packet.specs.Messages.{response_bytes, start_response}
 use Rattle.auc_sim_packet.specs.Received.{SimSeen}

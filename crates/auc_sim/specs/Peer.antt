@@ -9,8 +9,8 @@ use Rattle.auc_sim.specs.Triplets.{card_of}
 use Rattle.auc_sim.specs.declared.peer.SimLast.{SimLast}
 use Rattle.auc_sim.specs.declared.peer.SimWait.{SimWait}
 use Rattle.auc_sim.specs.declared.peer.SimWait.TheVariants as wait
-use Rattle.auc_sim.specs.declared.why.SimWhy.{SimWhy}
-use Rattle.auc_sim.specs.declared.why.SimWhy.TheVariants as why
+use Rattle.auc_vector.specs.declared.why.SimWhy.{SimWhy}
+use Rattle.auc_vector.specs.declared.why.SimWhy.TheVariants as why
 use Rattle.auc_sim_packet.specs.Attributes.{first_value, has, rands_of, versions_of}
 use Rattle.auc_sim_packet.specs.Keys.{sim_key_set}
 use Rattle.auc_sim_packet.specs.Messages.{CHALLENGE, START, client_error, response_bytes, start_response}

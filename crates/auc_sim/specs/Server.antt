@@ -3,8 +3,8 @@ use Rattle.std.specs.Prelude.{◌≡◌, ℕ, ◌==◌, false, not, if◌then◌
 use Rattle.auc_hmac.specs.declared.keys.KeySet.{KeySet}
 use Rattle.auc_sim.specs.declared.server.SimAwait.{SimAwait}
 use Rattle.auc_sim.specs.declared.server.SimAwait.TheVariants as await
-use Rattle.auc_sim.specs.declared.why.SimWhy.{SimWhy}
-use Rattle.auc_sim.specs.declared.why.SimWhy.TheVariants as why
+use Rattle.auc_vector.specs.declared.why.SimWhy.{SimWhy}
+use Rattle.auc_vector.specs.declared.why.SimWhy.TheVariants as why
 use Rattle.auc_sim_packet.specs.Attributes.{code_of, first_value, has, identity_of, nonce_of, selected_of}
 use Rattle.auc_sim_packet.specs.Keys.{all_sres, sim_key_set}
 use Rattle.auc_sim_packet.specs.Messages.{CHALLENGE, CLIENT_ERROR, START, request_bytes, version_one}

@@ -9,15 +9,15 @@ use Rattle.auc_lines.specs.declared.sim.SimSchedule.TheVariants.{Plain, Steps}
 use Rattle.auc_milenage.specs.declared.secret.Secret.{Secret}
 use Rattle.auc_sim.specs.Peer.{PeerTurns, SimPeerState, new_peer}
 use Rattle.auc_sim.specs.Server.{ServerTurns, SimServerState, new_server}
-use Rattle.auc_sim.specs.declared.note.SimBecame.{SimBecame}
-use Rattle.auc_sim.specs.declared.note.SimBecame.TheVariants.{NoSuchPacket, Did}
-use Rattle.auc_sim.specs.declared.note.SimNote.{SimNote}
-use Rattle.auc_sim.specs.declared.note.SimNote.TheVariants as note
+use Rattle.auc_vector.specs.declared.sim_note.SimBecame.{SimBecame}
+use Rattle.auc_vector.specs.declared.sim_note.SimBecame.TheVariants.{NoSuchPacket, Did}
+use Rattle.auc_vector.specs.declared.sim_note.SimNote.{SimNote}
+use Rattle.auc_vector.specs.declared.sim_note.SimNote.TheVariants as note
 use Rattle.auc_sim.specs.declared.peer.SimWait.{SimWait}
 use Rattle.auc_sim.specs.declared.peer.SimWait.TheVariants as wait
 use Rattle.auc_sim.specs.declared.server.SimAwait.{SimAwait}
 use Rattle.auc_sim.specs.declared.server.SimAwait.TheVariants as await
-use Rattle.auc_sim.specs.declared.why.SimWhy.{SimWhy}
+use Rattle.auc_vector.specs.declared.why.SimWhy.{SimWhy}
 use Rattle.auc_sim_packet.specs.Messages.{start_request}
 use Rattle.auc_sim_packet.specs.Spelling.{sim_text}
 use Rattle.auc_sim_packet.specs.declared.parts.Triplet.{Triplet}

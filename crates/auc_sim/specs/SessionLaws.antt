@@ -8,9 +8,9 @@ use Rattle.auc_lines.specs.declared.sim.SimSchedule.TheVariants.{Plain}
 use Rattle.auc_milenage.specs.declared.secret.Secret.{Secret}
 use Rattle.auc_sim.specs.Session.{SimInputs, SimRuns}
 use Rattle.auc_sim.specs.Triplets.{card_of, of_vector}
-use Rattle.auc_sim.specs.declared.note.SimBecame.TheVariants.{Did}
-use Rattle.auc_sim.specs.declared.note.SimNote.{SimNote}
-use Rattle.auc_sim.specs.declared.note.SimNote.TheVariants as note
+use Rattle.auc_vector.specs.declared.sim_note.SimBecame.TheVariants.{Did}
+use Rattle.auc_vector.specs.declared.sim_note.SimNote.{SimNote}
+use Rattle.auc_vector.specs.declared.sim_note.SimNote.TheVariants as note
 use Rattle.auc_sim_packet.specs.Keys.{rand_in}
 use Rattle.auc_vector.specs.Vector.{vector_of}
 use Rattle.auc_vector.specs.declared.turn.Outcome.TheVariants.{Success}

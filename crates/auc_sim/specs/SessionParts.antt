@@ -4,10 +4,10 @@ use Rattle.auc_lines.specs.declared.part.End.{End}
 use Rattle.auc_lines.specs.declared.sim.SimDelivery.{SimDelivery}
 use Rattle.auc_lines.specs.declared.sim.SimSchedule.{SimSchedule}
 use Rattle.auc_sim.specs.Session.{Delivers, DeliversAll, EndTurns, EndsWith, Scheduled, SimNet, made_in, peer_keys, server_keys}
-use Rattle.auc_sim.specs.declared.note.SimBecame.{SimBecame}
-use Rattle.auc_sim.specs.declared.note.SimNote.{SimNote}
-use Rattle.auc_sim.specs.declared.note.SimNote.TheVariants as note
-use Rattle.auc_sim.specs.declared.why.SimWhy.{SimWhy}
+use Rattle.auc_vector.specs.declared.sim_note.SimBecame.{SimBecame}
+use Rattle.auc_vector.specs.declared.sim_note.SimNote.{SimNote}
+use Rattle.auc_vector.specs.declared.sim_note.SimNote.TheVariants as note
+use Rattle.auc_vector.specs.declared.why.SimWhy.{SimWhy}
 use Rattle.auc_vector.specs.declared.turn.Step.{Step}
 
 -- an end's turn on a packet, before its answer is sent; no turn is taken if there is no packet

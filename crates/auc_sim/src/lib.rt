@@ -14,7 +14,6 @@
 mod end_law;
 mod identity;
 mod net;
-mod note;
 mod peer;
 mod rows;
 mod server;
@@ -22,12 +21,11 @@ mod session;
 mod session_law;
 mod several;
 mod triplets;
-mod why;
 
 pub use auc_sim_packet::Triplet;
+pub use auc_vector::{SimBecame, SimNote, SimWhy};
 pub use end_law::each_sent_packet_leaves_fewer;
 pub use identity::sim_identity;
-pub use note::{SimBecame, SimNote};
 pub use peer::{SimLast, SimPeer, SimWait};
 pub use server::{SimAwait, SimServer};
 pub use session::run_session;
@@ -36,4 +34,3 @@ pub use session_law::{
     each_session_has_one_run,
 };
 pub use triplets::{card, triplet};
-pub use why::SimWhy;

@@ -3,16 +3,14 @@
 ghost use Rattle.std.specs.Prelude.{◌≡◌, ◌<◌, ◌≤◌, ◌+◌, ◌^◌, ◌-◌, IfOk, OnOk, length, option_copied};
 ghost use Rattle.auc_sim.specs.Session.{number_sent, packet_numbered, sent_in, with_sent};
 
-use crate::note::SimBecame;
 use crate::peer::{SimPeer, SimWait};
 use crate::server::{SimAwait, SimServer};
-use crate::why::SimWhy;
 use auc_edge::{Items, NoMemory, Octets};
 use auc_hmac::KeySet;
 use auc_lines::{End, SimDelivery};
 use auc_milenage::Secret;
 use auc_sim_packet::Triplet;
-use auc_vector::{Outcome, Step};
+use auc_vector::{Outcome, SimBecame, SimWhy, Step};
 use std::alloc::Global;
 use std::marker::Model;
 

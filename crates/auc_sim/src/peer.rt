@@ -8,14 +8,13 @@ ghost use Rattle.auc_sim_packet.specs.Received.{IsSimReceived, sim_seen_of};
 
 use crate::rows::{Row, row_of};
 use crate::several::Several;
-use crate::why::SimWhy;
 use auc_edge::{NoMemory, Octets};
 use auc_hmac::KeySet;
 use auc_milenage::Secret;
 use auc_sim_packet::{
     SimPacket, SimReceived, challenge_response, client_error, receive_sim, start_response,
 };
-use auc_vector::{Outcome, Reason, Step};
+use auc_vector::{Outcome, Reason, SimWhy, Step};
 use std::alloc::Global;
 use std::marker::Model;
 

@@ -8,12 +8,11 @@ ghost use Rattle.auc_sim_packet.specs.Received.{IsSimReceived, SimSeen, sim_seen
 
 use crate::peer::{SimLast, SimPeer, SimWait};
 use crate::several::{Several, cards, has_equal};
-use crate::why::SimWhy;
 use auc_hmac::KeySet;
 use auc_sim_packet::{
     SimList, SimPacket, SimReceived, has_mac, is_sim_sealed, rands_in, sim_keys, versions_in,
 };
-use auc_vector::Outcome;
+use auc_vector::{Outcome, SimWhy};
 
 /// What a packet that isn't repeated comes to.
 #[derive(Clone, Copy)]

@@ -8,7 +8,6 @@ ghost use Rattle.auc_sim_packet.specs.Received.{IsSimReceived, sim_seen_of};
 ghost use Rattle.auc_sim_packet.specs.Spelling.{sim_text};
 
 use crate::several::Several;
-use crate::why::SimWhy;
 use auc_edge::{NoMemory, Octets};
 use auc_hmac::KeySet;
 use auc_sim_packet::{
@@ -16,7 +15,7 @@ use auc_sim_packet::{
     identity_in, is_sim_sealed, nonce_in, receive_sim, selected_in, sim_keys, start_request,
     write_sim,
 };
-use auc_vector::{Outcome, Reason, Step};
+use auc_vector::{Outcome, Reason, SimWhy, Step};
 use std::alloc::Global;
 use std::marker::Model;
 

@@ -7,11 +7,11 @@ ghost use Rattle.auc_sim.specs.Session.{SimRuns, made_in, other};
 ghost use Rattle.auc_sim.specs.SessionParts.{Finishes, Follows, Tells};
 
 use crate::net::Net;
-use crate::note::{SimBecame, SimNote};
 use auc_edge::{Items, NoMemory};
 use auc_lines::{End, SimDelivery, SimSchedule};
 use auc_milenage::Secret;
 use auc_sim_packet::Triplet;
+use auc_vector::{SimBecame, SimNote};
 use std::alloc::Global;
 
 /// Runs a session, and says what happens in it: the server has the triplets, the peer a USIM with the secret, and both the

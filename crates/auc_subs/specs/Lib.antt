@@ -4,5 +4,6 @@ pub mod File
 pub mod InnerFile
 pub mod InnerLookup
 pub mod Law
+pub mod Setting
 pub mod Steps
 pub mod Subscriber

@@ -8,6 +8,9 @@
 //! [`Subscribers::add`] a line of seven or nine fields, and [`Subscribers::add_words`] seven or nine words, each by its first
 //! fault, a [`SubsWhy`]. If OP is given, OPc is computed from it. [`refused_record_is_the_first_wrong`] and the other laws say what
 //! each fault is by itself.
+//!
+//! A [`Setting`] is what all sessions of a home network share: its subscribers, their random bytes and names, and the realm.
+//! Contracts see it by `specs/Setting`.
 #![tactic(auto)]
 
 mod field;
@@ -16,6 +19,7 @@ mod law;
 mod refusal;
 mod row;
 mod row_reading;
+mod setting;
 mod subscribers;
 mod words;
 
@@ -25,4 +29,5 @@ pub use law::{
 };
 pub use refusal::{AddRefusal, SubsRefusal, SubsWhy};
 pub use row::{MAX_AGE, Row};
+pub use setting::Setting;
 pub use subscribers::{MAX_SUBSCRIBERS, Subscribers};

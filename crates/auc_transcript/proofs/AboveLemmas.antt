@@ -10,12 +10,13 @@ use Rattle.auc_subs.specs.declared.row.Row.{Row}
 use Rattle.auc_subs.proofs.Facts.{length-tops_of, tops_within}
 use Rattle.auc_lines.specs.declared.part.Part.{Part}
 use Rattle.auc_lines.specs.declared.part.Part.TheVariants.{Round, Restart}
-use Rattle.auc_world.specs.declared.record.PartRecord.{PartRecord}
-use Rattle.auc_world.specs.declared.record.PartRecord.TheVariants as record_of
-use Rattle.auc_world.specs.Lines.{numbers_of, all_lines}
-use Rattle.auc_world.specs.Setting.{Setting}
+use Rattle.auc_record.specs.declared.record.PartRecord.{PartRecord}
+use Rattle.auc_record.specs.declared.record.PartRecord.TheVariants as record_of
+use Rattle.auc_record.specs.Lines.{numbers_of, all_lines}
+use Rattle.auc_subs.specs.Setting.{Setting}
 use Rattle.auc_world.specs.Transcript.{Course, Leads, after_round, after_restart, beginning, lines_of}
-use Rattle.auc_world.proofs.Facts.{get_or-reopened, length-opened, length-reopened, opened_above}
+use Rattle.auc_record.proofs.Facts.{get_or-reopened, length-reopened}
+use Rattle.auc_world.proofs.Facts.{length-opened, opened_above}
 use Rattle.auc_transcript.specs.Headline.{EachNumberIsAboveReserved}
 use Rattle.auc_transcript.proofs.LineLemmas.{times-numbers-append}
 use Rattle.auc_transcript.proofs.VectorLemmas.{numbers_within, round_between, transcript_served}

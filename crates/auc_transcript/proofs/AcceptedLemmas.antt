@@ -12,16 +12,16 @@ use Rattle.auc_subs.specs.Subscriber.{IsRow}
 use Rattle.auc_subs.specs.declared.row.Row.{Row}
 use Rattle.auc_vector.specs.declared.notes.UsimNote.{UsimNote}
 use Rattle.auc_vector.specs.declared.notes.UsimNote.TheVariants as usim
-use Rattle.auc_world.specs.Event.{sqn_accepted, usim_for}
+use Rattle.auc_record.specs.Event.{sqn_accepted, usim_for}
 use Rattle.auc_world.specs.Given.{UsimAnswers, past_by, past_of, verdict_by}
-use Rattle.auc_world.specs.Lines.{accepted, accepted_by, numbers_of, taken}
-use Rattle.auc_world.specs.Setting.{Setting}
+use Rattle.auc_record.specs.Lines.{accepted, accepted_by, numbers_of, taken}
+use Rattle.auc_subs.specs.Setting.{Setting}
 use Rattle.auc_world.specs.Transcript.{lines_of}
-use Rattle.auc_world.specs.declared.event.EventRecord.{EventRecord}
-use Rattle.auc_world.specs.declared.record.GiveVerdict.{GiveVerdict}
-use Rattle.auc_world.specs.declared.record.GiveVerdict.TheVariants as given
-use Rattle.auc_world.specs.declared.record.LineRecord.{LineRecord}
-use Rattle.auc_world.specs.declared.record.LineRecord.TheVariants.{Vector, Withheld, Exhausted, Sync, Give, Further, Event}
+use Rattle.auc_record.specs.declared.event.EventRecord.{EventRecord}
+use Rattle.auc_record.specs.declared.record.GiveVerdict.{GiveVerdict}
+use Rattle.auc_record.specs.declared.record.GiveVerdict.TheVariants as given
+use Rattle.auc_record.specs.declared.record.LineRecord.{LineRecord}
+use Rattle.auc_record.specs.declared.record.LineRecord.TheVariants.{Vector, Withheld, Exhausted, Sync, Give, Further, Event}
 use Rattle.auc_world.proofs.Facts.{accepted-append, each_accepted_in_past}
 use Rattle.auc_transcript.specs.Headline.{EachUsimAcceptsNoneTwice}
 use Rattle.auc_transcript.proofs.EventLemmas.{IsEventServed, IsFreshFor}

@@ -5,8 +5,8 @@ use Rattle.auc_history.specs.Split.{all_entries}
 use Rattle.auc_sqn.specs.Number.{seq_of, sqn_bytes, top_of}
 use Rattle.auc_sqn.proofs.Facts.{each_number_has_its_own_sqn}
 use Rattle.auc_world.specs.Transcript.{stretches_of}
-use Rattle.auc_world.specs.declared.record.GiveVerdict.{GiveVerdict}
-use Rattle.auc_world.specs.declared.record.GiveVerdict.TheVariants as given
+use Rattle.auc_record.specs.declared.record.GiveVerdict.{GiveVerdict}
+use Rattle.auc_record.specs.declared.record.GiveVerdict.TheVariants as given
 use Rattle.auc_transcript.specs.Headline.{FailsByPlace, FailsExactlyByPlace, IsFailure, IsGenuine, IsInReach, IsStaleBy, is_later, place_of}
 use Rattle.auc_transcript.specs.Witnesses.{AgesDecide, accepted_fourth, ageing, given_aged, subscriber}
 

@@ -2,11 +2,12 @@
 -- job's sessions has one packet more, or none.
 use Rattle.std.proofs.Common.{◌≡◌, ℕ, List, ◌++◌, map, Option, Some, None, Ok, Err, refl, ap, ◌∙◌}
 use Rattle.std.proofs.lemmas.List.{map-append}
-use Rattle.auc_world.specs.Came.{Came, by_network, came_changed}
+use Rattle.auc_record.specs.Event.{Came}
+use Rattle.auc_world.specs.Came.{by_network, came_changed}
 use Rattle.auc_world.specs.Happened.{changed_at}
 use Rattle.auc_world.specs.Net.{copies}
-use Rattle.auc_world.specs.declared.event.WorldRefusal.{WorldRefusal}
-use Rattle.auc_world.specs.declared.event.WorldRefusal.TheVariants as refused
+use Rattle.auc_record.specs.declared.event.WorldRefusal.{WorldRefusal}
+use Rattle.auc_record.specs.declared.event.WorldRefusal.TheVariants as refused
 use Rattle.auc_world.specs.declared.net.SentPacket.{SentPacket}
 use Rattle.auc_transcript.specs.Presented.{sent_in}
 

@@ -12,10 +12,10 @@ use Rattle.auc_subs.specs.declared.row.Row.{Row}
 use Rattle.auc_world.specs.Net.{Net}
 use Rattle.auc_world.specs.Places.{EachEventMovesDevicesOnce}
 use Rattle.auc_world.specs.Resumption.{counters_accepted}
-use Rattle.auc_world.specs.Setting.{Setting}
+use Rattle.auc_subs.specs.Setting.{Setting}
 use Rattle.auc_world.specs.Start.{Kept, fresh_kept, kept_of}
 use Rattle.auc_world.specs.Transcript.{lines_of}
-use Rattle.auc_world.specs.declared.record.PartRecord.{PartRecord}
+use Rattle.auc_record.specs.declared.record.PartRecord.{PartRecord}
 use Rattle.auc_transcript.specs.Counters.{all_sessions}
 use Rattle.auc_transcript.specs.Keys.{AreNets, IsHeldApart}
 use Rattle.auc_transcript.proofs.DeviceFoldLemmas.{DeviceState, device_busy, device_idle}

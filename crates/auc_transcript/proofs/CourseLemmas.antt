@@ -8,14 +8,15 @@ use Rattle.auc_sqn.specs.Number.{max_seq}
 use Rattle.auc_lines.specs.declared.part.Part.{Part}
 use Rattle.auc_lines.specs.declared.part.Part.TheVariants.{Round, Restart}
 use Rattle.auc_subs.specs.declared.row.Row.{Row}
-use Rattle.auc_world.specs.declared.record.LineRecord.{LineRecord}
-use Rattle.auc_world.specs.declared.record.PartRecord.{PartRecord}
-use Rattle.auc_world.specs.declared.record.PartRecord.TheVariants as record_of
-use Rattle.auc_world.specs.Lines.{numbers_of, released_by, all_lines}
-use Rattle.auc_world.specs.Setting.{Setting}
+use Rattle.auc_record.specs.declared.record.LineRecord.{LineRecord}
+use Rattle.auc_record.specs.declared.record.PartRecord.{PartRecord}
+use Rattle.auc_record.specs.declared.record.PartRecord.TheVariants as record_of
+use Rattle.auc_record.specs.Lines.{numbers_of, released_by, all_lines}
+use Rattle.auc_subs.specs.Setting.{Setting}
 use Rattle.auc_world.specs.Limits.{greater, Raises}
 use Rattle.auc_world.specs.Transcript.{Course, Leads, ServesPart, after_restart, after_round, beginning, stop_before, lines_of}
-use Rattle.auc_world.proofs.Facts.{get_or-greater, length-opened, length-reopened}
+use Rattle.auc_world.proofs.Facts.{get_or-greater, length-opened}
+use Rattle.auc_record.proofs.Facts.{length-reopened}
 
 -- ---- longer transcripts
 

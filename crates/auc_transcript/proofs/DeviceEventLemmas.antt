@@ -18,7 +18,7 @@ use Rattle.auc_reauth.specs.Device.{Keeps}
 use Rattle.auc_reauth.specs.Store.{entry}
 use Rattle.auc_reauth.specs.declared.context.Context.{Context}
 use Rattle.auc_server.specs.Server.{ServerEnd, started}
-use Rattle.auc_server.specs.Setting.{Setting}
+use Rattle.auc_subs.specs.Setting.{Setting}
 use Rattle.auc_server.specs.Table.{gave_up as server_gave_up}
 use Rattle.auc_server.specs.declared.setting.HomeRow.{HomeRow}
 use Rattle.auc_subs.specs.Subscriber.{AreSubscribers, IsRow}
@@ -27,14 +27,14 @@ use Rattle.auc_vector.specs.declared.notes.Notes.{Notes}
 use Rattle.auc_vector.specs.declared.notes.UsimNote.{UsimNote}
 use Rattle.auc_vector.specs.declared.notes.UsimNote.TheVariants as usim
 use Rattle.auc_world.specs.Agreement.{HaveSecrets}
-use Rattle.auc_world.specs.Came.{AreReceived, Came, TellsNotes, bytes_named, came, came_at_peer, came_delivered, came_given_up, came_in, came_repeated, came_started, presented_at, presented_by, presented_in, received_at, received_by, session_at}
-use Rattle.auc_world.specs.Event.{device_in, usim_in}
+use Rattle.auc_world.specs.Came.{AreReceived, TellsNotes, bytes_named, came, came_at_peer, came_delivered, came_given_up, came_in, came_repeated, came_started, presented_at, presented_by, presented_in, received_at, received_by, session_at}
+use Rattle.auc_record.specs.Event.{Came, device_in, usim_in}
 use Rattle.auc_world.specs.Given.{Before, IsUsimAsked, past_before}
 use Rattle.auc_world.specs.Happened.{Delivery, Told, at_place, delivered, delivery_at, delivery_of, give_up, happened, in_session, kept_after, moved, new_session, opened, peer_turn, repeat, server_gives_up, server_turn, start, to_peer, to_server}
 use Rattle.auc_world.specs.Net.{Net, device_place, keeps_at, keeps_or, packet_at, same_method, session_place}
 use Rattle.auc_world.specs.Places.{device_places, peer_at}
-use Rattle.auc_world.specs.declared.event.Event.{Event}
-use Rattle.auc_world.specs.declared.event.Event.TheVariants as event
+use Rattle.auc_record.specs.declared.event.Event.{Event}
+use Rattle.auc_record.specs.declared.event.Event.TheVariants as event
 use Rattle.auc_world.specs.declared.net.SentPacket.{SentPacket}
 use Rattle.auc_world.specs.declared.net.Session.{Session}
 use Rattle.auc_world.proofs.Facts.{AreAt, places_differ, turn_subs}

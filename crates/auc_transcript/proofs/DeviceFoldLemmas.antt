@@ -15,24 +15,24 @@ use Rattle.auc_reauth.specs.Machine.{Accept, Adopt, Challenge, IsFresh, IsNew, L
 use Rattle.auc_reauth.specs.Store.{entry}
 use Rattle.auc_reauth.specs.declared.context.Context.{Context}
 use Rattle.auc_server.specs.Moves.{moved_by}
-use Rattle.auc_server.specs.Setting.{Setting}
+use Rattle.auc_subs.specs.Setting.{Setting}
 use Rattle.auc_subs.specs.Subscriber.{AreSubscribers}
 use Rattle.auc_vector.specs.declared.notes.UsimNote.{UsimNote}
 use Rattle.auc_world.specs.Agreement.{Happening, HaveSecrets, IsFresh as IsFreshNet, Occurs, after, after_one}
 use Rattle.auc_world.specs.Came.{TellsNotes, came}
-use Rattle.auc_world.specs.Event.{sqn_accepted}
+use Rattle.auc_record.specs.Event.{sqn_accepted}
 use Rattle.auc_world.specs.Given.{Before, EventGives, JobGives, behind}
 use Rattle.auc_world.specs.Happened.{Told, happened}
-use Rattle.auc_world.specs.Lines.{accepted}
+use Rattle.auc_record.specs.Lines.{accepted}
 use Rattle.auc_world.specs.Net.{Net, device_place, keeps_or, place_with, same_method}
 use Rattle.auc_world.specs.Places.{DeviceMoves, EachEventMovesDevicesOnce, IsDeviceMove, device_places, only, peer_at}
 use Rattle.auc_world.specs.Resumption.{accepted_for, accepted_of, counters_accepted}
 use Rattle.auc_world.specs.Start.{Kept, kept_of, kept_with, start_of}
-use Rattle.auc_world.specs.declared.event.Event.{Event}
-use Rattle.auc_world.specs.declared.event.Event.TheVariants as event
+use Rattle.auc_record.specs.declared.event.Event.{Event}
+use Rattle.auc_record.specs.declared.event.Event.TheVariants as event
 use Rattle.auc_world.specs.declared.net.Session.{Session}
-use Rattle.auc_world.specs.declared.record.LineRecord.{LineRecord}
-use Rattle.auc_world.specs.declared.record.LineRecord.TheVariants as record_of
+use Rattle.auc_record.specs.declared.record.LineRecord.{LineRecord}
+use Rattle.auc_record.specs.declared.record.LineRecord.TheVariants as record_of
 use Rattle.auc_world.proofs.Facts.{AreAt, OpensAt, accepted-append, places_stay}
 use Rattle.auc_transcript.proofs.DeviceEventLemmas.{Accepts, Alike, IsPlaced, Reaches, Stays, event_accepts, event_stays}
 use Rattle.auc_transcript.proofs.EventLemmas.{all_before, event_served}

@@ -11,16 +11,16 @@ use Rattle.auc_sqn.specs.Past.{numbers_to, opening_past, verdict_of, zeros}
 use Rattle.auc_sqn.specs.declared.verdict.Verdict.{Verdict}
 use Rattle.auc_sqn.specs.declared.verdict.Verdict.TheVariants.{Fresh, Old, Aged}
 use Rattle.auc_subs.specs.declared.row.Row.{Row}
-use Rattle.auc_world.specs.declared.record.GiveVerdict.TheVariants as given
-use Rattle.auc_world.specs.declared.record.LineRecord.{LineRecord}
-use Rattle.auc_world.specs.declared.record.LineRecord.TheVariants.{Vector, Sync, Give}
-use Rattle.auc_world.specs.declared.record.PartRecord.{PartRecord}
-use Rattle.auc_world.specs.declared.record.PartRecord.TheVariants.{Round, Restart}
-use Rattle.auc_world.specs.declared.record.Premise.TheVariants as premise
-use Rattle.auc_world.specs.declared.record.SyncVerdict.TheVariants as verdict
+use Rattle.auc_record.specs.declared.record.GiveVerdict.TheVariants as given
+use Rattle.auc_record.specs.declared.record.LineRecord.{LineRecord}
+use Rattle.auc_record.specs.declared.record.LineRecord.TheVariants.{Vector, Sync, Give}
+use Rattle.auc_record.specs.declared.record.PartRecord.{PartRecord}
+use Rattle.auc_record.specs.declared.record.PartRecord.TheVariants.{Round, Restart}
+use Rattle.auc_record.specs.declared.record.Premise.TheVariants as premise
+use Rattle.auc_record.specs.declared.record.SyncVerdict.TheVariants as verdict
 use Rattle.auc_world.specs.Given.{past_of}
 use Rattle.auc_world.specs.Limits.{Raises}
-use Rattle.auc_world.specs.Lines.{accepted, numbers_of}
+use Rattle.auc_record.specs.Lines.{accepted, numbers_of}
 use Rattle.auc_world.specs.Transcript.{stretches_of}
 use Rattle.auc_transcript.specs.Headline.{FailsByPlace, is_later, is_one_period, place_of}
 

@@ -15,13 +15,13 @@ use Rattle.auc_lines.specs.declared.part.Part.{Part}
 use Rattle.auc_subs.specs.Subscriber.{AreSubscribers, top_at}
 use Rattle.auc_subs.specs.declared.row.Row.{Row}
 use Rattle.auc_subs.proofs.Facts.{top_at-row}
-use Rattle.auc_world.specs.declared.record.GiveVerdict.{GiveVerdict}
-use Rattle.auc_world.specs.declared.record.LineRecord.{LineRecord}
-use Rattle.auc_world.specs.declared.record.LineRecord.TheVariants.{Give}
-use Rattle.auc_world.specs.declared.record.PartRecord.{PartRecord}
-use Rattle.auc_world.specs.Lines.{accepted, numbers_of}
+use Rattle.auc_record.specs.declared.record.GiveVerdict.{GiveVerdict}
+use Rattle.auc_record.specs.declared.record.LineRecord.{LineRecord}
+use Rattle.auc_record.specs.declared.record.LineRecord.TheVariants.{Give}
+use Rattle.auc_record.specs.declared.record.PartRecord.{PartRecord}
+use Rattle.auc_record.specs.Lines.{accepted, numbers_of}
 use Rattle.auc_world.specs.Given.{UsimAnswers, past_by, past_of, verdict_by}
-use Rattle.auc_world.specs.Setting.{Setting}
+use Rattle.auc_subs.specs.Setting.{Setting}
 use Rattle.auc_world.specs.Transcript.{IsLawful, beginning, lines_of, stretches_of}
 use Rattle.auc_world.proofs.Facts.{length-opened}
 use Rattle.auc_transcript.specs.Headline.{is_later, place_of, FailsByPlace, IsAgedBy, IsGenuine, IsInReach, IsFailure, IsPresented, IsStaleBy, EachFailureIsByPlace}

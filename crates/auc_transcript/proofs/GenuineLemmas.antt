@@ -7,14 +7,14 @@ use Rattle.auc_history.specs.History.{drawn}
 use Rattle.auc_history.specs.Split.{all_entries, times}
 use Rattle.auc_history.specs.declared.entry.Entry.{Entry}
 use Rattle.auc_sqn.specs.Number.{top_of}
-use Rattle.auc_world.specs.Lines.{accepted, accepted_by, numbers_of, taken}
-use Rattle.auc_world.specs.Setting.{Setting}
+use Rattle.auc_record.specs.Lines.{accepted, accepted_by, numbers_of, taken}
+use Rattle.auc_subs.specs.Setting.{Setting}
 use Rattle.auc_world.specs.Transcript.{lines_of, stretches_of}
-use Rattle.auc_world.specs.declared.record.GiveVerdict.{GiveVerdict}
-use Rattle.auc_world.specs.declared.record.GiveVerdict.TheVariants as given
-use Rattle.auc_world.specs.declared.record.LineRecord.{LineRecord}
-use Rattle.auc_world.specs.declared.record.LineRecord.TheVariants.{Vector, Withheld, Exhausted, Sync, Give, Further, Event}
-use Rattle.auc_world.specs.declared.record.PartRecord.TheVariants as record_of
+use Rattle.auc_record.specs.declared.record.GiveVerdict.{GiveVerdict}
+use Rattle.auc_record.specs.declared.record.GiveVerdict.TheVariants as given
+use Rattle.auc_record.specs.declared.record.LineRecord.{LineRecord}
+use Rattle.auc_record.specs.declared.record.LineRecord.TheVariants.{Vector, Withheld, Exhausted, Sync, Give, Further, Event}
+use Rattle.auc_record.specs.declared.record.PartRecord.TheVariants as record_of
 use Rattle.auc_transcript.specs.Headline.{EachSqnOutsideSessionsIsGenuine, IsGenuine, IsOutsideSessions}
 use Rattle.auc_transcript.specs.Rounds.{EachSqnInRoundsIsGenuine, entries_of_rounds}
 use Rattle.auc_transcript.proofs.FailureLemmas.{vector_is_drawn}

@@ -24,7 +24,7 @@ use Rattle.auc_peer.specs.declared.peer.PeerState.{PeerState}
 use Rattle.auc_peer.specs.declared.peer.PeerState.TheVariants as state
 use Rattle.auc_peer.specs.declared.rows.Row.{Row}
 use Rattle.auc_peer.specs.declared.rows.Row.TheVariants as row
-use Rattle.auc_peer.specs.declared.why.PeerWhy.TheVariants as why
+use Rattle.auc_vector.specs.declared.why.PeerWhy.TheVariants as why
 use Rattle.auc_request.specs.Request.{autn_of as autn_value, bids, first_code, first_kdf, first_value, is_known_kdf, is_right_name, is_separated, name_in, rand_of as rand_value, request_in}
 use Rattle.auc_vector.specs.declared.turn.Reason.TheVariants as reason
 

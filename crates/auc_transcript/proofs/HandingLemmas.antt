@@ -21,13 +21,13 @@ use Rattle.auc_sites.specs.declared.master.Reply.TheVariants as reply
 use Rattle.auc_sites.specs.declared.packet.Packet.{Packet}
 use Rattle.auc_sites.specs.declared.packet.Packet.TheVariants.{Asking, Granting}
 use Rattle.auc_vector.specs.declared.centre.CentreRefusal.{CentreRefusal}
-use Rattle.auc_world.specs.Given.{DrawGives, OneGives}
-use Rattle.auc_world.specs.Lines.{numbers_of, released_by}
-use Rattle.auc_world.specs.Setting.{Setting}
+use Rattle.auc_record.specs.Draws.{DrawGives, OneGives}
+use Rattle.auc_record.specs.Lines.{numbers_of, released_by}
+use Rattle.auc_subs.specs.Setting.{Setting}
 use Rattle.auc_world.specs.Sites.{LeaseGives, SiteEventGives, SitesGives, SitesGo, event_of, note_of, note_of_draw, note_of_number, packet_place, sites_start}
-use Rattle.auc_world.specs.declared.further.Further.TheVariants as further
-use Rattle.auc_world.specs.declared.record.LineRecord.{LineRecord}
-use Rattle.auc_world.specs.declared.record.LineRecord.TheVariants.{Vector, Withheld, Exhausted, Sync, Give, Further, Event}
+use Rattle.auc_record.specs.declared.further.Further.TheVariants as further
+use Rattle.auc_record.specs.declared.record.LineRecord.{LineRecord}
+use Rattle.auc_record.specs.declared.record.LineRecord.TheVariants.{Vector, Withheld, Exhausted, Sync, Give, Further, Event}
 use Rattle.auc_world.proofs.Facts.{turns_append}
 use Rattle.auc_transcript.specs.Leases.{HandsOut, HandsOutAfter, handed_by, handed_out, number_noted}
 use Rattle.auc_transcript.proofs.ListLemmas.{AllPairs-left, AllPairs-right, all_right}

@@ -17,22 +17,22 @@ use Rattle.auc_reauth.specs.Store.{entry}
 use Rattle.auc_server.specs.Laws.{OrdinalsRise}
 use Rattle.auc_server.specs.Ordinals.{home_at, home_place}
 use Rattle.auc_server.specs.Server.{ServerEnd, resumed_of}
-use Rattle.auc_server.specs.Setting.{Setting}
+use Rattle.auc_subs.specs.Setting.{Setting}
 use Rattle.auc_server.specs.declared.server.Resumed.{Resumed}
 use Rattle.auc_server.specs.declared.setting.HomeRow.{HomeRow}
 use Rattle.auc_world.specs.Agreement.{Happening, IsFresh, Occurs, after, after_one}
 use Rattle.auc_world.specs.Came.{came}
 use Rattle.auc_world.specs.Given.{Before, EventGives, JobGives, behind}
 use Rattle.auc_world.specs.Happened.{happened}
-use Rattle.auc_world.specs.Lines.{numbers_of}
+use Rattle.auc_record.specs.Lines.{numbers_of}
 use Rattle.auc_world.specs.Net.{Net, keeps_at, same_method}
 use Rattle.auc_world.specs.Places.{EachEventMovesHomesOnce, HomeMoves, home_places, server_at}
 use Rattle.auc_world.specs.Resumption.{counters_in, counters_resumed, resumed_for}
 use Rattle.auc_world.specs.Start.{Kept, home_of, kept_now, kept_of, kept_with, start_of}
-use Rattle.auc_world.specs.declared.event.Event.{Event as Happens}
+use Rattle.auc_record.specs.declared.event.Event.{Event as Happens}
 use Rattle.auc_world.specs.declared.net.Session.{Session}
-use Rattle.auc_world.specs.declared.record.LineRecord.{LineRecord}
-use Rattle.auc_world.specs.declared.record.LineRecord.TheVariants.{Event}
+use Rattle.auc_record.specs.declared.record.LineRecord.{LineRecord}
+use Rattle.auc_record.specs.declared.record.LineRecord.TheVariants.{Event}
 use Rattle.auc_transcript.proofs.HomeEventLemmas.{ResumeOthers, ResumesAnother}
 use Rattle.auc_transcript.proofs.HomeKeepLemmas.{AreOnce, AtHome, IsNameUpTo, KeepsHome, home_goes_on, numbers_in_both, once_before}
 use Rattle.auc_transcript.proofs.HomeNextLemmas.{AreAlike, homes_next, is_placed, others_stay, place_stays}

@@ -16,13 +16,13 @@ use Rattle.auc_ident.specs.declared.names.NameKind.TheVariants as kinds
 use Rattle.auc_reauth.specs.Machine.{Accept, Adopt, Challenge, GivesNew, Home, IsFresh, IsNew, Lose, Move, Places, Resume, Used, Win, with_place}
 use Rattle.auc_reauth.specs.declared.context.Context.{Context}
 use Rattle.auc_server.specs.Moves.{IsNewName, moved_by}
-use Rattle.auc_server.specs.Setting.{Setting}
+use Rattle.auc_subs.specs.Setting.{Setting}
 use Rattle.auc_server.specs.declared.setting.HomeRow.{HomeRow}
 use Rattle.auc_vector.specs.declared.notes.Notes.{Notes}
 use Rattle.auc_vector.specs.declared.notes.NumberNote.TheVariants as number
-use Rattle.auc_world.specs.Lines.{numbers_of, released_by}
+use Rattle.auc_record.specs.Lines.{numbers_of, released_by}
 use Rattle.auc_world.specs.Places.{IsHomeMove, MakesOneMove, only}
-use Rattle.auc_world.specs.declared.record.LineRecord.{LineRecord}
+use Rattle.auc_record.specs.declared.record.LineRecord.{LineRecord}
 use Rattle.auc_transcript.proofs.HomeEventLemmas.{other_place, same_place}
 use Rattle.auc_transcript.proofs.MoveFoldLemmas.{AreLedTo, at_same, led_alike, led_on}
 

@@ -18,7 +18,7 @@ use Rattle.auc_reauth.specs.Machine.{AreDifferent, EachCounterOnce, EachIdentity
 use Rattle.auc_reauth.specs.Store.{entry}
 use Rattle.auc_server.specs.Laws.{OrdinalsRise}
 use Rattle.auc_server.specs.Server.{ServerEnd, resumed_of}
-use Rattle.auc_server.specs.Setting.{Setting}
+use Rattle.auc_subs.specs.Setting.{Setting}
 use Rattle.auc_server.specs.declared.server.Resumed.{Resumed}
 use Rattle.auc_subs.specs.Subscriber.{AreSubscribers}
 use Rattle.auc_subs.specs.declared.row.Row.{Row}
@@ -28,7 +28,7 @@ use Rattle.auc_world.specs.Resumption.{AreApart, AreResumedOnce, counters_in, co
 use Rattle.auc_world.specs.Start.{Kept, fresh_kept, kept_of}
 use Rattle.auc_world.specs.Transcript.{IsLawful, lines_of}
 use Rattle.auc_world.specs.declared.net.Session.{Session}
-use Rattle.auc_world.specs.declared.record.PartRecord.{PartRecord}
+use Rattle.auc_record.specs.declared.record.PartRecord.{PartRecord}
 use Rattle.auc_transcript.specs.Counters.{IdentitiesComeOnce, all_sessions}
 use Rattle.auc_transcript.specs.Keys.{AreNets, IsHeldApart}
 use Rattle.auc_transcript.proofs.HomeJobLemmas.{HomeState, home_busy, home_idle}

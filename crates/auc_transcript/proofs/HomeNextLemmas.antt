@@ -17,7 +17,7 @@ use Rattle.auc_server.specs.Moves.{is_at, waiting, waiting_at}
 use Rattle.auc_server.specs.Ordinals.{home_at, home_place}
 use Rattle.auc_server.specs.Rows.{server_row}
 use Rattle.auc_server.specs.Server.{ServerEnd}
-use Rattle.auc_server.specs.Setting.{Setting}
+use Rattle.auc_subs.specs.Setting.{Setting}
 use Rattle.auc_server.specs.Steps.{asking}
 use Rattle.auc_server.specs.declared.options.ServerOptions.{ServerOptions}
 use Rattle.auc_server.specs.declared.setting.HomeRow.{HomeRow}
@@ -26,15 +26,15 @@ use Rattle.auc_vector.specs.declared.notes.Notes.{Notes}
 use Rattle.auc_vector.specs.declared.notes.NumberNote.{NumberNote}
 use Rattle.auc_vector.specs.declared.notes.NumberNote.TheVariants as number
 use Rattle.auc_world.proofs.Facts.{homes_alike, turn_subs}
-use Rattle.auc_world.specs.Came.{Came, TellsNotes, asked_sub, came}
-use Rattle.auc_world.specs.Event.{number_released}
+use Rattle.auc_record.specs.Event.{Came, number_released}
+use Rattle.auc_world.specs.Came.{TellsNotes, asked_sub, came}
 use Rattle.auc_world.specs.Happened.{Told, happened, server_turn}
-use Rattle.auc_world.specs.Lines.{numbers_of}
+use Rattle.auc_record.specs.Lines.{numbers_of}
 use Rattle.auc_world.specs.Net.{Net, same_method}
 use Rattle.auc_world.specs.Places.{home_places, server_at, server_leaves}
-use Rattle.auc_world.specs.declared.event.Event.{Event as Happens}
+use Rattle.auc_record.specs.declared.event.Event.{Event as Happens}
 use Rattle.auc_world.specs.declared.net.Session.{Session}
-use Rattle.auc_world.specs.declared.record.LineRecord.TheVariants.{Event}
+use Rattle.auc_record.specs.declared.record.LineRecord.TheVariants.{Event}
 use Rattle.auc_transcript.proofs.HomeEventLemmas.{IsQuiet, ResumeOthers, ResumesAnother, TakesTurn, event_changes, other_place, same_place, set_elsewhere, set_here}
 use Rattle.auc_transcript.proofs.HomeTurnLemmas.{AreOthers, AsksFor, IsWithin, turn_apart, turn_leaves, turn_within}
 use Rattle.auc_transcript.proofs.PutBackLemmas.{home_among, place_among}

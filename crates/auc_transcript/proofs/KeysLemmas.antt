@@ -16,19 +16,19 @@ use Rattle.auc_subs.specs.Subscriber.{AreSubscribers, top_at}
 use Rattle.auc_world.proofs.Facts.{AgainOf, AllLaws, HoldsOf, IsDrawn, IsKnown, IsOfJob, Laws, agreed, counted_once, job_runs, number_counts, of_sub, one_challenge_is_of_one_number, peer_success_is_drawn, peer_success_is_resumed, server_success_is_drawn, server_success_is_resumed}
 use Rattle.auc_world.specs.Agreement.{AreOfOne, AreOfOneChallenge, AreReleasedOnce, IsRealm, PeerWon, ServerWon}
 use Rattle.auc_world.specs.Given.{JobsGive}
-use Rattle.auc_world.specs.Lines.{all_lines, numbers_of, released_by}
+use Rattle.auc_record.specs.Lines.{all_lines, numbers_of, released_by}
 use Rattle.auc_world.specs.Net.{Net}
 use Rattle.auc_world.specs.Resumption.{AreApart, AreResumedOnce, resumed_in, resumptions}
-use Rattle.auc_world.specs.Setting.{Setting}
+use Rattle.auc_subs.specs.Setting.{Setting}
 use Rattle.auc_world.specs.Start.{Kept, fresh_kept, kept_by_jobs}
 use Rattle.auc_world.specs.Transcript.{IsLawful, lines_of}
 use Rattle.auc_world.specs.declared.net.FullInputs.{FullInputs}
 use Rattle.auc_world.specs.declared.net.Inputs.{Inputs}
 use Rattle.auc_world.specs.declared.net.Inputs.TheVariants as inputs
 use Rattle.auc_world.specs.declared.net.Session.{Session}
-use Rattle.auc_world.specs.declared.record.LineRecord.{LineRecord}
-use Rattle.auc_world.specs.declared.record.PartRecord.{PartRecord}
-use Rattle.auc_world.specs.declared.record.PartRecord.TheVariants as record_of
+use Rattle.auc_record.specs.declared.record.LineRecord.{LineRecord}
+use Rattle.auc_record.specs.declared.record.PartRecord.{PartRecord}
+use Rattle.auc_record.specs.declared.record.PartRecord.TheVariants as record_of
 use Rattle.auc_transcript.specs.Counters.{EachTranscriptKeepsContexts, IdentitiesComeOnce, all_sessions}
 use Rattle.auc_transcript.specs.Keys.{AreNets, AreNetsAfter, EachAuthenticationAgrees, EndsAgree}
 use Rattle.auc_transcript.proofs.LineLemmas.{All-times}

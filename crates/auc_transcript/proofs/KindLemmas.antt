@@ -16,7 +16,7 @@ use Rattle.auc_lines.specs.declared.sites.SiteEvent.{SiteEvent}
 use Rattle.auc_lines.specs.declared.part.Report.{Report}
 use Rattle.auc_random.specs.Random.{rand_of}
 use Rattle.auc_request.specs.Request.{is_separated}
-use Rattle.auc_sim.specs.declared.note.SimNote.{SimNote}
+use Rattle.auc_vector.specs.declared.sim_note.SimNote.{SimNote}
 use Rattle.auc_sites.specs.Network.{Network, Turn, after_event}
 use Rattle.auc_sites.specs.Run.{judgement_in}
 use Rattle.auc_sites.specs.declared.master.Judged.{Judged}
@@ -24,22 +24,23 @@ use Rattle.auc_sites.specs.declared.master.Judged.TheVariants as judged
 use Rattle.auc_subs.specs.Subscriber.{top_at}
 use Rattle.auc_subs.specs.declared.row.Row.{Row}
 use Rattle.auc_vector.specs.declared.parts.Vector.{Vector as AuthVector}
-use Rattle.auc_world.specs.Given.{AuthenticatesIf, Before, DrawGives, EpsGives, EventGives, FivegFollows, FivegGives, GiveGives, IsGiven, IsReleasable, LineGives, OneGives, SyncGives, VectorsFollow, behind, device_of_row, hxres_lines, is_released, judged_lines, kasme_line, outcome_of, past_before, turned}
-use Rattle.auc_world.specs.Lines.{numbers_of}
+use Rattle.auc_world.specs.Given.{AuthenticatesIf, Before, EpsGives, EventGives, FivegFollows, FivegGives, GiveGives, IsGiven, LineGives, SyncGives, VectorsFollow, behind, device_of_row, hxres_lines, is_released, judged_lines, kasme_line, outcome_of, past_before, turned}
+use Rattle.auc_record.specs.Draws.{DrawGives, IsReleasable, OneGives}
+use Rattle.auc_record.specs.Lines.{numbers_of}
 use Rattle.auc_world.specs.Net.{Net}
-use Rattle.auc_world.specs.Setting.{Setting}
+use Rattle.auc_subs.specs.Setting.{Setting}
 use Rattle.auc_world.specs.Sim.{SimFollowsIf, SimGives}
 use Rattle.auc_world.specs.Sites.{LeaseGives, SiteEventGives, SitesGo, event_of, note_of, sites_start}
-use Rattle.auc_world.specs.VectorAt.{vector_at, vector_of_row}
-use Rattle.auc_world.specs.declared.event.Event.{Event as Happens}
-use Rattle.auc_world.specs.declared.event.Event.TheVariants as event
-use Rattle.auc_world.specs.declared.further.Further.TheVariants as further
-use Rattle.auc_world.specs.declared.record.GiveVerdict.{GiveVerdict}
-use Rattle.auc_world.specs.declared.record.GiveVerdict.TheVariants as given
-use Rattle.auc_world.specs.declared.record.LineRecord.{LineRecord}
-use Rattle.auc_world.specs.declared.record.LineRecord.TheVariants.{Vector, Withheld, Exhausted, Sync, Give, Further, Event}
-use Rattle.auc_world.specs.declared.record.SyncVerdict.{SyncVerdict}
-use Rattle.auc_world.specs.declared.record.SyncVerdict.TheVariants as verdict
+use Rattle.auc_record.specs.VectorAt.{vector_at, vector_of_row}
+use Rattle.auc_record.specs.declared.event.Event.{Event as Happens}
+use Rattle.auc_record.specs.declared.event.Event.TheVariants as event
+use Rattle.auc_record.specs.declared.further.Further.TheVariants as further
+use Rattle.auc_record.specs.declared.record.GiveVerdict.{GiveVerdict}
+use Rattle.auc_record.specs.declared.record.GiveVerdict.TheVariants as given
+use Rattle.auc_record.specs.declared.record.LineRecord.{LineRecord}
+use Rattle.auc_record.specs.declared.record.LineRecord.TheVariants.{Vector, Withheld, Exhausted, Sync, Give, Further, Event}
+use Rattle.auc_record.specs.declared.record.SyncVerdict.{SyncVerdict}
+use Rattle.auc_record.specs.declared.record.SyncVerdict.TheVariants as verdict
 use Rattle.auc_world.proofs.Facts.{noted}
 use Rattle.auc_transcript.specs.Completeness.{opening_by}
 use Rattle.auc_transcript.specs.Headline.{IsOutsideSessions}

@@ -28,25 +28,26 @@ use Rattle.auc_sites.specs.declared.master.Judged.TheVariants as judged
 use Rattle.auc_subs.specs.declared.row.Row.{Row}
 use Rattle.auc_vector.specs.declared.parts.Vector.{Vector as AuthVector}
 use Rattle.auc_world.specs.Came.{came}
-use Rattle.auc_world.specs.Given.{AuthenticatesIf, Before, DrawGives, EventGives, FivegFollows, JobGives, JobsGive, LineGives, PlainGives, RelayGives, VectorsFollow, behind, device_of_row, hxres_lines, judged_lines, kasme_line, outcome_of, packet_of, turned}
-use Rattle.auc_world.specs.Lines.{all_lines, numbers_of, released_by}
+use Rattle.auc_world.specs.Given.{AuthenticatesIf, Before, EventGives, FivegFollows, JobGives, JobsGive, LineGives, PlainGives, RelayGives, VectorsFollow, behind, device_of_row, hxres_lines, judged_lines, kasme_line, outcome_of, packet_of, turned}
+use Rattle.auc_record.specs.Draws.{DrawGives}
+use Rattle.auc_record.specs.Lines.{all_lines, numbers_of, released_by}
 use Rattle.auc_world.specs.Net.{Net, other}
-use Rattle.auc_world.specs.Setting.{Setting}
+use Rattle.auc_subs.specs.Setting.{Setting}
 use Rattle.auc_world.specs.Sites.{LeaseGives, SitesGives, SitesGo, event_of, note_of, sites_start}
 use Rattle.auc_world.specs.Start.{Kept, fresh_kept, kept_by_jobs, start_of}
 use Rattle.auc_world.specs.Transcript.{lines_of}
-use Rattle.auc_world.specs.VectorAt.{vector_at, vector_of_row}
-use Rattle.auc_world.specs.declared.event.Event.{Event as Happens}
-use Rattle.auc_world.specs.declared.event.Event.TheVariants as event
-use Rattle.auc_world.specs.declared.further.Further.TheVariants as further
-use Rattle.auc_world.specs.declared.record.GiveVerdict.{GiveVerdict}
-use Rattle.auc_world.specs.declared.record.GiveVerdict.TheVariants as given
-use Rattle.auc_world.specs.declared.record.LineRecord.{LineRecord}
-use Rattle.auc_world.specs.declared.record.LineRecord.TheVariants.{Vector, Withheld, Exhausted, Sync, Give, Further, Event}
-use Rattle.auc_world.specs.declared.record.PartRecord.{PartRecord}
-use Rattle.auc_world.specs.declared.record.PartRecord.TheVariants as record_of
-use Rattle.auc_world.specs.declared.record.SyncVerdict.{SyncVerdict}
-use Rattle.auc_world.specs.declared.record.SyncVerdict.TheVariants as verdict
+use Rattle.auc_record.specs.VectorAt.{vector_at, vector_of_row}
+use Rattle.auc_record.specs.declared.event.Event.{Event as Happens}
+use Rattle.auc_record.specs.declared.event.Event.TheVariants as event
+use Rattle.auc_record.specs.declared.further.Further.TheVariants as further
+use Rattle.auc_record.specs.declared.record.GiveVerdict.{GiveVerdict}
+use Rattle.auc_record.specs.declared.record.GiveVerdict.TheVariants as given
+use Rattle.auc_record.specs.declared.record.LineRecord.{LineRecord}
+use Rattle.auc_record.specs.declared.record.LineRecord.TheVariants.{Vector, Withheld, Exhausted, Sync, Give, Further, Event}
+use Rattle.auc_record.specs.declared.record.PartRecord.{PartRecord}
+use Rattle.auc_record.specs.declared.record.PartRecord.TheVariants as record_of
+use Rattle.auc_record.specs.declared.record.SyncVerdict.{SyncVerdict}
+use Rattle.auc_record.specs.declared.record.SyncVerdict.TheVariants as verdict
 use Rattle.auc_world.proofs.Facts.{sim_each}
 use Rattle.auc_transcript.specs.Keys.{AreNetsAfter}
 use Rattle.auc_transcript.specs.Leases.{EachLeasedNumberIsHandedOutOnce, JobHandsOut, JobsHandOut, SitesHandOutAfter, handed_by, handed_out, number_noted}

@@ -1,7 +1,7 @@
 -- For the witness of the law of leases: the number that a site hands out is that of the one vector before it.
 use Rattle.std.proofs.Common.{◌≡◌, ℕ, zero, suc, List, [], ◌∷◌, ◌++◌, Contains, refl, sym, ap, ◌∙◌, subst, arith, append-nil}
 use Rattle.std.proofs.lemmas.List.Elements.{All-head}
-use Rattle.auc_world.specs.declared.record.LineRecord.{LineRecord}
+use Rattle.auc_record.specs.declared.record.LineRecord.{LineRecord}
 use Rattle.auc_transcript.specs.Leases.{HandsOutAfter}
 use Rattle.auc_transcript.specs.Witnesses.{LeaseIsKept, leased_lines, leasing}
 

@@ -15,12 +15,11 @@ use Rattle.auc_sqn.specs.Number.{most_bits, sqn_bytes, top_of}
 use Rattle.auc_sqn.proofs.Facts.{each_number_has_its_own_sqn}
 use Rattle.auc_vector.specs.declared.notes.NumberNote.{NumberNote}
 use Rattle.auc_vector.specs.declared.notes.NumberNote.TheVariants as number
-use Rattle.auc_world.specs.Event.{number_for, number_released, resync_for}
-use Rattle.auc_world.specs.declared.record.LineRecord.{LineRecord}
-use Rattle.auc_world.specs.declared.record.LineRecord.TheVariants.{Vector, Withheld, Exhausted, Sync, Give, Further, Event}
-use Rattle.auc_world.specs.Lines.{released_by, numbers_of}
-use Rattle.auc_world.specs.Entries.{entries_of_line, entries_of_lines, entries_of_number, entries_of_resync}
-use Rattle.auc_world.specs.Given.{is_in}
+use Rattle.auc_record.specs.Event.{number_for, number_released, resync_for}
+use Rattle.auc_record.specs.declared.record.LineRecord.{LineRecord}
+use Rattle.auc_record.specs.declared.record.LineRecord.TheVariants.{Vector, Withheld, Exhausted, Sync, Give, Further, Event}
+use Rattle.auc_record.specs.Lines.{released_by, numbers_of, is_in}
+use Rattle.auc_record.specs.Entries.{entries_of_line, entries_of_lines, entries_of_number, entries_of_resync}
 
 -- ---- how often a number stands in a list
 

@@ -13,7 +13,7 @@ use Rattle.auc_peer.specs.Turn.{Decrypts, decryption_made}
 use Rattle.auc_peer.specs.declared.decrypted.Decrypted.{Decrypted}
 use Rattle.auc_peer.specs.declared.decrypted.Decrypted.TheVariants as decrypted
 use Rattle.auc_peer.specs.declared.peer.Peer.{Peer}
-use Rattle.auc_peer.specs.declared.why.PeerWhy.{PeerWhy}
+use Rattle.auc_vector.specs.declared.why.PeerWhy.{PeerWhy}
 use Rattle.auc_reauth.specs.Device.{Keeps}
 use Rattle.auc_seal.specs.Laws.{OneOpening}
 use Rattle.auc_server.specs.Replies.{Replies}
@@ -23,14 +23,15 @@ use Rattle.auc_server.specs.declared.reply.Reply.{Reply}
 use Rattle.auc_sim.specs.SessionLaws.{EachSessionHasOneRun}
 use Rattle.auc_vector.specs.declared.notes.Notes.{Notes}
 use Rattle.auc_vector.specs.declared.turn.Turn.{Turn}
-use Rattle.auc_world.specs.Came.{AreReceived, Came, RepliesAt, RepliesIn, TellsNotes, TellsReply, bytes_named, by_peer, came, came_at_peer, came_at_server, came_delivered, presented_at, presented_by, presented_in, received_at, received_by}
+use Rattle.auc_world.specs.Came.{AreReceived, RepliesAt, RepliesIn, TellsNotes, TellsReply, bytes_named, by_peer, came, came_at_peer, came_at_server, came_delivered, presented_at, presented_by, presented_in, received_at, received_by}
+use Rattle.auc_record.specs.Event.{Came}
 use Rattle.auc_world.specs.Given.{Before, IsUsimAsked}
 use Rattle.auc_world.specs.Happened.{Delivery, Told, breach_at, delivered, delivery_at, delivery_of, found_by, happened, moved, found, peer_finds, peer_turn, server_finds, to_peer, to_server, with_peer}
 use Rattle.auc_world.specs.Net.{Finding, Net, inputs_of_peer, judged, keeps_at, packet_at, session_place}
-use Rattle.auc_world.specs.Setting.{Setting}
-use Rattle.auc_world.specs.Told.{told_came}
-use Rattle.auc_world.specs.declared.event.Event.{Event}
-use Rattle.auc_world.specs.declared.event.Event.TheVariants as event
+use Rattle.auc_subs.specs.Setting.{Setting}
+use Rattle.auc_record.specs.Told.{told_came}
+use Rattle.auc_record.specs.declared.event.Event.{Event}
+use Rattle.auc_record.specs.declared.event.Event.TheVariants as event
 use Rattle.auc_world.specs.declared.net.SentPacket.{SentPacket}
 use Rattle.auc_world.specs.declared.net.Session.{Session}
 use Rattle.auc_transcript.proofs.ReplyLemmas.{replies_once}

@@ -17,19 +17,20 @@ use Rattle.auc_sites.specs.Run.{judgement_in}
 use Rattle.auc_sites.specs.declared.master.Judged.{Judged}
 use Rattle.auc_sites.specs.declared.master.Judged.TheVariants as judged
 use Rattle.auc_subs.specs.declared.row.Row.{Row}
-use Rattle.auc_world.specs.Given.{Authenticates, AuthenticatesIf, Before, DrawGives, EpsGives, FivegFollows, FivegGives, OneGives, SyncGives, VectorsFollow, behind, device_of_row, judged_lines, kasme_line}
-use Rattle.auc_world.specs.Lines.{numbers_of}
-use Rattle.auc_world.specs.Setting.{Setting}
+use Rattle.auc_world.specs.Given.{Authenticates, AuthenticatesIf, Before, EpsGives, FivegFollows, FivegGives, SyncGives, VectorsFollow, behind, device_of_row, judged_lines, kasme_line}
+use Rattle.auc_record.specs.Draws.{DrawGives, OneGives}
+use Rattle.auc_record.specs.Lines.{numbers_of}
+use Rattle.auc_subs.specs.Setting.{Setting}
 use Rattle.auc_world.specs.Sim.{SimFollowsIf, SimGives, sim_inputs}
 use Rattle.auc_world.specs.Sites.{LeaseGives, SiteEventGives, SitesGives, SitesGo, event_of, note_of, sites_start, turn_of}
-use Rattle.auc_world.specs.Told.{told_job, told_line}
-use Rattle.auc_world.specs.VectorAt.{vector_at, vector_of_row}
-use Rattle.auc_world.specs.declared.further.Further.TheVariants as further
-use Rattle.auc_world.specs.declared.record.GiveVerdict.{GiveVerdict}
-use Rattle.auc_world.specs.declared.record.LineRecord.{LineRecord}
-use Rattle.auc_world.specs.declared.record.LineRecord.TheVariants.{Vector, Withheld, Exhausted, Sync, Give, Further, Event}
-use Rattle.auc_world.specs.declared.record.SyncVerdict.{SyncVerdict}
-use Rattle.auc_world.specs.declared.record.SyncVerdict.TheVariants as verdict
+use Rattle.auc_record.specs.Told.{told_job, told_line}
+use Rattle.auc_record.specs.VectorAt.{vector_at, vector_of_row}
+use Rattle.auc_record.specs.declared.further.Further.TheVariants as further
+use Rattle.auc_record.specs.declared.record.GiveVerdict.{GiveVerdict}
+use Rattle.auc_record.specs.declared.record.LineRecord.{LineRecord}
+use Rattle.auc_record.specs.declared.record.LineRecord.TheVariants.{Vector, Withheld, Exhausted, Sync, Give, Further, Event}
+use Rattle.auc_record.specs.declared.record.SyncVerdict.{SyncVerdict}
+use Rattle.auc_record.specs.declared.record.SyncVerdict.TheVariants as verdict
 use Rattle.auc_world.proofs.Facts.{noted}
 
 -- ---- lists

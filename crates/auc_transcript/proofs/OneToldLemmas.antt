@@ -7,24 +7,25 @@ use Rattle.auc_lines.specs.declared.part.Line.{Line}
 use Rattle.auc_lines.specs.declared.part.Line.TheVariants as line
 use Rattle.auc_lines.specs.declared.part.Part.{Part}
 use Rattle.auc_lines.specs.declared.part.Part.TheVariants as part
-use Rattle.auc_world.specs.Came.{Came, came}
+use Rattle.auc_record.specs.Event.{Came}
+use Rattle.auc_world.specs.Came.{came}
 use Rattle.auc_world.specs.Given.{Before, EventGives, JobGives, JobsGive, LineGives, PlainGives, RelayGives, behind, packet_of}
 use Rattle.auc_world.specs.Net.{Net, other}
-use Rattle.auc_world.specs.Setting.{Setting}
+use Rattle.auc_subs.specs.Setting.{Setting}
 use Rattle.auc_world.specs.Start.{Kept, kept_by_jobs, start_of}
-use Rattle.auc_world.specs.Told.{told, told_came, told_event, told_job, told_part, told_round}
+use Rattle.auc_record.specs.Told.{told, told_came, told_event, told_job, told_part, told_round}
 use Rattle.auc_world.specs.Transcript.{Course, Leads, beginning}
-use Rattle.auc_world.specs.declared.event.Event.{Event as Happens}
-use Rattle.auc_world.specs.declared.event.Event.TheVariants as event
-use Rattle.auc_world.specs.declared.event.EventRecord.{EventRecord}
-use Rattle.auc_world.specs.declared.record.Closing.{Closing}
-use Rattle.auc_world.specs.declared.record.LineRecord.{LineRecord}
-use Rattle.auc_world.specs.declared.record.LineRecord.TheVariants.{Event}
-use Rattle.auc_world.specs.declared.record.PartRecord.{PartRecord}
-use Rattle.auc_world.specs.declared.record.PartRecord.TheVariants as record_of
-use Rattle.auc_world.specs.declared.record.Premise.{Premise}
-use Rattle.auc_world.specs.declared.record.RoundRecord.{RoundRecord}
-use Rattle.auc_world.specs.declared.record.SessionVerdict.{SessionVerdict}
+use Rattle.auc_record.specs.declared.event.Event.{Event as Happens}
+use Rattle.auc_record.specs.declared.event.Event.TheVariants as event
+use Rattle.auc_record.specs.declared.event.EventRecord.{EventRecord}
+use Rattle.auc_record.specs.declared.record.Closing.{Closing}
+use Rattle.auc_record.specs.declared.record.LineRecord.{LineRecord}
+use Rattle.auc_record.specs.declared.record.LineRecord.TheVariants.{Event}
+use Rattle.auc_record.specs.declared.record.PartRecord.{PartRecord}
+use Rattle.auc_record.specs.declared.record.PartRecord.TheVariants as record_of
+use Rattle.auc_record.specs.declared.record.Premise.{Premise}
+use Rattle.auc_record.specs.declared.record.RoundRecord.{RoundRecord}
+use Rattle.auc_record.specs.declared.record.SessionVerdict.{SessionVerdict}
 use Rattle.auc_transcript.specs.OneTold.{EachToldTranscriptIsOne}
 use Rattle.auc_transcript.proofs.OneEventLemmas.{Laws, event_one}
 use Rattle.auc_transcript.proofs.OneLineLemmas.{answered_one, conses, draw_one, eps_one, fiveg_one, heads, same_rest, sim_one, sites_one, sync_one, tails}

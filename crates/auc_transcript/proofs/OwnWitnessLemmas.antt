@@ -22,10 +22,10 @@ use Rattle.auc_server.specs.declared.reply.Reply.TheVariants as reply
 use Rattle.auc_vector.specs.declared.notes.CounterNote.TheVariants as counts
 use Rattle.auc_world.specs.Happened.{Told, happened}
 use Rattle.auc_world.specs.Net.{Net, keeps_at}
-use Rattle.auc_world.specs.Setting.{Setting}
+use Rattle.auc_subs.specs.Setting.{Setting}
 use Rattle.auc_world.specs.Start.{start_of}
-use Rattle.auc_world.specs.declared.event.Event.TheVariants as event
-use Rattle.auc_world.specs.declared.event.EventRecord.{EventRecord}
+use Rattle.auc_record.specs.declared.event.Event.TheVariants as event
+use Rattle.auc_record.specs.declared.event.EventRecord.{EventRecord}
 use Rattle.auc_world.specs.declared.net.Session.{Session}
 use Rattle.auc_transcript.specs.Counters.{HappensIn, IsOwn, LinesLead}
 use Rattle.auc_transcript.specs.Witnesses.{AcceptanceIsOwn, accepts, context, opening_with, peer_sent, setting, subscriber, text_sent}

@@ -9,7 +9,7 @@ use Rattle.auc_history.specs.declared.entry.Entry.TheVariants.{Drawn, Moved, Loo
 use Rattle.auc_history.specs.History.{numbers_after, covered, drawn}
 use Rattle.auc_history.specs.Split.{all_entries, times}
 use Rattle.auc_history.proofs.Facts.{times-cons, times-append, times-drawn, times-numbers_after}
-use Rattle.auc_world.specs.Given.{is_in}
+use Rattle.auc_record.specs.Lines.{is_in}
 use Rattle.auc_transcript.specs.Headline.{is_moved, is_later, place_in, place_of}
 use Rattle.auc_transcript.proofs.LineLemmas.{times-from_is_in, is_in-from_times}
 use Rattle.auc_transcript.proofs.RoundLemmas.{CoversRange, times-drawn-append}

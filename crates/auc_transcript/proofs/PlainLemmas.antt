@@ -14,26 +14,25 @@ use Rattle.auc_lines.specs.declared.part.Line.TheVariants as line
 use Rattle.auc_lines.specs.declared.part.Part.{Part}
 use Rattle.auc_lines.specs.declared.part.Part.TheVariants as part
 use Rattle.auc_lines.specs.declared.part.SessionLine.{SessionLine}
-use Rattle.auc_server.specs.Setting.{Setting}
+use Rattle.auc_subs.specs.Setting.{Setting}
 use Rattle.auc_subs.specs.Subscriber.{AreSubscribers}
 use Rattle.auc_subs.specs.declared.row.Row.{Row}
 use Rattle.auc_world.specs.Agreement.{IsRealm}
-use Rattle.auc_world.specs.Came.{Came}
-use Rattle.auc_world.specs.Event.{asked_in, number_in, number_released, resync_in, usim_in}
+use Rattle.auc_record.specs.Event.{Came, asked_in, number_in, number_released, resync_in, usim_in}
 use Rattle.auc_world.specs.Given.{Before, EventGives, JobGives, JobsGive, PlainGives, RelayGives, behind, packet_of}
-use Rattle.auc_world.specs.Lines.{all_lines}
+use Rattle.auc_record.specs.Lines.{all_lines}
 use Rattle.auc_world.specs.Net.{Net, other as other_end}
 use Rattle.auc_world.specs.Plain.{EachPlainSessionSucceeds, IsAskedFor, Succeeds, TellChallenge, TellNoCause, came_of, counter_accepted, counter_resumed, is_refused, is_unresolved, results, sqn_reported}
 use Rattle.auc_world.specs.Sessions.{job_sessions, verdict_on}
 use Rattle.auc_world.specs.Start.{Kept, kept_by_jobs, start_of}
 use Rattle.auc_world.specs.Transcript.{Course, Leads, after_restart, after_round, beginning}
-use Rattle.auc_world.specs.declared.event.Event.{Event as Happens}
-use Rattle.auc_world.specs.declared.event.Event.TheVariants as event
-use Rattle.auc_world.specs.declared.record.JobSessions.{JobSessions}
-use Rattle.auc_world.specs.declared.record.LineRecord.{LineRecord}
-use Rattle.auc_world.specs.declared.record.PartRecord.{PartRecord}
-use Rattle.auc_world.specs.declared.record.PartRecord.TheVariants as record_of
-use Rattle.auc_world.specs.declared.record.SessionVerdict.{SessionVerdict}
+use Rattle.auc_record.specs.declared.event.Event.{Event as Happens}
+use Rattle.auc_record.specs.declared.event.Event.TheVariants as event
+use Rattle.auc_record.specs.declared.record.JobSessions.{JobSessions}
+use Rattle.auc_record.specs.declared.record.LineRecord.{LineRecord}
+use Rattle.auc_record.specs.declared.record.PartRecord.{PartRecord}
+use Rattle.auc_record.specs.declared.record.PartRecord.TheVariants as record_of
+use Rattle.auc_record.specs.declared.record.SessionVerdict.{SessionVerdict}
 use Rattle.auc_transcript.specs.Completeness.{EachJobSucceeds, EachPlainSessionAgrees, IsOnlyEvent, IsSuited, PlainSessionsAgree, is_of_session, opening_in, records_of, session_in, session_named}
 use Rattle.auc_transcript.specs.Keys.{AreNetsAfter}
 use Rattle.auc_transcript.proofs.ListLemmas.{all_left, all_right}

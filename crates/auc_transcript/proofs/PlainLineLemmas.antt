@@ -8,14 +8,14 @@ use Rattle.auc_lines.specs.declared.part.Line.{Line}
 use Rattle.auc_lines.specs.declared.part.Line.TheVariants as line
 use Rattle.auc_lines.specs.declared.part.SessionLine.{SessionLine}
 use Rattle.auc_peer.specs.Subscription.{Subscription}
-use Rattle.auc_server.specs.Setting.{Setting}
+use Rattle.auc_subs.specs.Setting.{Setting}
 use Rattle.auc_subs.specs.declared.row.Row.{Row}
 use Rattle.auc_world.specs.Came.{session_of}
 use Rattle.auc_world.specs.Given.{Before, JobGives, LineGives, PlainGives, behind}
 use Rattle.auc_world.specs.Net.{Net, device_place}
 use Rattle.auc_world.specs.Start.{Kept, start_of, subscription_at}
 use Rattle.auc_world.specs.declared.net.Session.{Session}
-use Rattle.auc_world.specs.declared.record.LineRecord.{LineRecord}
+use Rattle.auc_record.specs.declared.record.LineRecord.{LineRecord}
 use Rattle.auc_transcript.specs.Completeness.{opening_by, opening_in, session_named}
 use Rattle.auc_transcript.proofs.KeptNameLemmas.{AreKept, KeepsNames, line_has, start_has}
 use Rattle.auc_transcript.proofs.KindLemmas.{behind_none, behind_on, opens_only}

@@ -28,19 +28,19 @@ use Rattle.auc_vector.specs.declared.notes.Notes.{Notes}
 use Rattle.auc_vector.specs.declared.notes.UsimNote.{UsimNote}
 use Rattle.auc_vector.specs.declared.notes.UsimNote.TheVariants as usim
 use Rattle.auc_vector.proofs.Facts.{autn_carries, autn_has_its_mac}
-use Rattle.auc_world.specs.Came.{AreReceived, Came, TellsNotes, bytes_named, came, came_at_peer, came_delivered, presented_at, presented_by, presented_in, received_at, received_by}
-use Rattle.auc_world.specs.Event.{device_in, usim_for, usim_in}
+use Rattle.auc_world.specs.Came.{AreReceived, TellsNotes, bytes_named, came, came_at_peer, came_delivered, presented_at, presented_by, presented_in, received_at, received_by}
+use Rattle.auc_record.specs.Event.{Came, device_in, usim_for, usim_in}
 use Rattle.auc_world.specs.Given.{Before, IsUsimAsked, UsimAnswers, UsimNotes, past_before, verdict_by}
 use Rattle.auc_world.specs.Happened.{Delivery, Told, delivery_at, delivery_of, peer_turn}
 use Rattle.auc_world.specs.Net.{Net, keeps_at, packet_at, session_place}
-use Rattle.auc_world.specs.Setting.{Setting}
-use Rattle.auc_world.specs.declared.event.Event.{Event}
-use Rattle.auc_world.specs.declared.event.Event.TheVariants as event
-use Rattle.auc_world.specs.declared.event.EventRecord.{EventRecord}
+use Rattle.auc_subs.specs.Setting.{Setting}
+use Rattle.auc_record.specs.declared.event.Event.{Event}
+use Rattle.auc_record.specs.declared.event.Event.TheVariants as event
+use Rattle.auc_record.specs.declared.event.EventRecord.{EventRecord}
 use Rattle.auc_world.specs.declared.net.SentPacket.{SentPacket}
 use Rattle.auc_world.specs.declared.net.Session.{Session}
-use Rattle.auc_world.specs.declared.record.GiveVerdict.{GiveVerdict}
-use Rattle.auc_world.specs.declared.record.GiveVerdict.TheVariants as given
+use Rattle.auc_record.specs.declared.record.GiveVerdict.{GiveVerdict}
+use Rattle.auc_record.specs.declared.record.GiveVerdict.TheVariants as given
 use Rattle.auc_world.proofs.Facts.{IsPresentedAt, presented_is_at}
 use Rattle.auc_transcript.specs.Presented.{packet_of_number, packets_in}
 use Rattle.auc_transcript.proofs.HandedLemmas.{IsReadIn, handed_is_read}

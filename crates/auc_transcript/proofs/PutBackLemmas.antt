@@ -15,7 +15,7 @@ use Rattle.auc_lines.specs.declared.part.Line.{Line}
 use Rattle.auc_peer.specs.Subscription.{Subscription}
 use Rattle.auc_reauth.specs.Device.{Keeps}
 use Rattle.auc_server.specs.Ordinals.{home_at, home_place}
-use Rattle.auc_server.specs.Setting.{Setting}
+use Rattle.auc_subs.specs.Setting.{Setting}
 use Rattle.auc_server.specs.declared.setting.HomeRow.{HomeRow}
 use Rattle.auc_subs.specs.Subscriber.{AreSubscribers, same_identity}
 use Rattle.auc_subs.specs.declared.row.Row.{Row}

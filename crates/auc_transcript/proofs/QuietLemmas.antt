@@ -9,16 +9,16 @@ use Rattle.auc_lines.specs.declared.part.End.{End}
 use Rattle.auc_lines.specs.declared.part.End.TheVariants as end
 use Rattle.auc_lines.specs.declared.part.Line.{Line}
 use Rattle.auc_lines.specs.declared.part.SessionLine.{SessionLine}
-use Rattle.auc_world.specs.Came.{Came, came, came_opened}
-use Rattle.auc_world.specs.Event.{number_in, number_released}
+use Rattle.auc_record.specs.Event.{Came, number_in, number_released}
+use Rattle.auc_world.specs.Came.{came, came_opened}
 use Rattle.auc_world.specs.Given.{Before, EventGives, JobGives, LineGives, PlainGives, RelayGives, behind, packet_of}
 use Rattle.auc_world.specs.Net.{Net, device_place, other, session_place}
 use Rattle.auc_world.specs.Plain.{came_of, results}
-use Rattle.auc_world.specs.Setting.{Setting}
-use Rattle.auc_world.specs.declared.event.Event.{Event as Happens}
-use Rattle.auc_world.specs.declared.event.Event.TheVariants as event
-use Rattle.auc_world.specs.declared.record.LineRecord.{LineRecord}
-use Rattle.auc_world.specs.declared.record.LineRecord.TheVariants.{Vector, Withheld, Exhausted, Sync, Give, Further, Event}
+use Rattle.auc_subs.specs.Setting.{Setting}
+use Rattle.auc_record.specs.declared.event.Event.{Event as Happens}
+use Rattle.auc_record.specs.declared.event.Event.TheVariants as event
+use Rattle.auc_record.specs.declared.record.LineRecord.{LineRecord}
+use Rattle.auc_record.specs.declared.record.LineRecord.TheVariants.{Vector, Withheld, Exhausted, Sync, Give, Further, Event}
 use Rattle.auc_transcript.specs.Completeness.{is_of_session, records_of, session_in, session_named}
 use Rattle.auc_transcript.specs.Headline.{IsOutsideSessions}
 use Rattle.auc_transcript.proofs.KindLemmas.{by_kind, line_of, quiet_gives}

@@ -12,18 +12,19 @@ use Rattle.auc_lines.specs.declared.part.Part.{Part}
 use Rattle.auc_lines.specs.declared.part.Part.TheVariants.{Round, Restart}
 use Rattle.auc_subs.specs.Subscriber.{top_at}
 use Rattle.auc_subs.specs.declared.row.Row.{Row}
-use Rattle.auc_world.specs.declared.record.PartRecord.{PartRecord}
-use Rattle.auc_world.specs.declared.record.PartRecord.TheVariants as record_of
-use Rattle.auc_world.specs.declared.record.RoundRecord.{RoundRecord}
-use Rattle.auc_world.specs.Lines.{numbers_of, all_lines}
-use Rattle.auc_world.specs.Setting.{Setting}
+use Rattle.auc_record.specs.declared.record.PartRecord.{PartRecord}
+use Rattle.auc_record.specs.declared.record.PartRecord.TheVariants as record_of
+use Rattle.auc_record.specs.declared.record.RoundRecord.{RoundRecord}
+use Rattle.auc_record.specs.Lines.{numbers_of, all_lines}
+use Rattle.auc_subs.specs.Setting.{Setting}
 use Rattle.auc_world.specs.Limits.{Raises}
 use Rattle.auc_world.specs.Net.{Net}
 use Rattle.auc_world.specs.Transcript.{Course, Leads, beginning, after_round, after_restart}
 use Rattle.auc_transcript.specs.Headline.{EachTranscriptMayRestart}
 use Rattle.auc_transcript.proofs.AboveLemmas.{top_is_number}
 use Rattle.auc_transcript.proofs.CourseLemmas.{leads_more}
-use Rattle.auc_world.proofs.Facts.{get_or-greater, length-opened, length-reopened}
+use Rattle.auc_world.proofs.Facts.{get_or-greater, length-opened}
+use Rattle.auc_record.proofs.Facts.{length-reopened}
 use Rattle.auc_transcript.proofs.LineLemmas.{All-times, times-numbers-append}
 use Rattle.auc_transcript.proofs.ServedLemmas.{round_served}
 use Rattle.auc_transcript.proofs.VectorLemmas.{numbers_within, round_between}

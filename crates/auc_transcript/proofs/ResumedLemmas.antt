@@ -18,7 +18,7 @@ use Rattle.auc_lines.specs.declared.part.Part.TheVariants as part
 use Rattle.auc_lines.specs.declared.part.SessionLine.{SessionLine}
 use Rattle.auc_peer.specs.Subscription.{Subscription}
 use Rattle.auc_reauth.specs.declared.context.Context.{Context}
-use Rattle.auc_server.specs.Setting.{Setting}
+use Rattle.auc_subs.specs.Setting.{Setting}
 use Rattle.auc_server.specs.declared.server.Resumed.{Resumed}
 use Rattle.auc_subs.specs.Subscriber.{AreSubscribers, same_identity}
 use Rattle.auc_subs.specs.declared.row.Row.{Row}
@@ -26,19 +26,19 @@ use Rattle.auc_world.specs.Agreement.{IsRealm, IsSized}
 use Rattle.auc_world.specs.Came.{session_at}
 use Rattle.auc_world.specs.Given.{Before, JobGives, JobsGive, PlainGives, RelayGives, behind, packet_of}
 use Rattle.auc_world.specs.Happened.{Told, happened, start}
-use Rattle.auc_world.specs.Lines.{all_lines}
+use Rattle.auc_record.specs.Lines.{all_lines}
 use Rattle.auc_world.specs.Net.{Net, other, place_with, session_place}
 use Rattle.auc_world.specs.Plain.{EachResumedSessionSucceeds, HasResumed, HasSameContext, IsReadyAgain, Succeeds}
 use Rattle.auc_world.specs.Sessions.{verdict_on}
 use Rattle.auc_world.specs.Start.{Kept, kept_by_jobs, start_of}
 use Rattle.auc_world.specs.Transcript.{Course, Leads, after_restart, after_round, beginning}
 use Rattle.auc_world.specs.World.{IsName}
-use Rattle.auc_world.specs.declared.event.Event.TheVariants as event
+use Rattle.auc_record.specs.declared.event.Event.TheVariants as event
 use Rattle.auc_world.specs.declared.net.Session.{Session}
-use Rattle.auc_world.specs.declared.record.LineRecord.{LineRecord}
-use Rattle.auc_world.specs.declared.record.PartRecord.{PartRecord}
-use Rattle.auc_world.specs.declared.record.PartRecord.TheVariants as record_of
-use Rattle.auc_world.specs.declared.record.SessionVerdict.{SessionVerdict}
+use Rattle.auc_record.specs.declared.record.LineRecord.{LineRecord}
+use Rattle.auc_record.specs.declared.record.PartRecord.{PartRecord}
+use Rattle.auc_record.specs.declared.record.PartRecord.TheVariants as record_of
+use Rattle.auc_record.specs.declared.record.SessionVerdict.{SessionVerdict}
 use Rattle.auc_transcript.specs.Completeness.{EachJobResumes, EachResumedSessionAgrees, HasContext, ResumedSessionsAgreeAfter, ResumedSessionsSucceed, opening_in, session_named}
 use Rattle.auc_transcript.specs.Keys.{AreNetsAfter}
 use Rattle.auc_transcript.proofs.FirstLemmas.{none_passes}
@@ -51,7 +51,7 @@ use Rattle.auc_transcript.proofs.PlainLineLemmas.{IsFresh, IsOpen, job_leaves, p
 use Rattle.auc_transcript.proofs.ReadyLemmas.{IsCard, cards, found_is_new}
 use Rattle.auc_transcript.proofs.SizeLemmas.{AreKeptSized, first_sized, job_reaches, reached_itself, reached_resumes, round_sized}
 use Rattle.auc_transcript.proofs.StayingLemmas.{IsMove, IsTurn, at_moves, delivery_moves, found_has_number, has_number, start_moves}
-use Rattle.auc_world.specs.Told.{told_job}
+use Rattle.auc_record.specs.Told.{told_job}
 
 -- the laws on which it stands
 pub record Laws : Type 0 where

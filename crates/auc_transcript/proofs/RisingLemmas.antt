@@ -12,16 +12,17 @@ use Rattle.auc_lines.specs.declared.part.Part.TheVariants.{Round, Restart}
 use Rattle.auc_sites.specs.Lease.{IsRising}
 use Rattle.auc_vector.specs.declared.notes.NumberNote.{NumberNote}
 use Rattle.auc_vector.specs.declared.notes.NumberNote.TheVariants as number
-use Rattle.auc_world.specs.Entries.{entries_of_jobs, entries_of_line, entries_of_lines, entries_of_number, entries_of_resync}
-use Rattle.auc_world.specs.Event.{number_for, number_released, resync_for}
-use Rattle.auc_world.specs.Lines.{numbers_of, released_by}
-use Rattle.auc_world.specs.Setting.{Setting}
+use Rattle.auc_record.specs.Entries.{entries_of_jobs, entries_of_line, entries_of_lines, entries_of_number, entries_of_resync}
+use Rattle.auc_record.specs.Event.{number_for, number_released, resync_for}
+use Rattle.auc_record.specs.Lines.{numbers_of, released_by}
+use Rattle.auc_subs.specs.Setting.{Setting}
 use Rattle.auc_world.specs.Transcript.{Course, IsLawful, Leads, after_restart, after_round, beginning}
-use Rattle.auc_world.specs.declared.record.LineRecord.{LineRecord}
-use Rattle.auc_world.specs.declared.record.LineRecord.TheVariants.{Vector, Withheld, Exhausted, Sync, Give, Further, Event}
-use Rattle.auc_world.specs.declared.record.PartRecord.{PartRecord}
-use Rattle.auc_world.specs.declared.record.PartRecord.TheVariants as record_of
-use Rattle.auc_world.proofs.Facts.{length-opened, length-reopened}
+use Rattle.auc_record.specs.declared.record.LineRecord.{LineRecord}
+use Rattle.auc_record.specs.declared.record.LineRecord.TheVariants.{Vector, Withheld, Exhausted, Sync, Give, Further, Event}
+use Rattle.auc_record.specs.declared.record.PartRecord.{PartRecord}
+use Rattle.auc_record.specs.declared.record.PartRecord.TheVariants as record_of
+use Rattle.auc_world.proofs.Facts.{length-opened}
+use Rattle.auc_record.proofs.Facts.{length-reopened}
 use Rattle.auc_transcript.proofs.ListLemmas.{AllPairs-right, all_of, pairs_across, pairs_join}
 
 -- ---- numbers, and the entries in which they were drawn

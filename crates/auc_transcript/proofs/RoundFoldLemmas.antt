@@ -9,17 +9,17 @@ use Rattle.auc_lines.specs.declared.part.Line.{Line}
 use Rattle.auc_lines.specs.declared.part.Part.{Part}
 use Rattle.auc_lines.specs.declared.part.Part.TheVariants as part
 use Rattle.auc_server.specs.Ordinals.{home_at, home_place}
-use Rattle.auc_server.specs.Setting.{Setting}
+use Rattle.auc_subs.specs.Setting.{Setting}
 use Rattle.auc_server.specs.declared.setting.HomeRow.{HomeRow}
 use Rattle.auc_world.specs.Given.{Before, JobGives, JobsGive}
-use Rattle.auc_world.specs.Lines.{all_lines}
+use Rattle.auc_record.specs.Lines.{all_lines}
 use Rattle.auc_world.specs.Net.{Net, keeps_at}
 use Rattle.auc_world.specs.Start.{Kept, kept_by_jobs, kept_now, kept_of, kept_with, start_of}
 use Rattle.auc_world.specs.Transcript.{lines_of}
 use Rattle.auc_world.specs.declared.net.Session.{Session}
-use Rattle.auc_world.specs.declared.record.LineRecord.{LineRecord}
-use Rattle.auc_world.specs.declared.record.PartRecord.{PartRecord}
-use Rattle.auc_world.specs.declared.record.PartRecord.TheVariants as record_of
+use Rattle.auc_record.specs.declared.record.LineRecord.{LineRecord}
+use Rattle.auc_record.specs.declared.record.PartRecord.{PartRecord}
+use Rattle.auc_record.specs.declared.record.PartRecord.TheVariants as record_of
 use Rattle.auc_transcript.specs.Counters.{all_sessions}
 use Rattle.auc_transcript.specs.Keys.{AreHeldApart, AreNetsAfter, IsHeldApart}
 use Rattle.auc_transcript.proofs.DeviceEventLemmas.{Stays, event_stays}

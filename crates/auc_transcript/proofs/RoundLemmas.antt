@@ -14,15 +14,15 @@ use Rattle.auc_vector.specs.declared.notes.NumberNote.{NumberNote}
 use Rattle.auc_vector.specs.declared.notes.NumberNote.TheVariants as number
 use Rattle.auc_vector.specs.declared.notes.ResyncNote.{ResyncNote}
 use Rattle.auc_vector.specs.declared.notes.ResyncNote.TheVariants as resync
-use Rattle.auc_world.specs.Event.{number_for, number_released, number_withheld, resync_for}
-use Rattle.auc_world.specs.declared.record.LineRecord.{LineRecord}
-use Rattle.auc_world.specs.declared.record.LineRecord.TheVariants.{Vector, Withheld, Exhausted, Sync, Give, Further, Event}
-use Rattle.auc_world.specs.declared.record.RoundRecord.{RoundRecord}
-use Rattle.auc_world.specs.declared.record.SyncVerdict.{SyncVerdict}
-use Rattle.auc_world.specs.declared.record.SyncVerdict.TheVariants as verdict
-use Rattle.auc_world.specs.Lines.{numbers_of, withheld_of, all_lines}
-use Rattle.auc_world.specs.Entries.{is_reported, entries_of_verdict, entries_of_resync, entries_of_number, entries_of_line, entries_of_lines, entries_of_jobs}
-use Rattle.auc_world.specs.Setting.{Setting}
+use Rattle.auc_record.specs.Event.{number_for, number_released, number_withheld, resync_for}
+use Rattle.auc_record.specs.declared.record.LineRecord.{LineRecord}
+use Rattle.auc_record.specs.declared.record.LineRecord.TheVariants.{Vector, Withheld, Exhausted, Sync, Give, Further, Event}
+use Rattle.auc_record.specs.declared.record.RoundRecord.{RoundRecord}
+use Rattle.auc_record.specs.declared.record.SyncVerdict.{SyncVerdict}
+use Rattle.auc_record.specs.declared.record.SyncVerdict.TheVariants as verdict
+use Rattle.auc_record.specs.Lines.{numbers_of, withheld_of, all_lines}
+use Rattle.auc_record.specs.Entries.{is_reported, entries_of_verdict, entries_of_resync, entries_of_number, entries_of_line, entries_of_lines, entries_of_jobs}
+use Rattle.auc_subs.specs.Setting.{Setting}
 use Rattle.auc_world.specs.Transcript.{entries_of}
 use Rattle.auc_transcript.proofs.EventLemmas.{IsNoteServed}
 use Rattle.auc_transcript.proofs.LineLemmas.{times-numbers}

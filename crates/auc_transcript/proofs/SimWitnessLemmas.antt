@@ -7,15 +7,15 @@ use Rattle.auc_lines.specs.declared.sim.SimSchedule.{SimSchedule}
 use Rattle.auc_lines.specs.declared.sim.SimSchedule.TheVariants.{Plain}
 use Rattle.auc_random.specs.Random.{rand_of}
 use Rattle.auc_sim.specs.SessionLaws.{Succeeds}
-use Rattle.auc_sim.specs.declared.note.SimNote.{SimNote}
-use Rattle.auc_sim.specs.declared.note.SimNote.TheVariants as sim_note
-use Rattle.auc_world.specs.Draws.{DrawGives}
-use Rattle.auc_world.specs.Lines.{numbers_of}
+use Rattle.auc_vector.specs.declared.sim_note.SimNote.{SimNote}
+use Rattle.auc_vector.specs.declared.sim_note.SimNote.TheVariants as sim_note
+use Rattle.auc_record.specs.Draws.{DrawGives}
+use Rattle.auc_record.specs.Lines.{numbers_of}
 use Rattle.auc_world.specs.Net.{Net}
-use Rattle.auc_world.specs.Setting.{Setting}
-use Rattle.auc_world.specs.declared.further.Further.TheVariants as further
-use Rattle.auc_world.specs.declared.record.LineRecord.{LineRecord}
-use Rattle.auc_world.specs.declared.record.LineRecord.TheVariants.{Vector, Withheld, Further}
+use Rattle.auc_subs.specs.Setting.{Setting}
+use Rattle.auc_record.specs.declared.further.Further.TheVariants as further
+use Rattle.auc_record.specs.declared.record.LineRecord.{LineRecord}
+use Rattle.auc_record.specs.declared.record.LineRecord.TheVariants.{Vector, Withheld, Further}
 use Rattle.auc_world.proofs.Facts.{noted}
 use Rattle.auc_transcript.specs.SimSessions.{HasSession, SimLineHolds, SimSessionsAgree}
 use Rattle.auc_transcript.specs.Witnesses.{SimEndsAgree, SimSessionIsNone, SimSessionSucceeds, setting, sim_line, sim_lines, sim_round, transcript_of}

@@ -11,13 +11,13 @@ use Rattle.auc_lines.specs.declared.part.Part.{Part}
 use Rattle.auc_sqn.specs.Number.{seq_of, sqn_bytes, top_of}
 use Rattle.auc_subs.specs.Subscriber.{AreSubscribers}
 use Rattle.auc_subs.specs.declared.row.Row.{Row}
-use Rattle.auc_world.specs.declared.record.GiveVerdict.{GiveVerdict}
-use Rattle.auc_world.specs.declared.record.LineRecord.{LineRecord}
-use Rattle.auc_world.specs.declared.record.PartRecord.TheVariants as record_of
-use Rattle.auc_world.specs.declared.record.RoundRecord.{RoundRecord}
-use Rattle.auc_world.specs.Given.{UsimAnswers, is_in, past_by, verdict_by}
-use Rattle.auc_world.specs.Lines.{accepted, numbers_of}
-use Rattle.auc_world.specs.Setting.{Setting}
+use Rattle.auc_record.specs.declared.record.GiveVerdict.{GiveVerdict}
+use Rattle.auc_record.specs.declared.record.LineRecord.{LineRecord}
+use Rattle.auc_record.specs.declared.record.PartRecord.TheVariants as record_of
+use Rattle.auc_record.specs.declared.record.RoundRecord.{RoundRecord}
+use Rattle.auc_world.specs.Given.{UsimAnswers, past_by, verdict_by}
+use Rattle.auc_record.specs.Lines.{is_in, accepted, numbers_of}
+use Rattle.auc_subs.specs.Setting.{Setting}
 use Rattle.auc_world.specs.Transcript.{IsLawful, entries_of, before_first, lines_of, stretches_of}
 use Rattle.auc_transcript.specs.Headline.{is_moved, is_later, is_one_period, place_in, place_of, FailsByPlace, IsFailure, IsGenuine, IsInReach, IsStaleBy}
 use Rattle.auc_transcript.specs.Rounds.{entries_of_rounds, is_of_later_period, is_of_one_period, place_in_period, FailsByPlaceInRounds, IsInReachInRounds, EachFailureInRoundsIsByPlace}

@@ -19,12 +19,12 @@ use Rattle.auc_subs.specs.declared.row.Row.{Row}
 use Rattle.auc_world.specs.Agreement.{AreSized, Happening, IsSized, Occurs, after, after_one}
 use Rattle.auc_world.specs.Given.{Before, EventGives, JobGives, JobsGive, LineGives, PlainGives, RelayGives, behind, packet_of}
 use Rattle.auc_world.specs.Net.{Net, other}
-use Rattle.auc_world.specs.Setting.{Setting}
+use Rattle.auc_subs.specs.Setting.{Setting}
 use Rattle.auc_world.specs.Start.{Kept, fresh_kept, home_of, kept_by_jobs, kept_now, kept_of, kept_or, kept_with, put_back, start_of}
-use Rattle.auc_world.specs.declared.event.Event.{Event}
-use Rattle.auc_world.specs.declared.event.Event.TheVariants as event
+use Rattle.auc_record.specs.declared.event.Event.{Event}
+use Rattle.auc_record.specs.declared.event.Event.TheVariants as event
 use Rattle.auc_world.specs.declared.net.Session.{Session}
-use Rattle.auc_world.specs.declared.record.LineRecord.{LineRecord}
+use Rattle.auc_record.specs.declared.record.LineRecord.{LineRecord}
 use Rattle.auc_world.proofs.Facts.{run_is_sized, run_resumes_sized}
 use Rattle.auc_transcript.proofs.KindLemmas.{by_kind, event_gives}
 

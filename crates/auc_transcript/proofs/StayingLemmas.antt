@@ -12,15 +12,15 @@ use Rattle.auc_lines.specs.declared.part.SessionLine.{SessionLine}
 use Rattle.auc_peer.specs.Subscription.{Subscription}
 use Rattle.auc_peer.specs.Table.{gave_up as peer_gave_up}
 use Rattle.auc_peer.specs.declared.peer.Peer.{Peer}
-use Rattle.auc_peer.specs.declared.why.PeerWhy.{PeerWhy}
+use Rattle.auc_vector.specs.declared.why.PeerWhy.{PeerWhy}
 use Rattle.auc_released.specs.declared.numbers.Number.{Number}
 use Rattle.auc_server.specs.Rows.{server_row}
 use Rattle.auc_server.specs.Server.{ServerEnd, started}
-use Rattle.auc_server.specs.Setting.{Setting}
+use Rattle.auc_subs.specs.Setting.{Setting}
 use Rattle.auc_server.specs.Steps.{asking}
 use Rattle.auc_server.specs.Table.{gave_up as server_gave_up, repeated}
 use Rattle.auc_server.specs.declared.setting.HomeRow.{HomeRow}
-use Rattle.auc_server.specs.declared.why.ServerWhy.{ServerWhy}
+use Rattle.auc_vector.specs.declared.why.ServerWhy.{ServerWhy}
 use Rattle.auc_subs.specs.declared.row.Row.{Row}
 use Rattle.auc_vector.specs.declared.turn.Step.{Step}
 use Rattle.auc_vector.specs.declared.turn.Step.TheVariants as step
@@ -29,11 +29,11 @@ use Rattle.auc_world.specs.Given.{Before, EventGives, LineGives, PlainGives, Rel
 use Rattle.auc_world.specs.Happened.{Delivery, Told, at_place, delivered, delivery_at, delivery_of, give_up, happened, in_session, keys_won, moved, new_session, opened, peer_turn, drawn_in_turn, repeat, server_gives_up, server_turn, start, to_peer, to_server, with_peer, with_server}
 use Rattle.auc_world.specs.Net.{Net, device_place, keeps_at, other as other_end, packet_at, session_place}
 use Rattle.auc_world.specs.World.{AreOfSame}
-use Rattle.auc_world.specs.declared.event.Event.{Event}
-use Rattle.auc_world.specs.declared.event.Event.TheVariants as event
+use Rattle.auc_record.specs.declared.event.Event.{Event}
+use Rattle.auc_record.specs.declared.event.Event.TheVariants as event
 use Rattle.auc_world.specs.declared.net.SentPacket.{SentPacket}
 use Rattle.auc_world.specs.declared.net.Session.{Session}
-use Rattle.auc_world.specs.declared.record.LineRecord.{LineRecord}
+use Rattle.auc_record.specs.declared.record.LineRecord.{LineRecord}
 use Rattle.auc_world.proofs.Facts.{turn_subs}
 use Rattle.auc_transcript.specs.Completeness.{opening_by, session_in, session_named}
 use Rattle.auc_transcript.proofs.FirstLemmas.{StaysFirst, first_after_push, first_after_set, passes_first, pushed_is_first}

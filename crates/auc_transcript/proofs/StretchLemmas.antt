@@ -13,18 +13,20 @@ use Rattle.auc_history.proofs.Facts.{times-drawn}
 use Rattle.auc_lines.specs.declared.part.Line.{Line}
 use Rattle.auc_lines.specs.declared.part.Part.{Part}
 use Rattle.auc_lines.specs.declared.part.Part.TheVariants.{Round, Restart}
-use Rattle.auc_world.specs.declared.record.LineRecord.{LineRecord}
-use Rattle.auc_world.specs.declared.record.PartRecord.{PartRecord}
-use Rattle.auc_world.specs.declared.record.PartRecord.TheVariants as record_of
-use Rattle.auc_world.specs.declared.record.RoundRecord.{RoundRecord}
-use Rattle.auc_world.specs.Lines.{numbers_of, all_lines}
-use Rattle.auc_world.specs.Setting.{Setting}
+use Rattle.auc_record.specs.declared.record.LineRecord.{LineRecord}
+use Rattle.auc_record.specs.declared.record.PartRecord.{PartRecord}
+use Rattle.auc_record.specs.declared.record.PartRecord.TheVariants as record_of
+use Rattle.auc_record.specs.declared.record.RoundRecord.{RoundRecord}
+use Rattle.auc_record.specs.Lines.{numbers_of, all_lines}
+use Rattle.auc_subs.specs.Setting.{Setting}
 use Rattle.auc_world.specs.Limits.{opened}
 use Rattle.auc_world.specs.Round.{IsLawfulRound}
 use Rattle.auc_world.specs.Start.{Kept}
-use Rattle.auc_world.specs.Transcript.{Course, Leads, after_round, after_restart, reopened, stop_before, lines_of, entries_of, before_first, stretches_of}
+use Rattle.auc_world.specs.Transcript.{Course, Leads, after_round, after_restart, stop_before, lines_of, entries_of, before_first, stretches_of}
+use Rattle.auc_record.specs.Openings.{reopened}
 use Rattle.auc_transcript.proofs.LineLemmas.{All-times, times-numbers-append}
-use Rattle.auc_world.proofs.Facts.{get_or-reopened, length-opened, length-reopened, opened_above}
+use Rattle.auc_record.proofs.Facts.{get_or-reopened, length-reopened}
+use Rattle.auc_world.proofs.Facts.{length-opened, opened_above}
 use Rattle.auc_transcript.proofs.RoundLemmas.{CoversRange, covers_nothing, times-drawn-append, round_joined, round_drawn, round_told}
 use Rattle.auc_transcript.proofs.ServedLemmas.{round_served}
 

@@ -29,21 +29,22 @@ use Rattle.auc_sqn.specs.declared.verdict.Verdict.TheVariants.{Fresh, Old, Far, 
 use Rattle.auc_subs.specs.Subscriber.{AreSubscribers, IsRow}
 use Rattle.auc_subs.specs.declared.row.Row.{Row}
 use Rattle.auc_vector.specs.Vector.{autn_of}
-use Rattle.auc_world.specs.Given.{Authenticates, AuthenticatesIf, Before, FivegFollows, IsGiven, JobGives, JobsGive, OneGives, UsimAnswers, behind, device_of_row, hxres_lines, is_in, is_released, judged_lines, outcome_of, past_before, turned, verdict_by}
-use Rattle.auc_world.specs.Lines.{all_lines, numbers_of}
+use Rattle.auc_world.specs.Given.{Authenticates, AuthenticatesIf, Before, FivegFollows, IsGiven, JobGives, JobsGive, UsimAnswers, behind, device_of_row, hxres_lines, is_released, judged_lines, outcome_of, past_before, turned, verdict_by}
+use Rattle.auc_record.specs.Draws.{OneGives}
+use Rattle.auc_record.specs.Lines.{is_in, all_lines, numbers_of}
 use Rattle.auc_world.specs.Net.{Net}
-use Rattle.auc_world.specs.Setting.{Setting}
+use Rattle.auc_subs.specs.Setting.{Setting}
 use Rattle.auc_world.specs.Start.{Kept, fresh_kept, kept_by_jobs, start_of}
-use Rattle.auc_world.specs.VectorAt.{vector_of_row}
-use Rattle.auc_world.specs.declared.further.FivegOutcome.{FivegOutcome}
-use Rattle.auc_world.specs.declared.further.FivegOutcome.TheVariants as fiveg
-use Rattle.auc_world.specs.declared.further.Further.TheVariants as further
-use Rattle.auc_world.specs.declared.record.GiveVerdict.{GiveVerdict}
-use Rattle.auc_world.specs.declared.record.GiveVerdict.TheVariants as given
-use Rattle.auc_world.specs.declared.record.LineRecord.{LineRecord}
-use Rattle.auc_world.specs.declared.record.LineRecord.TheVariants.{Vector, Withheld, Exhausted, Sync, Give, Further, Event}
-use Rattle.auc_world.specs.declared.record.PartRecord.{PartRecord}
-use Rattle.auc_world.specs.declared.record.PartRecord.TheVariants as record_of
+use Rattle.auc_record.specs.VectorAt.{vector_of_row}
+use Rattle.auc_record.specs.declared.further.FivegOutcome.{FivegOutcome}
+use Rattle.auc_record.specs.declared.further.FivegOutcome.TheVariants as fiveg
+use Rattle.auc_record.specs.declared.further.Further.TheVariants as further
+use Rattle.auc_record.specs.declared.record.GiveVerdict.{GiveVerdict}
+use Rattle.auc_record.specs.declared.record.GiveVerdict.TheVariants as given
+use Rattle.auc_record.specs.declared.record.LineRecord.{LineRecord}
+use Rattle.auc_record.specs.declared.record.LineRecord.TheVariants.{Vector, Withheld, Exhausted, Sync, Give, Further, Event}
+use Rattle.auc_record.specs.declared.record.PartRecord.{PartRecord}
+use Rattle.auc_record.specs.declared.record.PartRecord.TheVariants as record_of
 use Rattle.auc_transcript.specs.Keys.{AreNetsAfter}
 use Rattle.auc_transcript.specs.Systems.{AuthenticationsAreConfirmedAfter, EachHonestAuthenticationIsConfirmed, IsAnsweredWith, IsConfirmed, IsHonest, JobConfirms, JobsConfirm, confirmed_lines, has_separation}
 use Rattle.auc_transcript.proofs.DeviceEventLemmas.{row_is}

@@ -12,22 +12,23 @@ use Rattle.auc_lines.specs.declared.part.Part.TheVariants as part
 use Rattle.auc_peer.specs.Laws.{AcceptedIsOfTheContext}
 use Rattle.auc_reauth.specs.Machine.{Used, used_by}
 use Rattle.auc_server.specs.Server.{ServerEnd, resumed_of}
-use Rattle.auc_server.specs.Setting.{Setting}
+use Rattle.auc_subs.specs.Setting.{Setting}
 use Rattle.auc_server.specs.declared.server.Resumed.{Resumed}
-use Rattle.auc_world.specs.Came.{Came, came, session_at, session_of}
+use Rattle.auc_record.specs.Event.{Came}
+use Rattle.auc_world.specs.Came.{came, session_at, session_of}
 use Rattle.auc_world.specs.Given.{Before, EventGives, JobGives, JobsGive, behind}
 use Rattle.auc_world.specs.Happened.{happened, start}
-use Rattle.auc_world.specs.Lines.{all_lines}
+use Rattle.auc_record.specs.Lines.{all_lines}
 use Rattle.auc_world.specs.Net.{Net, same_method, session_place}
 use Rattle.auc_world.specs.Plain.{came_of, results}
 use Rattle.auc_world.specs.Resumption.{accepted_for, accepted_of, counters_accepted, counters_in, counters_resumed, resumed_for}
 use Rattle.auc_world.specs.Start.{Kept, kept_by_jobs, start_of}
-use Rattle.auc_world.specs.declared.event.Event.{Event as Happens}
+use Rattle.auc_record.specs.declared.event.Event.{Event as Happens}
 use Rattle.auc_world.specs.declared.net.Session.{Session}
-use Rattle.auc_world.specs.declared.record.LineRecord.{LineRecord}
-use Rattle.auc_world.specs.declared.record.LineRecord.TheVariants.{Event}
-use Rattle.auc_world.specs.declared.record.PartRecord.{PartRecord}
-use Rattle.auc_world.specs.declared.record.PartRecord.TheVariants as record_of
+use Rattle.auc_record.specs.declared.record.LineRecord.{LineRecord}
+use Rattle.auc_record.specs.declared.record.LineRecord.TheVariants.{Event}
+use Rattle.auc_record.specs.declared.record.PartRecord.{PartRecord}
+use Rattle.auc_record.specs.declared.record.PartRecord.TheVariants as record_of
 use Rattle.auc_transcript.specs.Completeness.{is_of_session, records_of, session_in}
 use Rattle.auc_transcript.specs.Counters.{CountersAreTold, EachJobTells, IsTold, accepted_noted, accepted_told, all_accepted, all_resumed, all_sessions, in_jobs, in_rounds, resumed_noted, resumed_told, told_under}
 use Rattle.auc_transcript.specs.Headline.{IsOutsideSessions}

@@ -11,13 +11,14 @@ use Rattle.auc_reauth.specs.Store.{entry}
 use Rattle.auc_server.proofs.Facts.{each_turn_fits, started_fits}
 use Rattle.auc_server.specs.Laws.{Fits}
 use Rattle.auc_server.specs.Server.{ServerEnd, started}
-use Rattle.auc_server.specs.Setting.{Setting}
+use Rattle.auc_subs.specs.Setting.{Setting}
 use Rattle.auc_server.specs.Table.{gave_up as server_gave_up}
-use Rattle.auc_world.specs.Came.{Came, came, came_at_peer, came_at_server, came_changed, came_delivered, came_given_up, came_in, came_opened, came_repeated, came_started, server_came_to_give_up, session_at}
+use Rattle.auc_record.specs.Event.{Came}
+use Rattle.auc_world.specs.Came.{came, came_at_peer, came_at_server, came_changed, came_delivered, came_given_up, came_in, came_opened, came_repeated, came_started, server_came_to_give_up, session_at}
 use Rattle.auc_world.specs.Happened.{Delivery, Told, at_place, changed_in, delivered, delivery_at, delivery_of, give_up, happened, in_session, keys_won, moved, new_session, opened, peer_turn, repeat, server_gives_up, server_turn, start, to_peer, to_server}
 use Rattle.auc_world.specs.Net.{Net, device_place, keeps_at, packet_at, session_place}
-use Rattle.auc_world.specs.declared.event.Event.{Event as Happens}
-use Rattle.auc_world.specs.declared.event.Event.TheVariants as event
+use Rattle.auc_record.specs.declared.event.Event.{Event as Happens}
+use Rattle.auc_record.specs.declared.event.Event.TheVariants as event
 use Rattle.auc_world.specs.declared.net.SentPacket.{SentPacket}
 use Rattle.auc_world.specs.declared.net.Session.{Session}
 use Rattle.auc_world.proofs.Facts.{giving_up_counts, new_is_quiet, turn_counts}

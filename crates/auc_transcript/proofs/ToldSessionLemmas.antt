@@ -6,7 +6,8 @@ use Rattle.std.proofs.lemmas.List.Quantifiers.{position-Some}
 use Rattle.std.proofs.lemmas.Option.{get_or_from_slice_get, slice_get-get_or, slice_get_within}
 use Rattle.auc_server.specs.Laws.{Fits}
 use Rattle.auc_server.specs.Server.{ServerEnd}
-use Rattle.auc_world.specs.Came.{Came, session_at, session_of}
+use Rattle.auc_record.specs.Event.{Came}
+use Rattle.auc_world.specs.Came.{session_at, session_of}
 use Rattle.auc_world.specs.Net.{Net, session_place}
 use Rattle.auc_world.specs.declared.net.Session.{Session}
 use Rattle.auc_world.proofs.Facts.{IsQuiet, get_here, get_there}

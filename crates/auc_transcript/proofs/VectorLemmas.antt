@@ -18,20 +18,22 @@ use Rattle.auc_vector.specs.declared.notes.NumberNote.{NumberNote}
 use Rattle.auc_vector.specs.declared.notes.NumberNote.TheVariants as number
 use Rattle.auc_lines.specs.declared.part.Part.{Part}
 use Rattle.auc_lines.specs.declared.part.Part.TheVariants.{Round, Restart}
-use Rattle.auc_world.specs.declared.record.LineRecord.{LineRecord}
-use Rattle.auc_world.specs.declared.record.LineRecord.TheVariants.{Vector, Withheld, Exhausted, Sync, Give, Further, Event}
-use Rattle.auc_world.specs.declared.record.PartRecord.{PartRecord}
-use Rattle.auc_world.specs.declared.record.PartRecord.TheVariants as record_of
-use Rattle.auc_world.specs.declared.record.RoundRecord.{RoundRecord}
-use Rattle.auc_world.specs.Event.{number_for, number_released}
-use Rattle.auc_world.specs.Lines.{numbers_of, all_lines}
+use Rattle.auc_record.specs.declared.record.LineRecord.{LineRecord}
+use Rattle.auc_record.specs.declared.record.LineRecord.TheVariants.{Vector, Withheld, Exhausted, Sync, Give, Further, Event}
+use Rattle.auc_record.specs.declared.record.PartRecord.{PartRecord}
+use Rattle.auc_record.specs.declared.record.PartRecord.TheVariants as record_of
+use Rattle.auc_record.specs.declared.record.RoundRecord.{RoundRecord}
+use Rattle.auc_record.specs.Event.{number_for, number_released}
+use Rattle.auc_record.specs.Lines.{numbers_of, all_lines}
 use Rattle.auc_world.specs.Limits.{opened}
-use Rattle.auc_world.specs.Setting.{Setting}
-use Rattle.auc_world.specs.Transcript.{Course, Leads, IsLawful, after_round, after_restart, beginning, reopened, lines_of, entries_of}
+use Rattle.auc_subs.specs.Setting.{Setting}
+use Rattle.auc_world.specs.Transcript.{Course, Leads, IsLawful, after_round, after_restart, beginning, lines_of, entries_of}
+use Rattle.auc_record.specs.Openings.{reopened}
 use Rattle.auc_transcript.specs.Headline.{EachTranscriptKeepsNumbersApart}
 use Rattle.auc_transcript.proofs.EventLemmas.{IsNoteServed}
 use Rattle.auc_transcript.proofs.LineLemmas.{All-times, times-numbers-append}
-use Rattle.auc_world.proofs.Facts.{get_or-reopened, length-opened, length-reopened, opened_above}
+use Rattle.auc_record.proofs.Facts.{get_or-reopened, length-reopened}
+use Rattle.auc_world.proofs.Facts.{length-opened, opened_above}
 use Rattle.auc_transcript.proofs.ServedLemmas.{AreServed, round_served, parts_served}
 use Rattle.auc_transcript.proofs.RoundLemmas.{round_drawn}
 

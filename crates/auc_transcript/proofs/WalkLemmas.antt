@@ -22,20 +22,20 @@ use Rattle.auc_world.specs.Agreement.{HaveSecrets}
 use Rattle.auc_world.specs.Came.{AreReceived, TellsNotes, bytes_named, came, presented_by}
 use Rattle.auc_world.specs.Given.{Before, EventGives, IsUsimAsked, JobGives, JobsGive, LineGives, PlainGives, RelayGives, behind, packet_of}
 use Rattle.auc_world.specs.Happened.{Told, happened}
-use Rattle.auc_world.specs.Lines.{all_lines}
+use Rattle.auc_record.specs.Lines.{all_lines}
 use Rattle.auc_world.specs.Net.{Net, other, place_with}
-use Rattle.auc_world.specs.Setting.{Setting}
+use Rattle.auc_subs.specs.Setting.{Setting}
 use Rattle.auc_world.specs.Start.{Kept, start_of, subscription_at, subscription_by}
 use Rattle.auc_world.specs.Transcript.{Course, Leads, after_restart, after_round, lines_of}
-use Rattle.auc_world.specs.declared.event.Event.{Event as Happens}
-use Rattle.auc_world.specs.declared.event.Event.TheVariants as event
-use Rattle.auc_world.specs.declared.event.EventRecord.{EventRecord}
+use Rattle.auc_record.specs.declared.event.Event.{Event as Happens}
+use Rattle.auc_record.specs.declared.event.Event.TheVariants as event
+use Rattle.auc_record.specs.declared.event.EventRecord.{EventRecord}
 use Rattle.auc_world.specs.declared.net.Session.{Session}
-use Rattle.auc_world.specs.declared.record.LineRecord.{LineRecord}
-use Rattle.auc_world.specs.declared.record.LineRecord.TheVariants.{Vector, Withheld, Exhausted, Sync, Give, Further, Event}
-use Rattle.auc_world.specs.declared.record.PartRecord.{PartRecord}
-use Rattle.auc_world.specs.declared.record.PartRecord.TheVariants as record_of
-use Rattle.auc_world.specs.declared.record.RoundRecord.{RoundRecord}
+use Rattle.auc_record.specs.declared.record.LineRecord.{LineRecord}
+use Rattle.auc_record.specs.declared.record.LineRecord.TheVariants.{Vector, Withheld, Exhausted, Sync, Give, Further, Event}
+use Rattle.auc_record.specs.declared.record.PartRecord.{PartRecord}
+use Rattle.auc_record.specs.declared.record.PartRecord.TheVariants as record_of
+use Rattle.auc_record.specs.declared.record.RoundRecord.{RoundRecord}
 use Rattle.auc_world.proofs.Facts.{AreAt, OpensAt, places_stay}
 use Rattle.auc_transcript.specs.Headline.{IsOutsideSessions}
 use Rattle.auc_transcript.specs.Presented.{packets_in, sent_in_line}

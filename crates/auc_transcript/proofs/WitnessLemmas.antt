@@ -34,23 +34,23 @@ use Rattle.auc_server.specs.declared.reply.Reply.TheVariants as reply
 use Rattle.auc_sqn.specs.Number.{seq_of, sqn_bytes}
 use Rattle.auc_vector.specs.Vector.{autn_of}
 use Rattle.auc_vector.specs.declared.notes.UsimNote.{UsimNote}
-use Rattle.auc_world.specs.Came.{Came, of_opening}
-use Rattle.auc_world.specs.Event.{asked_in, number_in, resync_in}
+use Rattle.auc_record.specs.Event.{Came, asked_in, number_in, resync_in}
+use Rattle.auc_world.specs.Came.{of_opening}
 use Rattle.auc_world.specs.Given.{Before, JobGives}
 use Rattle.auc_world.specs.Happened.{Told, happened, new_session}
 use Rattle.auc_world.specs.Net.{Net}
 use Rattle.auc_world.specs.Plain.{IsAskedFor, TellNoCause, is_refused, is_unresolved, results}
-use Rattle.auc_world.specs.Setting.{Setting}
+use Rattle.auc_subs.specs.Setting.{Setting}
 use Rattle.auc_world.specs.Start.{Kept, fresh_kept, kept_by_jobs, start_of}
 use Rattle.auc_world.specs.Transcript.{stretches_of}
-use Rattle.auc_world.specs.declared.event.Event.TheVariants as event
+use Rattle.auc_record.specs.declared.event.Event.TheVariants as event
 use Rattle.auc_world.specs.declared.net.Inputs.{Inputs}
 use Rattle.auc_world.specs.declared.net.Inputs.TheVariants as inputs
 use Rattle.auc_world.specs.declared.net.Session.{Session}
-use Rattle.auc_world.specs.declared.record.GiveVerdict.{GiveVerdict}
-use Rattle.auc_world.specs.declared.record.GiveVerdict.TheVariants as given
-use Rattle.auc_world.specs.declared.record.LineRecord.{LineRecord}
-use Rattle.auc_world.specs.declared.record.LineRecord.TheVariants.{Vector}
+use Rattle.auc_record.specs.declared.record.GiveVerdict.{GiveVerdict}
+use Rattle.auc_record.specs.declared.record.GiveVerdict.TheVariants as given
+use Rattle.auc_record.specs.declared.record.LineRecord.{LineRecord}
+use Rattle.auc_record.specs.declared.record.LineRecord.TheVariants.{Vector}
 use Rattle.auc_world.proofs.Facts.{autn_size, rand_block}
 use Rattle.auc_transcript.specs.Completeness.{HasContext, IsAlone, IsOnlyEvent, records_of, session_named}
 use Rattle.auc_transcript.specs.Counters.{KeepsContexts}

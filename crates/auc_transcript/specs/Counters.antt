@@ -12,23 +12,24 @@ use Rattle.auc_peer.specs.Laws.{MayResume}
 use Rattle.auc_reauth.specs.Machine.{AreDifferent, Used}
 use Rattle.auc_subs.specs.Subscriber.{AreSubscribers}
 use Rattle.auc_vector.specs.declared.notes.Notes.{Notes}
-use Rattle.auc_world.specs.Came.{Came, session_of}
+use Rattle.auc_record.specs.Event.{Came}
+use Rattle.auc_world.specs.Came.{session_of}
 use Rattle.auc_world.specs.Given.{Before, EventGives, JobGives, behind}
-use Rattle.auc_world.specs.Lines.{all_lines}
+use Rattle.auc_record.specs.Lines.{all_lines}
 use Rattle.auc_world.specs.Net.{Net, device_place, keeps_at}
 use Rattle.auc_world.specs.Plain.{counter_taken, results}
 use Rattle.auc_world.specs.Resumption.{AreResumedOnce, accepted_for, accepted_of, counters_in, resumed_in, resumptions}
-use Rattle.auc_world.specs.Setting.{Setting}
+use Rattle.auc_subs.specs.Setting.{Setting}
 use Rattle.auc_world.specs.Start.{Kept, fresh_kept, kept_by_jobs, start_of}
 use Rattle.auc_world.specs.Transcript.{IsLawful}
-use Rattle.auc_world.specs.declared.event.EventRecord.{EventRecord}
-use Rattle.auc_world.specs.declared.event.NoteStep.{NoteStep}
-use Rattle.auc_world.specs.declared.event.NoteStep.TheVariants as did
+use Rattle.auc_record.specs.declared.event.EventRecord.{EventRecord}
+use Rattle.auc_record.specs.declared.event.NoteStep.{NoteStep}
+use Rattle.auc_record.specs.declared.event.NoteStep.TheVariants as did
 use Rattle.auc_world.specs.declared.net.Session.{Session}
-use Rattle.auc_world.specs.declared.record.LineRecord.{LineRecord}
-use Rattle.auc_world.specs.declared.record.LineRecord.TheVariants.{Event}
-use Rattle.auc_world.specs.declared.record.PartRecord.{PartRecord}
-use Rattle.auc_world.specs.declared.record.PartRecord.TheVariants as record_of
+use Rattle.auc_record.specs.declared.record.LineRecord.{LineRecord}
+use Rattle.auc_record.specs.declared.record.LineRecord.TheVariants.{Event}
+use Rattle.auc_record.specs.declared.record.PartRecord.{PartRecord}
+use Rattle.auc_record.specs.declared.record.PartRecord.TheVariants as record_of
 use Rattle.auc_transcript.specs.Completeness.{records_of, session_in}
 use Rattle.auc_transcript.specs.Keys.{AreNets, IsHeldApart}
 

@@ -11,20 +11,20 @@ use Rattle.auc_lines.specs.declared.part.Part.TheVariants.{Round, Restart}
 use Rattle.auc_sites.specs.Law.{HandsOutOnce, released}
 use Rattle.auc_sites.specs.Network.{Turn, after_turns}
 use Rattle.auc_world.specs.Given.{Before}
-use Rattle.auc_world.specs.Lines.{all_lines, numbers_of}
+use Rattle.auc_record.specs.Lines.{all_lines, numbers_of}
 use Rattle.auc_world.specs.Net.{Net}
-use Rattle.auc_world.specs.Setting.{Setting}
+use Rattle.auc_subs.specs.Setting.{Setting}
 use Rattle.auc_world.specs.Sites.{SitesGo, sites_start}
 use Rattle.auc_world.specs.Start.{Kept, fresh_kept, kept_by_jobs, start_of}
 use Rattle.auc_world.specs.Transcript.{IsLawful, lines_of}
-use Rattle.auc_world.specs.declared.further.Further.{Further as Said}
-use Rattle.auc_world.specs.declared.further.Further.TheVariants.{Kasme, HxresStar, Fiveg, Sites, Sim}
-use Rattle.auc_world.specs.declared.record.LineRecord.{LineRecord}
-use Rattle.auc_world.specs.declared.record.LineRecord.TheVariants.{Vector, Withheld, Exhausted, Sync, Give, Further, Event}
-use Rattle.auc_world.specs.declared.record.PartRecord.{PartRecord}
-use Rattle.auc_world.specs.declared.record.PartRecord.TheVariants as record_of
-use Rattle.auc_world.specs.declared.sites.SitesNote.{SitesNote}
-use Rattle.auc_world.specs.declared.sites.SitesNote.TheVariants as note
+use Rattle.auc_record.specs.declared.further.Further.{Further as Said}
+use Rattle.auc_record.specs.declared.further.Further.TheVariants.{Kasme, HxresStar, Fiveg, Sites, Sim}
+use Rattle.auc_record.specs.declared.record.LineRecord.{LineRecord}
+use Rattle.auc_record.specs.declared.record.LineRecord.TheVariants.{Vector, Withheld, Exhausted, Sync, Give, Further, Event}
+use Rattle.auc_record.specs.declared.record.PartRecord.{PartRecord}
+use Rattle.auc_record.specs.declared.record.PartRecord.TheVariants as record_of
+use Rattle.auc_record.specs.declared.sites.SitesNote.{SitesNote}
+use Rattle.auc_record.specs.declared.sites.SitesNote.TheVariants as note
 use Rattle.auc_transcript.specs.Keys.{AreNets}
 use Rattle.auc_transcript.specs.Systems.{Gave}
 

@@ -2,9 +2,9 @@
 use Rattle.std.specs.Prelude.{◌≡◌, ℕ, List, Option}
 use Rattle.auc_edge.specs.declared.stop.Stop.{Stop}
 use Rattle.auc_lines.specs.declared.part.Part.{Part}
-use Rattle.auc_world.specs.declared.record.PartRecord.{PartRecord}
-use Rattle.auc_world.specs.Setting.{Setting}
-use Rattle.auc_world.specs.Told.{told}
+use Rattle.auc_record.specs.declared.record.PartRecord.{PartRecord}
+use Rattle.auc_subs.specs.Setting.{Setting}
+use Rattle.auc_record.specs.Told.{told}
 use Rattle.auc_world.specs.Transcript.{IsLawful}
 
 -- two lawful transcripts of the same parts of which the same is told are one, whatever was reserved before each, and

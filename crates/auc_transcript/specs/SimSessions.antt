@@ -10,21 +10,21 @@ use Rattle.auc_lines.specs.declared.part.Part.TheVariants.{Round, Restart}
 use Rattle.auc_lines.specs.declared.sim.SimSchedule.TheVariants.{Plain}
 use Rattle.auc_random.specs.Random.{rand_of}
 use Rattle.auc_sim.specs.SessionLaws.{Succeeds}
-use Rattle.auc_sim.specs.declared.note.SimNote.{SimNote}
-use Rattle.auc_sim.specs.declared.note.SimNote.TheVariants as noted
+use Rattle.auc_vector.specs.declared.sim_note.SimNote.{SimNote}
+use Rattle.auc_vector.specs.declared.sim_note.SimNote.TheVariants as noted
 use Rattle.auc_subs.specs.Subscriber.{AreSubscribers}
 use Rattle.auc_world.specs.Agreement.{IsRealm}
-use Rattle.auc_world.specs.Draws.{DrawGives}
+use Rattle.auc_record.specs.Draws.{DrawGives}
 use Rattle.auc_world.specs.Given.{Before}
-use Rattle.auc_world.specs.Lines.{all_lines, numbers_of}
+use Rattle.auc_record.specs.Lines.{all_lines, numbers_of}
 use Rattle.auc_world.specs.Net.{Net}
-use Rattle.auc_world.specs.Setting.{Setting}
+use Rattle.auc_subs.specs.Setting.{Setting}
 use Rattle.auc_world.specs.Start.{Kept, fresh_kept, kept_by_jobs, start_of}
-use Rattle.auc_world.specs.declared.further.Further.TheVariants as further
-use Rattle.auc_world.specs.declared.record.LineRecord.{LineRecord}
-use Rattle.auc_world.specs.declared.record.LineRecord.TheVariants.{Further}
-use Rattle.auc_world.specs.declared.record.PartRecord.{PartRecord}
-use Rattle.auc_world.specs.declared.record.PartRecord.TheVariants as record_of
+use Rattle.auc_record.specs.declared.further.Further.TheVariants as further
+use Rattle.auc_record.specs.declared.record.LineRecord.{LineRecord}
+use Rattle.auc_record.specs.declared.record.LineRecord.TheVariants.{Further}
+use Rattle.auc_record.specs.declared.record.PartRecord.{PartRecord}
+use Rattle.auc_record.specs.declared.record.PartRecord.TheVariants as record_of
 use Rattle.auc_transcript.specs.Keys.{AreNets}
 use Rattle.auc_transcript.specs.Systems.{Gave}
 

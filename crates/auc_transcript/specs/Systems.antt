@@ -12,20 +12,21 @@ use Rattle.auc_lines.specs.declared.part.Part.TheVariants.{Round, Restart}
 use Rattle.auc_random.specs.Random.{rand_of}
 use Rattle.auc_subs.specs.Subscriber.{AreSubscribers}
 use Rattle.auc_subs.specs.declared.row.Row.{Row}
-use Rattle.auc_world.specs.Given.{Before, JobGives, OneGives, behind, device_of_row, hxres_lines}
-use Rattle.auc_world.specs.Lines.{all_lines}
+use Rattle.auc_world.specs.Given.{Before, JobGives, behind, device_of_row, hxres_lines}
+use Rattle.auc_record.specs.Draws.{OneGives}
+use Rattle.auc_record.specs.Lines.{all_lines}
 use Rattle.auc_world.specs.Net.{Net}
-use Rattle.auc_world.specs.Setting.{Setting}
+use Rattle.auc_subs.specs.Setting.{Setting}
 use Rattle.auc_world.specs.Start.{Kept, fresh_kept, kept_by_jobs, start_of}
-use Rattle.auc_world.specs.VectorAt.{vector_of_row}
-use Rattle.auc_world.specs.declared.further.FivegOutcome.TheVariants as fiveg
-use Rattle.auc_world.specs.declared.further.Further.TheVariants as further
-use Rattle.auc_world.specs.declared.record.GiveVerdict.{GiveVerdict}
-use Rattle.auc_world.specs.declared.record.GiveVerdict.TheVariants as given
-use Rattle.auc_world.specs.declared.record.LineRecord.{LineRecord}
-use Rattle.auc_world.specs.declared.record.LineRecord.TheVariants.{Give, Further}
-use Rattle.auc_world.specs.declared.record.PartRecord.{PartRecord}
-use Rattle.auc_world.specs.declared.record.PartRecord.TheVariants as record_of
+use Rattle.auc_record.specs.VectorAt.{vector_of_row}
+use Rattle.auc_record.specs.declared.further.FivegOutcome.TheVariants as fiveg
+use Rattle.auc_record.specs.declared.further.Further.TheVariants as further
+use Rattle.auc_record.specs.declared.record.GiveVerdict.{GiveVerdict}
+use Rattle.auc_record.specs.declared.record.GiveVerdict.TheVariants as given
+use Rattle.auc_record.specs.declared.record.LineRecord.{LineRecord}
+use Rattle.auc_record.specs.declared.record.LineRecord.TheVariants.{Give, Further}
+use Rattle.auc_record.specs.declared.record.PartRecord.{PartRecord}
+use Rattle.auc_record.specs.declared.record.PartRecord.TheVariants as record_of
 use Rattle.auc_transcript.specs.Keys.{AreNets}
 
 -- ---- one authentication

@@ -40,8 +40,8 @@ use Rattle.auc_server.specs.declared.server.Resumed.{Resumed}
 use Rattle.auc_server.specs.declared.server.ServerState.{ServerState}
 use Rattle.auc_server.specs.declared.server.ServerState.TheVariants as state
 use Rattle.auc_sim.specs.SessionLaws.{Succeeds as SimSucceeds}
-use Rattle.auc_sim.specs.declared.note.SimNote.{SimNote}
-use Rattle.auc_sim.specs.declared.note.SimNote.TheVariants as sim_note
+use Rattle.auc_vector.specs.declared.sim_note.SimNote.{SimNote}
+use Rattle.auc_vector.specs.declared.sim_note.SimNote.TheVariants as sim_note
 use Rattle.auc_sqn.specs.Number.{sqn_bytes}
 use Rattle.auc_subs.specs.declared.row.Row.{Row}
 use Rattle.auc_vector.specs.Vector.{autn_of}
@@ -56,28 +56,28 @@ use Rattle.auc_world.specs.Came.{of_opening}
 use Rattle.auc_world.specs.Happened.{new_session, peer_options, server_options}
 use Rattle.auc_world.specs.Net.{Net}
 use Rattle.auc_world.specs.Plain.{Succeeds}
-use Rattle.auc_world.specs.Setting.{Setting}
-use Rattle.auc_world.specs.Told.{no_keys}
-use Rattle.auc_world.specs.declared.event.Event.{Event as Happens}
-use Rattle.auc_world.specs.declared.event.Event.TheVariants as event
-use Rattle.auc_world.specs.declared.event.Note.{Note}
-use Rattle.auc_world.specs.declared.event.NoteStep.TheVariants as did
-use Rattle.auc_world.specs.declared.further.FivegOutcome.{FivegOutcome}
-use Rattle.auc_world.specs.declared.further.FivegOutcome.TheVariants as fiveg
-use Rattle.auc_world.specs.declared.further.Further.TheVariants as further
+use Rattle.auc_subs.specs.Setting.{Setting}
+use Rattle.auc_record.specs.Told.{no_keys}
+use Rattle.auc_record.specs.declared.event.Event.{Event as Happens}
+use Rattle.auc_record.specs.declared.event.Event.TheVariants as event
+use Rattle.auc_record.specs.declared.event.Note.{Note}
+use Rattle.auc_record.specs.declared.event.NoteStep.TheVariants as did
+use Rattle.auc_record.specs.declared.further.FivegOutcome.{FivegOutcome}
+use Rattle.auc_record.specs.declared.further.FivegOutcome.TheVariants as fiveg
+use Rattle.auc_record.specs.declared.further.Further.TheVariants as further
 use Rattle.auc_world.specs.declared.net.Session.{Session}
-use Rattle.auc_world.specs.declared.record.GiveVerdict.{GiveVerdict}
-use Rattle.auc_world.specs.declared.record.GiveVerdict.TheVariants as given
-use Rattle.auc_world.specs.declared.record.LineRecord.{LineRecord}
-use Rattle.auc_world.specs.declared.record.LineRecord.TheVariants.{Vector, Withheld, Give, Further, Event}
-use Rattle.auc_world.specs.declared.record.PartRecord.{PartRecord}
-use Rattle.auc_world.specs.declared.record.PartRecord.TheVariants as record_of
-use Rattle.auc_world.specs.declared.record.Premise.TheVariants as premise
-use Rattle.auc_world.specs.declared.record.RoundRecord.{RoundRecord}
-use Rattle.auc_world.specs.declared.record.SessionVerdict.{SessionVerdict}
-use Rattle.auc_world.specs.declared.sites.SitesNote.{SitesNote}
-use Rattle.auc_world.specs.declared.sites.SitesNote.TheVariants as site_note
-use Rattle.auc_world.specs.declared.sites.SitesOutcome.TheVariants as site_outcome
+use Rattle.auc_record.specs.declared.record.GiveVerdict.{GiveVerdict}
+use Rattle.auc_record.specs.declared.record.GiveVerdict.TheVariants as given
+use Rattle.auc_record.specs.declared.record.LineRecord.{LineRecord}
+use Rattle.auc_record.specs.declared.record.LineRecord.TheVariants.{Vector, Withheld, Give, Further, Event}
+use Rattle.auc_record.specs.declared.record.PartRecord.{PartRecord}
+use Rattle.auc_record.specs.declared.record.PartRecord.TheVariants as record_of
+use Rattle.auc_record.specs.declared.record.Premise.TheVariants as premise
+use Rattle.auc_record.specs.declared.record.RoundRecord.{RoundRecord}
+use Rattle.auc_record.specs.declared.record.SessionVerdict.{SessionVerdict}
+use Rattle.auc_record.specs.declared.sites.SitesNote.{SitesNote}
+use Rattle.auc_record.specs.declared.sites.SitesNote.TheVariants as site_note
+use Rattle.auc_record.specs.declared.sites.SitesOutcome.TheVariants as site_outcome
 use Rattle.auc_transcript.specs.Completeness.{PlainSessionsAgree, ResumedSessionsAgree}
 use Rattle.auc_transcript.specs.Counters.{KeepsContexts}
 use Rattle.auc_transcript.specs.Headline.{FailsExactlyByPlace, IsFailure}

@@ -10,7 +10,8 @@
 //!
 //! A [`Centre`] gives numbers and resynchronises them; its ghost members say which entries of a subscriber's history
 //! each call made. [`CoreCentre`] is the one over the pure core. [`ask`] and [`report`] call a centre and note its answer;
-//! a [`Turn`] is what an end of a session does with what it received, with its [`Notes`].
+//! a [`Turn`] is what an end of a session does with what it received, with its [`Notes`]; [`ServerWhy`], [`PeerWhy`] and
+//! [`SimWhy`] are the causes for which ends fail, and a [`SimNote`] is what is said of a session of EAP-SIM.
 //!
 //! Contracts see a `Vectors` as what its vectors are made from (`specs/Vector`), keys as functions of bytes (`specs/Keys`),
 //! and a `CoreCentre` as its subscribers' words and greatest numbers. Nothing here takes memory or can fail. A `Centre`'s
@@ -28,7 +29,9 @@ mod making;
 mod many;
 mod notes;
 mod parts;
+mod sim_note;
 mod turn;
+mod why;
 
 pub use asking::{ask, report};
 pub use auts::{Auts, read_auts};
@@ -44,4 +47,6 @@ pub use making::vector;
 pub use many::vectors;
 pub use notes::{CounterNote, Notes, NumberNote, ResyncNote, UsimNote};
 pub use parts::Vector;
+pub use sim_note::{SimBecame, SimNote};
 pub use turn::{Outcome, Reason, Step, Turn};
+pub use why::{PeerWhy, ServerWhy, SimWhy};

@@ -9,7 +9,7 @@ use Rattle.auc_peer.specs.declared.peer.Peer.{Peer}
 use Rattle.auc_server.proofs.Facts.{each_turn_fits, given_up_fits, started_fits}
 use Rattle.auc_server.specs.Laws.{Fits}
 use Rattle.auc_server.specs.Server.{ServerEnd, resumed_of, started}
-use Rattle.auc_server.specs.Setting.{Setting}
+use Rattle.auc_subs.specs.Setting.{Setting}
 use Rattle.auc_server.specs.State.{last_of}
 use Rattle.auc_server.specs.Table.{gave_up}
 use Rattle.auc_server.specs.declared.options.ServerOptions.{ServerOptions}
@@ -18,13 +18,13 @@ use Rattle.auc_server.specs.declared.server.Resumed.{Resumed}
 use Rattle.auc_server.specs.declared.server.ServerState.{ServerState}
 use Rattle.auc_server.specs.declared.server.ServerState.TheVariants as state
 use Rattle.auc_server.specs.declared.setting.HomeRow.{HomeRow}
-use Rattle.auc_server.specs.declared.why.ServerWhy.TheVariants as why
+use Rattle.auc_vector.specs.declared.why.ServerWhy.TheVariants as why
 use Rattle.auc_vector.specs.declared.turn.Outcome.TheVariants as outcome
 use Rattle.auc_world.specs.Agreement.{AreSized, Happening, IsFresh, IsSized, Noted, Occurs, after, after_one}
 use Rattle.auc_world.specs.Happened.{Delivery, Told, at_place, at_session, delivered, delivery_at, delivery_of, give_up, in_session, moved, new_session, opened, repeat, server_gives_up, server_turn, start, to_peer, to_server}
 use Rattle.auc_world.specs.Net.{Net, device_place, packet_at, session_place}
-use Rattle.auc_world.specs.declared.event.Event.{Event}
-use Rattle.auc_world.specs.declared.event.Event.TheVariants as event
+use Rattle.auc_record.specs.declared.event.Event.{Event}
+use Rattle.auc_record.specs.declared.event.Event.TheVariants as event
 use Rattle.auc_world.specs.declared.net.SentPacket.{SentPacket}
 use Rattle.auc_world.specs.declared.net.Session.{Session}
 use Rattle.auc_world.proofs.AgainLemmas.{none_there, some_one, with_end, with_peer_in}

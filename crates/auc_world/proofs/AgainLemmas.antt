@@ -21,12 +21,12 @@ use Rattle.auc_peer.specs.declared.peer.Source.TheVariants as source
 use Rattle.auc_peer.specs.Peer.{resumed_from}
 use Rattle.auc_peer.specs.declared.peer.PeerState.{PeerState}
 use Rattle.auc_peer.specs.declared.peer.PeerState.TheVariants as peer_state
-use Rattle.auc_peer.specs.declared.why.PeerWhy.{PeerWhy}
-use Rattle.auc_peer.specs.declared.why.PeerWhy.TheVariants as peer_why
+use Rattle.auc_vector.specs.declared.why.PeerWhy.{PeerWhy}
+use Rattle.auc_vector.specs.declared.why.PeerWhy.TheVariants as peer_why
 use Rattle.auc_reauth.specs.declared.context.Context.{Context}
 use Rattle.auc_server.proofs.Facts.{turn_options}
 use Rattle.auc_server.specs.Server.{ServerEnd, challenged_of, resumed_of, started}
-use Rattle.auc_server.specs.Setting.{Setting}
+use Rattle.auc_subs.specs.Setting.{Setting}
 use Rattle.auc_server.specs.State.{last_of}
 use Rattle.auc_server.specs.Table.{gave_up, repeated, resumed_keys}
 use Rattle.auc_server.specs.declared.options.ServerOptions.{ServerOptions}
@@ -36,8 +36,8 @@ use Rattle.auc_server.specs.declared.server.Resumed.{Resumed}
 use Rattle.auc_server.specs.declared.server.ServerState.{ServerState}
 use Rattle.auc_server.specs.declared.server.ServerState.TheVariants as state
 use Rattle.auc_server.specs.declared.setting.HomeRow.{HomeRow}
-use Rattle.auc_server.specs.declared.why.ServerWhy.{ServerWhy}
-use Rattle.auc_server.specs.declared.why.ServerWhy.TheVariants as why
+use Rattle.auc_vector.specs.declared.why.ServerWhy.{ServerWhy}
+use Rattle.auc_vector.specs.declared.why.ServerWhy.TheVariants as why
 use Rattle.auc_subs.specs.Subscriber.{AreSubscribers}
 use Rattle.auc_vector.specs.Keys.{reauth_keys_of}
 use Rattle.auc_vector.specs.declared.turn.Outcome.TheVariants as outcome
@@ -49,8 +49,8 @@ use Rattle.auc_world.specs.Came.{AreReceived, presented_at, presented_in, receiv
 use Rattle.auc_world.specs.Happened.{Delivery, Told, at_place, at_session, delivered, delivery_at, delivery_of, found, found_by, give_up, in_session, keys_won, moved, new_session, opened, peer_finds, peer_turn, repeat, sent_by, server_gives_up, server_turn, start, to_peer, to_server, changed_in, with_copy}
 use Rattle.auc_world.specs.Net.{Net, device_place, inputs_from, inputs_of_context, inputs_of_peer, inputs_of_server, inputs_sent, keeps_at, packet_at, posted, session_place, copies}
 use Rattle.auc_world.specs.Resumption.{AreResumedOnce, resumptions}
-use Rattle.auc_world.specs.declared.event.Event.{Event}
-use Rattle.auc_world.specs.declared.event.Event.TheVariants as event
+use Rattle.auc_record.specs.declared.event.Event.{Event}
+use Rattle.auc_record.specs.declared.event.Event.TheVariants as event
 use Rattle.auc_world.specs.declared.net.FastInputs.{FastInputs}
 use Rattle.auc_world.specs.declared.net.Inputs.{Inputs}
 use Rattle.auc_world.specs.declared.net.Inputs.TheVariants as inputs_of

@@ -17,14 +17,14 @@ use Rattle.auc_peer.specs.declared.peer.Source.TheVariants as source
 use Rattle.auc_peer.specs.Peer.{accepted_in, network_named, resumed_from}
 use Rattle.auc_peer.specs.declared.peer.PeerState.{PeerState}
 use Rattle.auc_peer.specs.declared.peer.PeerState.TheVariants as peer_state
-use Rattle.auc_peer.specs.declared.why.PeerWhy.{PeerWhy}
-use Rattle.auc_peer.specs.declared.why.PeerWhy.TheVariants as peer_why
+use Rattle.auc_vector.specs.declared.why.PeerWhy.{PeerWhy}
+use Rattle.auc_vector.specs.declared.why.PeerWhy.TheVariants as peer_why
 use Rattle.auc_reauth.specs.declared.context.Context.{Context}
 use Rattle.auc_server.specs.Laws.{EachTurnFits, EachTurnKeepsOrChallenges, Fits, KeepsChallenge, SendsChallenge}
 use Rattle.auc_server.proofs.Facts.{given_up_fits, started_fits, turn_options}
 use Rattle.auc_server.specs.Rows.{server_row}
 use Rattle.auc_server.specs.Server.{ServerEnd, challenged_of, resumed_of, started}
-use Rattle.auc_server.specs.Setting.{Setting}
+use Rattle.auc_subs.specs.Setting.{Setting}
 use Rattle.auc_server.specs.State.{last_of}
 use Rattle.auc_server.specs.Steps.{asking}
 use Rattle.auc_server.specs.Table.{challenge_of, gave_up, repeated, vector_at, vector_of_row}
@@ -34,8 +34,8 @@ use Rattle.auc_server.specs.declared.server.Last.{Last}
 use Rattle.auc_server.specs.declared.server.Resumed.{Resumed}
 use Rattle.auc_server.specs.declared.server.ServerState.{ServerState}
 use Rattle.auc_server.specs.declared.server.ServerState.TheVariants as state
-use Rattle.auc_server.specs.declared.why.ServerWhy.{ServerWhy}
-use Rattle.auc_server.specs.declared.why.ServerWhy.TheVariants as why
+use Rattle.auc_vector.specs.declared.why.ServerWhy.{ServerWhy}
+use Rattle.auc_vector.specs.declared.why.ServerWhy.TheVariants as why
 use Rattle.auc_sqn.specs.Number.{top_of}
 use Rattle.auc_subs.proofs.Facts.{top_at-row}
 use Rattle.auc_subs.specs.Subscriber.{AreSubscribers, IsRow, top_at}
@@ -54,8 +54,8 @@ use Rattle.auc_world.specs.Net.{Net, device_place, inputs_from, inputs_of_peer, 
 use Rattle.auc_lines.specs.declared.part.SessionLine.{SessionLine}
 use Rattle.auc_lines.specs.declared.part.End.{End}
 use Rattle.auc_lines.specs.declared.part.End.TheVariants as end
-use Rattle.auc_world.specs.declared.event.Event.{Event}
-use Rattle.auc_world.specs.declared.event.Event.TheVariants as event
+use Rattle.auc_record.specs.declared.event.Event.{Event}
+use Rattle.auc_record.specs.declared.event.Event.TheVariants as event
 use Rattle.auc_world.specs.declared.net.FullInputs.{FullInputs}
 use Rattle.auc_world.specs.declared.net.Inputs.{Inputs}
 use Rattle.auc_world.specs.declared.net.Inputs.TheVariants as inputs_of

@@ -10,10 +10,10 @@ use Rattle.auc_peer.specs.Turn as peer_turns
 use Rattle.auc_peer.specs.Turn.{Decrypts, Steps, decryption_made}
 use Rattle.auc_peer.specs.declared.device.Device.{Device}
 use Rattle.auc_peer.specs.declared.peer.Peer.{Peer}
-use Rattle.auc_peer.specs.declared.why.PeerWhy.{PeerWhy}
+use Rattle.auc_vector.specs.declared.why.PeerWhy.{PeerWhy}
 use Rattle.auc_reauth.specs.Device.{Keeps}
 use Rattle.auc_released.specs.declared.numbers.Number.{Number}
-use Rattle.auc_server.specs.Setting.{Setting}
+use Rattle.auc_subs.specs.Setting.{Setting}
 use Rattle.auc_server.specs.declared.reply.Reply.TheVariants as replies
 use Rattle.auc_server.specs.declared.setting.HomeRow.{HomeRow}
 use Rattle.auc_vector.specs.declared.turn.Turn.{Turn}
@@ -21,15 +21,16 @@ use Rattle.auc_world.proofs.ActingLemmas.{numbered}
 use Rattle.auc_world.proofs.DeviceLemmas.{get_here, get_other}
 use Rattle.auc_world.proofs.ServingLemmas.{delivery_to, is_delivery, nothing_told, unjudged}
 use Rattle.auc_world.proofs.WorldLemmas.{map_same}
-use Rattle.auc_world.specs.Came.{AreReceived, Came, by_peer, came_at_peer, packet_number, presented_at, received_by}
+use Rattle.auc_world.specs.Came.{AreReceived, by_peer, came_at_peer, packet_number, presented_at, received_by}
+use Rattle.auc_record.specs.Event.{Came}
 use Rattle.auc_world.specs.Happened.{Delivery, Told, breach_at, delivery_at, kept_after, keys_won, peer_finds, sent_by, to_peer, with_peer}
 use Rattle.auc_world.specs.InnerWorld.{Answers, number_after, state_of}
 use Rattle.auc_world.specs.Net.{Net, inputs_of_peer, judged, keeps_at, keeps_or, packet_at, posted}
 use Rattle.auc_world.specs.World.{AreHanded, RememberPasts, WorldState}
-use Rattle.auc_world.specs.declared.event.Note.{Note}
-use Rattle.auc_world.specs.declared.event.NoteStep.TheVariants as did
-use Rattle.auc_world.specs.declared.event.WorldRefusal.TheVariants as refused
-use Rattle.auc_world.specs.declared.net.Breach.{Breach}
+use Rattle.auc_record.specs.declared.event.Note.{Note}
+use Rattle.auc_record.specs.declared.event.NoteStep.TheVariants as did
+use Rattle.auc_record.specs.declared.event.WorldRefusal.TheVariants as refused
+use Rattle.auc_record.specs.declared.record.Breach.{Breach}
 use Rattle.auc_world.specs.declared.net.Inputs.{Inputs}
 use Rattle.auc_world.specs.declared.net.SentPacket.{SentPacket}
 use Rattle.auc_world.specs.declared.net.Session.{Session}

@@ -24,29 +24,30 @@ use Rattle.auc_sites.specs.Run.{judgement_in}
 use Rattle.auc_sites.specs.declared.master.Judged.{Judged}
 use Rattle.auc_sites.specs.declared.master.Judged.TheVariants as judged
 use Rattle.auc_vector.specs.declared.parts.Vector.{Vector as AuthVector}
-use Rattle.auc_world.specs.declared.further.Further.TheVariants as further
-use Rattle.auc_world.specs.declared.record.GiveVerdict.{GiveVerdict}
-use Rattle.auc_world.specs.declared.record.GiveVerdict.TheVariants as given
-use Rattle.auc_world.specs.declared.record.LineRecord.{LineRecord}
-use Rattle.auc_world.specs.declared.record.LineRecord.TheVariants.{Vector, Withheld, Exhausted, Sync, Give, Further, Event as Told}
-use Rattle.auc_world.specs.declared.record.SyncVerdict.{SyncVerdict}
-use Rattle.auc_world.specs.declared.record.SyncVerdict.TheVariants as verdict
+use Rattle.auc_record.specs.declared.further.Further.TheVariants as further
+use Rattle.auc_record.specs.declared.record.GiveVerdict.{GiveVerdict}
+use Rattle.auc_record.specs.declared.record.GiveVerdict.TheVariants as given
+use Rattle.auc_record.specs.declared.record.LineRecord.{LineRecord}
+use Rattle.auc_record.specs.declared.record.LineRecord.TheVariants.{Vector, Withheld, Exhausted, Sync, Give, Further, Event as Told}
+use Rattle.auc_record.specs.declared.record.SyncVerdict.{SyncVerdict}
+use Rattle.auc_record.specs.declared.record.SyncVerdict.TheVariants as verdict
 use Rattle.std.specs.Prelude.{Option, Some, None}
 use Rattle.auc_world.specs.Came.{Presented, came, presented_by}
-use Rattle.auc_world.specs.Event.{device_in, sqn_accepted, usim_in}
-use Rattle.auc_world.specs.Lines.{accepted, accepted_by, taken}
+use Rattle.auc_record.specs.Event.{device_in, sqn_accepted, usim_in}
+use Rattle.auc_record.specs.Lines.{accepted, accepted_by, taken}
 use Rattle.auc_world.specs.Net.{Net, other}
 use Rattle.auc_world.specs.Start.{Kept, start_of}
-use Rattle.auc_world.specs.declared.event.Event.{Event}
-use Rattle.auc_world.specs.declared.event.Event.TheVariants as event
-use Rattle.auc_world.specs.declared.event.EventRecord.{EventRecord}
+use Rattle.auc_record.specs.declared.event.Event.{Event}
+use Rattle.auc_record.specs.declared.event.Event.TheVariants as event
+use Rattle.auc_record.specs.declared.event.EventRecord.{EventRecord}
 use Rattle.auc_world.proofs.SimLemmas.{sim_gives_drawn}
 use Rattle.auc_world.proofs.NetLemmas.{AreOf, IsOf, IsPresentedTo, Opens, device_is_of, presented_is_of, sessions_stay}
-use Rattle.auc_world.specs.Setting.{Setting}
-use Rattle.auc_world.specs.Given.{AuthenticatesIf, Before, DrawGives, EventGives, FivegFollows, GiveGives, IsUsimAsked, JobGives, JobsGive, LineGives, OneGives, PlainGives, RelayGives, UsimNotes, VectorsFollow, IsGiven, behind, hxres_lines, is_released, judged_lines, device_of_row, kasme_line, outcome_of, packet_of, past_of, past_before, turned}
+use Rattle.auc_subs.specs.Setting.{Setting}
+use Rattle.auc_world.specs.Given.{AuthenticatesIf, Before, EventGives, FivegFollows, GiveGives, IsUsimAsked, JobGives, JobsGive, LineGives, PlainGives, RelayGives, UsimNotes, VectorsFollow, IsGiven, behind, hxres_lines, is_released, judged_lines, device_of_row, kasme_line, outcome_of, packet_of, past_of, past_before, turned}
+use Rattle.auc_record.specs.Draws.{DrawGives, OneGives}
 use Rattle.auc_world.specs.Sim.{SimGives}
 use Rattle.auc_world.specs.Sites.{LeaseGives, SiteEventGives, SitesGo, event_of, note_of, sites_start}
-use Rattle.auc_world.specs.VectorAt.{vector_at, vector_of_row}
+use Rattle.auc_record.specs.VectorAt.{vector_at, vector_of_row}
 use Rattle.auc_world.specs.Pieces.{Piece, lines_of_pieces, IsQuiet, PiecesGive, JobsGiveAfterAllLines}
 
 -- what a USIM accepted by two lists of lines

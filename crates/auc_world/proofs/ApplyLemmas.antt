@@ -8,11 +8,12 @@ use Rattle.auc_lines.specs.declared.part.End.{End}
 use Rattle.auc_lines.specs.declared.part.End.TheVariants as end
 use Rattle.auc_peer.specs.Subscription.{Subscription}
 use Rattle.auc_server.specs.Server.{ServerEnd}
-use Rattle.auc_server.specs.Setting.{Setting}
+use Rattle.auc_subs.specs.Setting.{Setting}
 use Rattle.auc_server.specs.declared.setting.HomeRow.{HomeRow}
 use Rattle.auc_vector.specs.Notes.{Asked}
 use Rattle.auc_world.proofs.ServingLemmas.{delivery_to, has_packet, nothing_told, unjudged}
-use Rattle.auc_world.specs.Came.{AreReceived, Came, AsksIn, RepliesIn, TellsNotes, asking_in, came, came_delivered, came_in, came_opened, came_repeated, came_started, presented_in, received_at, server_came_to_give_up, session_of, came_changed}
+use Rattle.auc_world.specs.Came.{AreReceived, AsksIn, RepliesIn, TellsNotes, asking_in, came, came_delivered, came_in, came_opened, came_repeated, came_started, presented_in, received_at, server_came_to_give_up, session_of, came_changed}
+use Rattle.auc_record.specs.Event.{Came}
 use Rattle.auc_world.specs.Happened.{Delivery, Told, at_place, at_session, delivered, delivery_at, delivery_in, found_by, happened, in_session, opened, repeat, server_gives_up, start, with_copy}
 use Rattle.auc_world.specs.InnerWorld.{Answers, IsReached, IsUnreached, Serves, came_of, net_of, refusal_of, copy_by}
 use Rattle.auc_world.specs.Net.{Net, device_place, judged, packet_at, session_place}
@@ -20,8 +21,8 @@ use Rattle.auc_world.specs.World.{Applies, AreHanded, AreOfSame, WorldState}
 use Rattle.auc_world.specs.declared.acting.Deed.{Deed}
 use Rattle.auc_world.specs.declared.acting.Deed.TheVariants as deed
 use Rattle.auc_world.specs.declared.changing.Change.TheVariants as change
-use Rattle.auc_world.specs.declared.event.Event.TheVariants as event
-use Rattle.auc_world.specs.declared.event.WorldRefusal.{WorldRefusal}
+use Rattle.auc_record.specs.declared.event.Event.TheVariants as event
+use Rattle.auc_record.specs.declared.event.WorldRefusal.{WorldRefusal}
 use Rattle.auc_world.specs.declared.net.SentPacket.{SentPacket}
 use Rattle.auc_world.specs.declared.net.Session.{Session}
 

@@ -8,7 +8,7 @@ use Rattle.auc_edge.specs.Identity.{Identity}
 use Rattle.auc_server.specs.Asked.{asked_after, sub_named, sub_of}
 use Rattle.auc_server.specs.Rows.{held_place, if_held, is_held, named_place, permanent_subscriber, pseudonym_subscriber, subscriber_in}
 use Rattle.auc_server.specs.Server.{ServerEnd, challenged_of, resumed_of}
-use Rattle.auc_server.specs.Setting.{Setting}
+use Rattle.auc_subs.specs.Setting.{Setting}
 use Rattle.auc_server.specs.Steps.{IsHeld, IsHeldToo, IsHome}
 use Rattle.auc_server.specs.declared.server.Challenged.{Challenged}
 use Rattle.auc_server.specs.declared.server.Resumed.{Resumed}
@@ -20,7 +20,7 @@ use Rattle.auc_vector.specs.declared.notes.ResyncNote.{ResyncNote}
 use Rattle.auc_vector.specs.declared.notes.ResyncNote.TheVariants as resync
 use Rattle.auc_lines.specs.declared.part.End.TheVariants as end
 use Rattle.auc_world.specs.Came.{came_in, came_opened, came_repeated, came_started, server_came_to_give_up}
-use Rattle.auc_world.specs.Event.{asked_in}
+use Rattle.auc_record.specs.Event.{asked_in}
 use Rattle.auc_world.specs.InnerWorld.{came_of}
 use Rattle.auc_world.specs.Net.{Net}
 use Rattle.auc_world.specs.World.{AreHomes}

@@ -1,7 +1,7 @@
 -- For laws on events: what comes of a changed packet.
 use Rattle.std.proofs.Common.{◌≡◌, ℕ, List, Option, Some, None, refl}
-use Rattle.auc_world.specs.Came.{Came, came_changed}
-use Rattle.auc_world.specs.Event.{asked_in, device_in, event_number, event_vector, number_in, resync_in, usim_in}
+use Rattle.auc_record.specs.Event.{Came, asked_in, device_in, event_number, event_vector, number_in, resync_in, usim_in}
+use Rattle.auc_world.specs.Came.{came_changed}
 use Rattle.auc_world.specs.declared.net.SentPacket.{SentPacket}
 
 -- nobody was asked or received anything, and nothing was released

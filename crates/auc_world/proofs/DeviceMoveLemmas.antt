@@ -23,7 +23,7 @@ use Rattle.auc_reauth.specs.Store.{entry}
 use Rattle.auc_reauth.specs.declared.context.Context.{Context}
 use Rattle.auc_server.specs.Moves.{moved_by}
 use Rattle.auc_server.specs.Server.{ServerEnd, started}
-use Rattle.auc_server.specs.Setting.{Setting}
+use Rattle.auc_subs.specs.Setting.{Setting}
 use Rattle.auc_server.specs.Table.{gave_up}
 use Rattle.auc_subs.specs.Subscriber.{AreSubscribers}
 use Rattle.auc_vector.specs.declared.notes.CounterNote.{CounterNote}
@@ -35,8 +35,8 @@ use Rattle.auc_world.specs.Happened.{Delivery, Told, at_place, at_session, deliv
 use Rattle.auc_world.specs.Net.{Net, device_place, keeps_at, keeps_or, packet_at, same_method, session_place}
 use Rattle.auc_world.specs.Places.{DeviceMoves, EachEventMovesDevicesOnce, EachMoves, IsDeviceMove, TellsItsNotes, device_places, only, peer_at}
 use Rattle.auc_world.specs.Resumption.{accepted_for, accepted_of, counters_accepted}
-use Rattle.auc_world.specs.declared.event.Event.{Event}
-use Rattle.auc_world.specs.declared.event.Event.TheVariants as event
+use Rattle.auc_record.specs.declared.event.Event.{Event}
+use Rattle.auc_record.specs.declared.event.Event.TheVariants as event
 use Rattle.auc_world.specs.declared.net.SentPacket.{SentPacket}
 use Rattle.auc_world.specs.declared.net.Session.{Session}
 use Rattle.auc_world.proofs.HomeMoveLemmas.{leaves, other_number, picks, same_number, session_apart, is_same, store_apart, at_same, at_other}

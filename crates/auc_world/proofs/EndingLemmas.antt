@@ -7,7 +7,7 @@ use Rattle.auc_lines.specs.declared.part.End.TheVariants as end
 use Rattle.auc_peer.specs.Subscription.{Subscription}
 use Rattle.auc_server.specs.Ending.{EachTurnLeavesFewer, LeavesFewer, packets_left}
 use Rattle.auc_server.specs.Server.{ServerEnd, started}
-use Rattle.auc_server.specs.declared.why.ServerWhy.{ServerWhy}
+use Rattle.auc_vector.specs.declared.why.ServerWhy.{ServerWhy}
 use Rattle.auc_vector.specs.declared.turn.Step.{Step}
 use Rattle.auc_vector.specs.declared.turn.Turn.{Turn}
 use Rattle.auc_world.proofs.PlainListLemmas.{position_stays, set_there}
@@ -16,13 +16,13 @@ use Rattle.auc_world.specs.Ending.{EachDeliveryLeavesFewer, EachPlainSessionEnds
 use Rattle.auc_world.specs.Given.{Before, EventGives, RelayGives, behind, packet_in, packet_of}
 use Rattle.auc_world.specs.Happened.{Delivery, Told, at_place, delivered, delivery_at, delivery_of, happened, in_session, keys_won, peer_turn, sent_by, server_turn, start, to_peer, to_server}
 use Rattle.auc_world.specs.Net.{Net, keeps_at, other, packet_at, session_place}
-use Rattle.auc_world.specs.Setting.{Setting}
-use Rattle.auc_world.specs.declared.event.Event.{Event}
-use Rattle.auc_world.specs.declared.event.Event.TheVariants as event
+use Rattle.auc_subs.specs.Setting.{Setting}
+use Rattle.auc_record.specs.declared.event.Event.{Event}
+use Rattle.auc_record.specs.declared.event.Event.TheVariants as event
 use Rattle.auc_world.specs.declared.net.SentPacket.{SentPacket}
 use Rattle.auc_world.specs.declared.net.Session.{Session}
-use Rattle.auc_world.specs.declared.record.LineRecord.{LineRecord}
-use Rattle.auc_world.specs.declared.record.LineRecord.TheVariants as record_of
+use Rattle.auc_record.specs.declared.record.LineRecord.{LineRecord}
+use Rattle.auc_record.specs.declared.record.LineRecord.TheVariants as record_of
 
 no_packet : (packet : ℕ) → ◌≡◌ {A = Option ℕ} None (Some packet) → ⊥
 no_packet packet e = cc

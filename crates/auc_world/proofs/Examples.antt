@@ -6,8 +6,8 @@ use Rattle.auc_world.specs.Happened.{changed_in}
 use Rattle.auc_world.specs.Net.{Finding, copies, judged}
 use Rattle.auc_lines.specs.declared.part.End.{End}
 use Rattle.auc_lines.specs.declared.part.End.TheVariants as end
-use Rattle.auc_world.specs.declared.event.Event.TheVariants as event
-use Rattle.auc_world.specs.declared.net.Breach.{Breach}
+use Rattle.auc_record.specs.declared.event.Event.TheVariants as event
+use Rattle.auc_record.specs.declared.record.Breach.{Breach}
 use Rattle.auc_world.specs.declared.net.FastInputs.{FastInputs}
 use Rattle.auc_world.specs.declared.net.FullInputs.{FullInputs}
 use Rattle.auc_world.specs.declared.net.Inputs.{Inputs}

@@ -5,12 +5,12 @@ pub use Rattle.auc_world.proofs.AgreementLemmas.{HoldsOf, IsDrawn, Laws}
 pub use Rattle.auc_world.proofs.ApartLemmas.{accepted-append, job_quiet, jobs_give_after_all_lines}
 pub use Rattle.auc_world.proofs.BitLemmas.{bit_mask_is_bytes}
 pub use Rattle.auc_world.proofs.DeviceMoveLemmas.{PeerLaws, run_is_named}
-pub use Rattle.auc_world.proofs.HeldLemmas.{withheld_of-held_of, none_held}
 pub use Rattle.auc_world.proofs.HomeLemmas.{homes_alike}
 pub use Rattle.auc_world.proofs.HomeMoveLemmas.{place_stays, waiting_stays}
 pub use Rattle.auc_world.proofs.JobLemmas.{moved_releases, number_of_line, numbers_in, of_sub, of_sub-append}
 pub use Rattle.auc_world.proofs.JobRunLemmas.{IsKnown, IsOfJob, counted_once, job_runs, number_counts}
-pub use Rattle.auc_world.proofs.LimitLemmas.{get_or-greater, get_or-lesser, get_or-reopened, length-opened, length-reopened, opened_above, opened_at, opened_within, reopened_within}
+pub use Rattle.auc_world.proofs.EndLemmas.{came_at_end, lawful_at_ends}
+pub use Rattle.auc_world.proofs.LimitLemmas.{get_or-greater, length-opened, opened_above, opened_at, opened_within}
 pub use Rattle.auc_world.proofs.NetLemmas.{AreAt, IsPresentedAt, OpensAt, places_stay, presented_is_at}
 pub use Rattle.auc_world.proofs.PastLemmas.{each_accepted_in_past}
 pub use Rattle.auc_world.proofs.PeerMoveLemmas.{Counts, IsNamed, IsQuiet, giving_up_counts, new_is_quiet, taken_in, turn_counts}

@@ -23,7 +23,7 @@ use Rattle.auc_server.specs.Moves.{IsNewName, IsNewOrNone, is_at, moved_by, of_s
 use Rattle.auc_server.specs.Ordinals.{home_at, home_place, homes_given, homes_with, ordinal_after, ordinal_at, ordinal_given, with_next}
 use Rattle.auc_server.specs.Rows.{server_row, subscriber_in, text_in}
 use Rattle.auc_server.specs.Server.{ServerEnd, resumed_of}
-use Rattle.auc_server.specs.Setting.{Setting}
+use Rattle.auc_subs.specs.Setting.{Setting}
 use Rattle.auc_server.specs.Table.{asked, both_of, challenge_of, challenged, challenged_with, failed, gave_up, homes_after, homes_challenged, homes_done, homes_named, identified, identity_given, name_of, names_given, next_given, noted, notified, packets_after, pseudonym_given, random_at, reauthenticated, resumed_with, resumption, resynchronised, resynchronising, server_does, server_step, silent, succeeded, under, unknown, vector_at}
 use Rattle.auc_server.specs.declared.options.ServerOptions.{ServerOptions}
 use Rattle.auc_server.specs.declared.reply.Reply.{Reply}
@@ -34,7 +34,7 @@ use Rattle.auc_server.specs.declared.server.Resumed.{Resumed}
 use Rattle.auc_server.specs.declared.server.ServerState.{ServerState}
 use Rattle.auc_server.specs.declared.server.ServerState.TheVariants as state
 use Rattle.auc_server.specs.declared.setting.HomeRow.{HomeRow}
-use Rattle.auc_server.specs.declared.why.ServerWhy.TheVariants as why
+use Rattle.auc_vector.specs.declared.why.ServerWhy.TheVariants as why
 use Rattle.auc_vector.specs.declared.notes.Notes.{Notes}
 use Rattle.auc_vector.specs.declared.notes.NumberNote.{NumberNote}
 use Rattle.auc_vector.specs.declared.notes.NumberNote.TheVariants as number

@@ -14,14 +14,14 @@ use Rattle.auc_vector.specs.Notes.{Asking}
 use Rattle.auc_vector.specs.declared.notes.Notes.{Notes}
 use Rattle.auc_vector.specs.declared.notes.NumberNote.{NumberNote}
 use Rattle.auc_vector.specs.declared.notes.NumberNote.TheVariants as number
-use Rattle.auc_world.specs.Came.{Came, asked_sub, asking_at, asking_in, asking_of, came, came_at_peer, came_at_server, came_delivered, came_given_up, came_in, came_opened, came_repeated, came_started, server_came_to_give_up, session_at, came_changed}
-use Rattle.auc_world.specs.Event.{event_number, number_released, number_with}
+use Rattle.auc_record.specs.Event.{Came, event_number, number_released, number_with}
+use Rattle.auc_world.specs.Came.{asked_sub, asking_at, asking_in, asking_of, came, came_at_peer, came_at_server, came_delivered, came_given_up, came_in, came_opened, came_repeated, came_started, server_came_to_give_up, session_at, came_changed}
 use Rattle.auc_world.specs.Given.{IsCentreAsked}
 use Rattle.auc_world.specs.Happened.{Delivery, Told, at_place, delivered, delivery_at, delivery_of, give_up, in_session, moved, opened, drawn_in_turn, repeat, server_gives_up, server_turn, start, to_peer, to_server, changed_in, with_copy}
 use Rattle.auc_world.specs.Net.{Net, device_place, packet_at, session_place}
-use Rattle.auc_world.specs.Setting.{Setting}
-use Rattle.auc_world.specs.declared.event.Event.{Event}
-use Rattle.auc_world.specs.declared.event.Event.TheVariants as event
+use Rattle.auc_subs.specs.Setting.{Setting}
+use Rattle.auc_record.specs.declared.event.Event.{Event}
+use Rattle.auc_record.specs.declared.event.Event.TheVariants as event
 use Rattle.auc_world.specs.declared.net.SentPacket.{SentPacket}
 use Rattle.auc_world.specs.declared.net.Session.{Session}
 use Rattle.auc_world.proofs.CopyLemmas.{changed_is_silent}

@@ -21,17 +21,17 @@ use Rattle.auc_subs.specs.Subscriber.{AreSubscribers, same_identity}
 use Rattle.auc_subs.specs.declared.row.Row.{Row}
 use Rattle.auc_world.specs.Agreement.{AreReleasedOnce, AreSized, AreTold, DecryptsIn, Happening, HaveSecrets, IsRealm, Occurs, after, after_one}
 use Rattle.auc_world.specs.Came.{Presented, came, presented_by}
-use Rattle.auc_world.specs.Event.{asked_in, event_number, number_in}
+use Rattle.auc_record.specs.Event.{asked_in, event_number, number_in}
 use Rattle.auc_world.specs.Given.{Before, EventGives, IsUsimAsked, JobGives, LineGives, PlainGives, RelayGives, behind, packet_of}
 use Rattle.auc_world.specs.Happened.{Told}
-use Rattle.auc_world.specs.Lines.{numbers_of, released_by}
+use Rattle.auc_record.specs.Lines.{numbers_of, released_by}
 use Rattle.auc_world.specs.Net.{Net, other, place_with}
-use Rattle.auc_world.specs.Setting.{Setting}
+use Rattle.auc_subs.specs.Setting.{Setting}
 use Rattle.auc_world.specs.Start.{Kept, start_of, subscription_at, subscription_by}
-use Rattle.auc_world.specs.declared.event.Event.{Event}
-use Rattle.auc_world.specs.declared.event.Event.TheVariants as event
-use Rattle.auc_world.specs.declared.record.LineRecord.{LineRecord}
-use Rattle.auc_world.specs.declared.record.LineRecord.TheVariants as record_of
+use Rattle.auc_record.specs.declared.event.Event.{Event}
+use Rattle.auc_record.specs.declared.event.Event.TheVariants as event
+use Rattle.auc_record.specs.declared.record.LineRecord.{LineRecord}
+use Rattle.auc_record.specs.declared.record.LineRecord.TheVariants as record_of
 use Rattle.auc_world.proofs.AgainHomeLemmas.{run_is_sized}
 use Rattle.auc_world.proofs.AgainLemmas.{AgainOf, AllLaws}
 use Rattle.auc_world.proofs.AgreementLemmas.{HoldsOf}

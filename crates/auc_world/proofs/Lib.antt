@@ -2,14 +2,11 @@ pub mod Facts
 mod ApartLemmas
 mod BitLemmas
 mod CopyLemmas
-mod CountLemmas
-mod HeldLemmas
+mod EndLemmas
 mod PieceLemmas
 mod LimitLemmas
-mod NotingLemmas
 mod NetLemmas
 mod PastLemmas
-mod VectorLemmas
 mod PremiseLemmas
 mod RenewLemmas
 mod AgreementLemmas

@@ -8,26 +8,26 @@ use Rattle.auc_lines.specs.declared.part.End.TheVariants as end
 use Rattle.auc_peer.specs.Subscription.{Subscription}
 use Rattle.auc_peer.specs.Table.{gave_up as peer_gave_up}
 use Rattle.auc_peer.specs.declared.peer.Peer.{Peer}
-use Rattle.auc_peer.specs.declared.why.PeerWhy.{PeerWhy}
+use Rattle.auc_vector.specs.declared.why.PeerWhy.{PeerWhy}
 use Rattle.auc_server.specs.Rows.{server_row}
 use Rattle.auc_server.specs.Server.{ServerEnd, started}
-use Rattle.auc_server.specs.Setting.{Setting}
+use Rattle.auc_subs.specs.Setting.{Setting}
 use Rattle.auc_server.specs.Steps.{asking}
 use Rattle.auc_server.specs.Table.{gave_up as server_gave_up, repeated}
 use Rattle.auc_server.specs.declared.options.ServerOptions.{ServerOptions}
-use Rattle.auc_server.specs.declared.why.ServerWhy.{ServerWhy}
+use Rattle.auc_vector.specs.declared.why.ServerWhy.{ServerWhy}
 use Rattle.auc_vector.specs.declared.turn.Step.{Step}
 use Rattle.auc_vector.specs.declared.turn.Step.TheVariants as step
-use Rattle.auc_world.specs.Came.{Came, Presented, came, came_at_peer, came_at_server, came_delivered, came_given_up, came_in, came_opened, came_repeated, came_started, presented_by, presented_in, presented_at, server_came_to_give_up, session_of}
-use Rattle.auc_world.specs.Event.{device_in}
+use Rattle.auc_record.specs.Event.{Came, device_in}
+use Rattle.auc_world.specs.Came.{Presented, came, came_at_peer, came_at_server, came_delivered, came_given_up, came_in, came_opened, came_repeated, came_started, presented_by, presented_in, presented_at, server_came_to_give_up, session_of}
 use Rattle.auc_world.specs.Happened.{Delivery, Told, at_place, delivered, delivery_at, delivery_of, give_up, happened, in_session, new_session, opened, peer_turn, drawn_in_turn, repeat, server_gives_up, server_turn, start, to_peer, to_server, with_peer, with_server, changed_in}
 use Rattle.auc_world.specs.Net.{Net, device_place, keeps_at, packet_at, session_place}
-use Rattle.auc_world.specs.declared.event.Event.{Event}
-use Rattle.auc_world.specs.declared.event.Event.TheVariants as event
+use Rattle.auc_record.specs.declared.event.Event.{Event}
+use Rattle.auc_record.specs.declared.event.Event.TheVariants as event
 use Rattle.auc_world.specs.declared.net.SentPacket.{SentPacket}
 use Rattle.auc_world.specs.declared.net.Session.{Session}
 use Rattle.auc_released.specs.declared.numbers.Number.{Number}
-use Rattle.auc_world.proofs.VectorLemmas.{all_at}
+use Rattle.auc_record.proofs.Facts.{all_at}
 use Rattle.auc_world.proofs.CopyLemmas.{changed_is_silent}
 
 -- the subscriber of each session is one of these

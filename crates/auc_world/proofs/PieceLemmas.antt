@@ -9,17 +9,17 @@ use Rattle.auc_history.specs.History.{covers, covered}
 use Rattle.auc_history.specs.Recut.{LeavesOutLooks, EachLeavesOutLooks}
 use Rattle.auc_history.specs.Split.{all_entries, times}
 use Rattle.auc_history.proofs.Facts.{leaves_out-append, leaves_out_none, split_without_looks_is_a_split, times-append, times-cons}
-use Rattle.auc_world.specs.declared.record.LineRecord.{LineRecord}
+use Rattle.auc_record.specs.declared.record.LineRecord.{LineRecord}
 use Rattle.std.specs.Prelude.{Option, Some, None}
 use Rattle.auc_vector.specs.declared.notes.NumberNote.{NumberNote}
 use Rattle.auc_vector.specs.declared.notes.NumberNote.TheVariants as number
 use Rattle.auc_vector.specs.declared.notes.ResyncNote.{ResyncNote}
 use Rattle.auc_vector.specs.declared.notes.ResyncNote.TheVariants as resync
-use Rattle.auc_world.specs.Event.{is_exhausted, number_for, resync_for}
-use Rattle.auc_world.specs.declared.record.LineRecord.TheVariants.{Vector, Withheld, Exhausted, Sync, Give, Further, Event}
-use Rattle.auc_world.specs.declared.record.SyncVerdict.{SyncVerdict}
-use Rattle.auc_world.specs.declared.record.SyncVerdict.TheVariants as verdict
-use Rattle.auc_world.specs.Entries.{reports, is_reported, entries_of_number, entries_of_resync, entries_of_verdict, entries_of_line, entries_of_lines, entries_of_jobs}
+use Rattle.auc_record.specs.Event.{is_exhausted, number_for, resync_for}
+use Rattle.auc_record.specs.declared.record.LineRecord.TheVariants.{Vector, Withheld, Exhausted, Sync, Give, Further, Event}
+use Rattle.auc_record.specs.declared.record.SyncVerdict.{SyncVerdict}
+use Rattle.auc_record.specs.declared.record.SyncVerdict.TheVariants as verdict
+use Rattle.auc_record.specs.Entries.{reports, is_reported, entries_of_number, entries_of_resync, entries_of_verdict, entries_of_line, entries_of_lines, entries_of_jobs}
 use Rattle.auc_world.specs.Pieces.{Piece, lines_of_pieces, entries_of_pieces, ReportsAreEarlier, PiecesSplitTheRound}
 
 -- ---- lines after a worker's earlier lines, and after those of all earlier jobs

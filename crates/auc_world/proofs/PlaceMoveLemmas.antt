@@ -19,7 +19,7 @@ use Rattle.auc_server.specs.Laws.{EachTurnFits, Fits}
 use Rattle.auc_server.specs.Moves.{moved_by, waiting, waiting_at}
 use Rattle.auc_server.specs.Ordinals.{home_at, home_place}
 use Rattle.auc_server.specs.Server.{ServerEnd, resumed_of, started}
-use Rattle.auc_server.specs.Setting.{Setting}
+use Rattle.auc_subs.specs.Setting.{Setting}
 use Rattle.auc_server.specs.Table.{gave_up}
 use Rattle.auc_server.specs.declared.options.ServerOptions.{ServerOptions}
 use Rattle.auc_server.specs.declared.server.Resumed.{Resumed}
@@ -30,8 +30,8 @@ use Rattle.auc_world.specs.Happened.{Delivery, Told, at_place, at_session, deliv
 use Rattle.auc_world.specs.Net.{Net, device_place, keeps_at, packet_at, same_method, session_place}
 use Rattle.auc_world.specs.Places.{EachEventMovesHomesOnce, EachMoves, HomeMoves, IsHomeMove, home_places, only, server_at, server_leaves}
 use Rattle.auc_world.specs.Resumption.{counters_in, counters_resumed, resumed_for}
-use Rattle.auc_world.specs.declared.event.Event.{Event}
-use Rattle.auc_world.specs.declared.event.Event.TheVariants as event
+use Rattle.auc_record.specs.declared.event.Event.{Event}
+use Rattle.auc_record.specs.declared.event.Event.TheVariants as event
 use Rattle.auc_world.specs.declared.net.SentPacket.{SentPacket}
 use Rattle.auc_world.specs.declared.net.Session.{Session}
 use Rattle.auc_world.proofs.HomeMoveLemmas.{HomeTurn, giving_up_moves_home, is_same, leaves, picks, place_stays, same_number, session_apart, turn_keeps_subs, turn_leaves_other, turn_moves_home, waiting_stays}

@@ -29,8 +29,8 @@ use Rattle.auc_peer.specs.declared.decrypted.Decrypted.TheVariants as decrypted
 use Rattle.auc_peer.specs.declared.peer.Peer.{Peer}
 use Rattle.auc_peer.specs.declared.rows.Row.{Row as PeerRow}
 use Rattle.auc_peer.specs.declared.rows.Row.TheVariants as peer_rows
-use Rattle.auc_peer.specs.declared.why.PeerWhy.{PeerWhy}
-use Rattle.auc_peer.specs.declared.why.PeerWhy.TheVariants as why
+use Rattle.auc_vector.specs.declared.why.PeerWhy.{PeerWhy}
+use Rattle.auc_vector.specs.declared.why.PeerWhy.TheVariants as why
 use Rattle.auc_reauth.specs.Device.{Keeps, is_open}
 use Rattle.auc_reauth.specs.Store.{entry}
 use Rattle.auc_reauth.specs.declared.context.Context.{Context}
@@ -40,7 +40,7 @@ use Rattle.auc_server.specs.Messages.{reauth_bytes, reauth_draft, reauth_in}
 use Rattle.auc_server.specs.Rounds.{checkcode}
 use Rattle.auc_server.specs.Rows.{on_method, server_row}
 use Rattle.auc_server.specs.Server.{ServerEnd}
-use Rattle.auc_server.specs.Setting.{Setting}
+use Rattle.auc_subs.specs.Setting.{Setting}
 use Rattle.auc_server.specs.Steps.{asking}
 use Rattle.auc_server.specs.Table.{next_id, server_step}
 use Rattle.auc_server.specs.declared.options.ServerOptions.{ServerOptions}
@@ -65,13 +65,13 @@ use Rattle.auc_world.proofs.PlainStageLemmas.{Challenged, IsOf, Resumes, device_
 use Rattle.auc_world.proofs.PlainToldLemmas.{Again, IsQuiet, Late, TellSo, accepts_none, draws_one}
 use Rattle.auc_world.specs.Came.{asked_sub}
 use Rattle.auc_world.specs.Agreement.{IsRealm, IsSized}
-use Rattle.auc_world.specs.Event.{number_released}
+use Rattle.auc_record.specs.Event.{number_released}
 use Rattle.auc_world.specs.Given.{RelayGives}
 use Rattle.auc_world.specs.Happened.{kept_after, peer_options, sent_by, server_options}
 use Rattle.auc_world.specs.Net.{Net}
 use Rattle.auc_world.specs.Plain.{IsAskedFor, counter_taken, sqn_reported}
 use Rattle.auc_world.specs.declared.net.Session.{Session}
-use Rattle.auc_world.specs.declared.record.LineRecord.{LineRecord}
+use Rattle.auc_record.specs.declared.record.LineRecord.{LineRecord}
 
 -- ---- a server that has refused, and lines that tell of a number
 

@@ -25,8 +25,8 @@ use Rattle.auc_peer.specs.declared.peer.PeerState.{PeerState}
 use Rattle.auc_peer.specs.declared.peer.PeerState.TheVariants as peer_state
 use Rattle.auc_peer.specs.declared.rows.Row.{Row as PeerRow}
 use Rattle.auc_peer.specs.declared.rows.Row.TheVariants as peer_row
-use Rattle.auc_peer.specs.declared.why.PeerWhy.{PeerWhy}
-use Rattle.auc_peer.specs.declared.why.PeerWhy.TheVariants as peer_why
+use Rattle.auc_vector.specs.declared.why.PeerWhy.{PeerWhy}
+use Rattle.auc_vector.specs.declared.why.PeerWhy.TheVariants as peer_why
 use Rattle.auc_reauth.specs.Device.{Keeps, is_open}
 use Rattle.auc_reauth.specs.Store.{entry}
 use Rattle.auc_reauth.specs.declared.context.Context.{Context}
@@ -34,7 +34,7 @@ use Rattle.auc_server.specs.Attributes.{checkcode_of, error_code_of, first_of}
 use Rattle.auc_server.specs.Rounds.{checkcode}
 use Rattle.auc_server.specs.Rows.{differs, in_state, is_type, is_wrong, on_client_error, on_error_code, on_head, on_method, on_reading, on_reauth, on_resumed, says_small, server_row, text_in, type_awaited}
 use Rattle.auc_server.specs.Server.{ServerEnd}
-use Rattle.auc_server.specs.Setting.{Setting}
+use Rattle.auc_subs.specs.Setting.{Setting}
 use Rattle.auc_server.specs.Table.{failed, ignored, notified, packets_after, reauthenticated, server_does, server_step, silent}
 use Rattle.auc_server.specs.declared.reply.Reply.{Reply}
 use Rattle.auc_server.specs.declared.rows.Row.{Row}
@@ -44,8 +44,8 @@ use Rattle.auc_server.specs.declared.server.Resumed.{Resumed}
 use Rattle.auc_server.specs.declared.server.ServerState.{ServerState}
 use Rattle.auc_server.specs.declared.server.ServerState.TheVariants as state
 use Rattle.auc_server.specs.declared.setting.HomeRow.{HomeRow}
-use Rattle.auc_server.specs.declared.why.ServerWhy.{ServerWhy}
-use Rattle.auc_server.specs.declared.why.ServerWhy.TheVariants as why
+use Rattle.auc_vector.specs.declared.why.ServerWhy.{ServerWhy}
+use Rattle.auc_vector.specs.declared.why.ServerWhy.TheVariants as why
 use Rattle.auc_usim.specs.declared.answer.Answer.{Answer}
 use Rattle.auc_usim.specs.declared.answer.Answer.TheVariants as answer
 use Rattle.auc_vector.specs.declared.notes.Notes.{Notes}

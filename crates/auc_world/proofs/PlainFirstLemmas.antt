@@ -16,7 +16,7 @@ use Rattle.auc_request.specs.declared.identities.IdentityRequest.TheVariants as 
 use Rattle.auc_server.specs.Rounds.{heard}
 use Rattle.auc_server.specs.Rows.{challenge_or, is_type, on_first, on_head, server_row, text_in}
 use Rattle.auc_server.specs.Server.{ServerEnd, resumed_of, started}
-use Rattle.auc_server.specs.Setting.{Setting}
+use Rattle.auc_subs.specs.Setting.{Setting}
 use Rattle.auc_server.specs.Table.{challenged, challenged_with, identified, names_given, noted, server_does, vector_at}
 use Rattle.auc_server.specs.declared.naming.GivenNames.{GivenNames}
 use Rattle.auc_server.specs.declared.options.ServerOptions.{ServerOptions}
@@ -25,7 +25,7 @@ use Rattle.auc_server.specs.declared.rows.Row.{Row}
 use Rattle.auc_server.specs.declared.rows.Row.TheVariants as row
 use Rattle.auc_server.specs.declared.server.ServerState.TheVariants as state
 use Rattle.auc_server.specs.declared.setting.HomeRow.{HomeRow}
-use Rattle.auc_server.specs.declared.why.ServerWhy.{ServerWhy}
+use Rattle.auc_vector.specs.declared.why.ServerWhy.{ServerWhy}
 use Rattle.auc_vector.specs.declared.notes.Notes.{Notes}
 use Rattle.auc_vector.specs.declared.notes.NumberNote.{NumberNote}
 use Rattle.auc_vector.specs.declared.notes.NumberNote.TheVariants as number

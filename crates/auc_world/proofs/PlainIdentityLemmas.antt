@@ -19,13 +19,13 @@ use Rattle.auc_reauth.specs.declared.context.Context.{Context}
 use Rattle.auc_request.specs.declared.identities.IdentityRequest.{IdentityRequest}
 use Rattle.auc_request.specs.declared.identities.IdentityRequest.TheVariants as request
 use Rattle.auc_server.specs.Rows.{held_place, if_held, is_held, permanent_subscriber}
-use Rattle.auc_server.specs.Setting.{Setting}
+use Rattle.auc_subs.specs.Setting.{Setting}
 use Rattle.auc_server.specs.declared.setting.HomeRow.{HomeRow}
 use Rattle.auc_subs.specs.Subscriber.{AreSubscribers, IsRow, place_of, same_identity}
 use Rattle.auc_subs.specs.declared.row.Row.{Row}
 use Rattle.auc_world.proofs.PlainListLemmas.{position_is}
 use Rattle.auc_world.proofs.PlainPacketLemmas.{Laws}
-use Rattle.auc_world.proofs.VectorLemmas.{all_at}
+use Rattle.auc_record.proofs.Facts.{all_at}
 use Rattle.auc_world.specs.Happened.{first_of}
 use Rattle.auc_world.specs.Plain.{IsContext, IsOwnIdentity, IsPseudonym}
 

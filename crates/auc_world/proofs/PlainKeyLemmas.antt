@@ -33,7 +33,7 @@ use Rattle.auc_server.specs.Messages.{names_in}
 use Rattle.auc_server.specs.Ordinals.{homes_given, ordinal_given}
 use Rattle.auc_server.specs.Rounds.{checkcode}
 use Rattle.auc_server.specs.Server.{ServerEnd}
-use Rattle.auc_server.specs.Setting.{Setting}
+use Rattle.auc_subs.specs.Setting.{Setting}
 use Rattle.auc_server.specs.Table.{both_of, identity_given, name_of, names_given, pseudonym_given, random_at, under}
 use Rattle.auc_server.specs.declared.naming.GivenNames.{GivenNames}
 use Rattle.auc_server.specs.declared.setting.HomeRow.{HomeRow}

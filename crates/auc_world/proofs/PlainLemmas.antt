@@ -37,14 +37,14 @@ use Rattle.auc_server.specs.Table.{next_id}
 use Rattle.auc_server.specs.declared.naming.GivenNames.{GivenNames}
 use Rattle.auc_reauth.specs.Device.{Keeps}
 use Rattle.auc_server.specs.Server.{ServerEnd, started}
-use Rattle.auc_server.specs.Setting.{Setting}
+use Rattle.auc_subs.specs.Setting.{Setting}
 use Rattle.auc_server.specs.declared.options.ServerOptions.{ServerOptions}
 use Rattle.auc_subs.specs.Subscriber.{IsRow}
 use Rattle.auc_subs.specs.declared.row.Row.{Row}
 use Rattle.auc_random.specs.Random.{rand_of}
 use Rattle.auc_sqn.specs.Number.{sqn_bytes}
 use Rattle.auc_vector.specs.Vector.{autn_of}
-use Rattle.auc_peer.specs.declared.why.PeerWhy.{PeerWhy}
+use Rattle.auc_vector.specs.declared.why.PeerWhy.{PeerWhy}
 use Rattle.auc_vector.specs.declared.notes.Notes.{Notes}
 use Rattle.auc_vector.specs.declared.notes.UsimNote.{UsimNote}
 use Rattle.auc_vector.specs.declared.notes.UsimNote.TheVariants as usim
@@ -52,7 +52,7 @@ use Rattle.auc_vector.specs.declared.parts.Vector.{Vector}
 use Rattle.auc_vector.specs.declared.turn.Outcome.TheVariants as outcome
 use Rattle.auc_vector.specs.declared.turn.Step.TheVariants as step
 use Rattle.auc_vector.specs.declared.turn.Turn.{Turn}
-use Rattle.auc_server.specs.declared.why.ServerWhy.{ServerWhy}
+use Rattle.auc_vector.specs.declared.why.ServerWhy.{ServerWhy}
 use Rattle.auc_world.proofs.PlainAnswerLemmas.{IsChallenged, challenged_row, ends, responds, sends_sync}
 use Rattle.auc_world.proofs.PlainHiddenLemmas.{challenge_values}
 use Rattle.auc_world.proofs.PlainKeyLemmas.{checkcode_hash, k_encr_block, names_fit}
@@ -66,7 +66,7 @@ use Rattle.auc_world.proofs.PlainServerLemmas.{challenge_with, challenges_again,
 use Rattle.auc_world.proofs.PlainToldLemmas.{Early, IsQuiet, Late, at_first, is_spared}
 use Rattle.auc_world.proofs.PlainUsimLemmas.{Accepts, Reports, usim_answers}
 use Rattle.auc_world.proofs.PlainVectorLemmas.{autn_size, auts_size, f2_size, rand_block}
-use Rattle.auc_world.proofs.VectorLemmas.{all_at}
+use Rattle.auc_record.proofs.Facts.{all_at}
 use Rattle.auc_world.specs.Came.{session_at, session_of}
 use Rattle.auc_world.specs.Given.{UsimNotes}
 use Rattle.auc_world.specs.Net.{Net, session_place}

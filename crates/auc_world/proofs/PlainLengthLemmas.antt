@@ -21,7 +21,7 @@ use Rattle.auc_server.specs.Attributes.{identity_in}
 use Rattle.auc_server.specs.Contexts.{context_in, homes_left}
 use Rattle.auc_server.specs.Rows.{challenge_or, context_subscriber, in_state, is_type, on_any, on_client_error, on_first, on_head, on_identity, on_message, on_method, on_reading, resume_or, server_row, subscriber_in, text_in, type_awaited}
 use Rattle.auc_server.specs.Server.{ServerEnd, resumed_of}
-use Rattle.auc_server.specs.Setting.{Setting}
+use Rattle.auc_subs.specs.Setting.{Setting}
 use Rattle.auc_server.specs.Table.{challenged, challenged_with, identified, names_given, noted, packets_after, resumed_with, resumption, resynchronised, resynchronising, server_does, server_step, vector_at}
 use Rattle.auc_server.specs.declared.naming.GivenNames.{GivenNames}
 use Rattle.auc_server.specs.declared.options.ServerOptions.{ServerOptions}

@@ -9,16 +9,16 @@ use Rattle.auc_peer.specs.Subscription.{Subscription}
 use Rattle.auc_peer.specs.Table.{peer_step}
 use Rattle.auc_peer.specs.Turn.{Decrypts, asked, decryption_made}
 use Rattle.auc_peer.specs.declared.peer.Peer.{Peer}
-use Rattle.auc_peer.specs.declared.why.PeerWhy.{PeerWhy}
+use Rattle.auc_vector.specs.declared.why.PeerWhy.{PeerWhy}
 use Rattle.auc_server.specs.Replies.{Replies}
 use Rattle.auc_server.specs.Rows.{server_row}
 use Rattle.auc_server.specs.Server.{ServerEnd, challenged_of, started}
-use Rattle.auc_server.specs.Setting.{Setting}
+use Rattle.auc_subs.specs.Setting.{Setting}
 use Rattle.auc_server.specs.Steps.{asking}
 use Rattle.auc_reauth.specs.Device.{Keeps}
 use Rattle.auc_server.specs.Table.{homes_after, server_step, silent}
 use Rattle.auc_server.specs.declared.setting.HomeRow.{HomeRow}
-use Rattle.auc_server.specs.declared.why.ServerWhy.{ServerWhy}
+use Rattle.auc_vector.specs.declared.why.ServerWhy.{ServerWhy}
 use Rattle.auc_released.specs.declared.numbers.Number.{Number}
 use Rattle.auc_sqn.specs.Past.{Past}
 use Rattle.auc_subs.specs.declared.row.Row.{Row}
@@ -30,19 +30,20 @@ use Rattle.auc_vector.specs.declared.turn.Turn.{Turn}
 use Rattle.auc_world.proofs.DeviceLemmas.{get_here}
 use Rattle.auc_world.proofs.PlainListLemmas.{last_packet, position_stays, set_there}
 use Rattle.auc_world.proofs.PlainToldLemmas.{IsQuiet, IsSizedAt, IsSpared, Stage, TellSo, is_spared, line_of, loosened, stays}
-use Rattle.auc_world.specs.Came.{AreReceived, Came, Presented, RepliesAt, RepliesIn, TellsNotes, asked_sub, asking_at, asking_in, by_peer, by_server, came, came_at_peer, came_at_server, came_delivered, came_in, came_started, packet_number, presented_at, presented_in, received_at, received_by, session_at, session_of, vector_sent}
+use Rattle.auc_world.specs.Came.{AreReceived, Presented, RepliesAt, RepliesIn, TellsNotes, asked_sub, asking_at, asking_in, by_peer, by_server, came, came_at_peer, came_at_server, came_delivered, came_in, came_started, packet_number, presented_at, presented_in, received_at, received_by, session_at, session_of, vector_sent}
+use Rattle.auc_record.specs.Event.{Came}
 use Rattle.auc_world.specs.Given.{Before, IsCentreAsked, IsUsimAsked, PlainGives, RelayGives, UsimNotes, behind, packet_of, past_before}
 use Rattle.auc_world.specs.Happened.{Delivery, Told, at_place, delivered, delivery_at, delivery_in, delivery_of, in_session, kept_after, keys_won, moved, peer_turn, drawn_in_turn, sent_by, start, to_peer, to_server, with_peer, with_server}
 use Rattle.auc_world.specs.Net.{Net, inputs_of_peer, inputs_of_server, keeps_at, keeps_or, packet_at, posted, session_place}
 use Rattle.auc_world.specs.Plain.{sqn_reported}
-use Rattle.auc_world.specs.declared.event.Event.{Event}
-use Rattle.auc_world.specs.declared.event.Event.TheVariants as event
-use Rattle.auc_world.specs.declared.event.Note.{Note}
+use Rattle.auc_record.specs.declared.event.Event.{Event}
+use Rattle.auc_record.specs.declared.event.Event.TheVariants as event
+use Rattle.auc_record.specs.declared.event.Note.{Note}
 use Rattle.auc_world.specs.declared.net.Inputs.{Inputs}
 use Rattle.auc_world.specs.declared.net.SentPacket.{SentPacket}
 use Rattle.auc_world.specs.declared.net.Session.{Session}
-use Rattle.auc_world.specs.declared.record.LineRecord.{LineRecord}
-use Rattle.auc_world.specs.declared.record.LineRecord.TheVariants as record_of
+use Rattle.auc_record.specs.declared.record.LineRecord.{LineRecord}
+use Rattle.auc_record.specs.declared.record.LineRecord.TheVariants as record_of
 
 -- ---- a packet under way
 

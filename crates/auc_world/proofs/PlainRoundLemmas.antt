@@ -26,7 +26,7 @@ use Rattle.auc_server.specs.Ordinals.{home_at, home_place}
 use Rattle.auc_server.specs.Rounds.{checkcode}
 use Rattle.auc_server.specs.Rows.{challenge_or, context_subscriber, if_found, on_any, reauth_subscriber, resume_or, subscriber_in, text_in, with_context_in}
 use Rattle.auc_server.specs.Server.{ServerEnd}
-use Rattle.auc_server.specs.Setting.{Setting}
+use Rattle.auc_subs.specs.Setting.{Setting}
 use Rattle.auc_server.specs.Steps.{asking}
 use Rattle.auc_server.specs.Table.{homes_after, homes_done, next_id, resuming, silent}
 use Rattle.auc_server.specs.declared.rows.Row.{Row}
@@ -34,7 +34,7 @@ use Rattle.auc_server.specs.declared.rows.Row.TheVariants as row
 use Rattle.auc_server.specs.declared.server.ServerState.{ServerState}
 use Rattle.auc_server.specs.declared.server.ServerState.TheVariants as state
 use Rattle.auc_server.specs.declared.setting.HomeRow.{HomeRow}
-use Rattle.auc_server.specs.declared.why.ServerWhy.{ServerWhy}
+use Rattle.auc_vector.specs.declared.why.ServerWhy.{ServerWhy}
 use Rattle.auc_subs.specs.declared.row.Row as rows
 use Rattle.auc_vector.specs.declared.notes.Notes.{Notes}
 use Rattle.auc_vector.specs.declared.turn.Turn.{Turn}
@@ -49,7 +49,7 @@ use Rattle.auc_world.proofs.PlainStageLemmas.{Asked, Challenged, IsOf, Offers, R
 use Rattle.auc_world.proofs.PlainToldLemmas.{Again, Early, IsQuiet, IsSizedAt, Late, TellSo, goes_again}
 use Rattle.auc_world.specs.Agreement.{AreSized, IsSized}
 use Rattle.auc_world.specs.Came.{asked_sub}
-use Rattle.auc_world.specs.Event.{number_released}
+use Rattle.auc_record.specs.Event.{number_released}
 use Rattle.auc_world.specs.Happened.{peer_options, server_options}
 use Rattle.auc_world.specs.Net.{Net}
 use Rattle.auc_world.specs.Plain.{IsAskedFor, counter_taken, sqn_reported}

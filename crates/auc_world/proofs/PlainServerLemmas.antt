@@ -36,7 +36,7 @@ use Rattle.auc_server.specs.Ordinals.{ordinal_given}
 use Rattle.auc_server.specs.Rounds.{checkcode, heard, packet_in}
 use Rattle.auc_server.specs.Rows.{by_auts, in_state, is_type, on_any, on_auts, on_challenged, on_first, on_full, on_head, on_method, on_permanent, on_reading, on_response, read_by, server_row, text_in, type_awaited}
 use Rattle.auc_server.specs.Server.{ServerEnd, resumed_of}
-use Rattle.auc_server.specs.Setting.{Setting}
+use Rattle.auc_subs.specs.Setting.{Setting}
 use Rattle.auc_server.specs.State.{last_of}
 use Rattle.auc_server.specs.Steps.{asking}
 use Rattle.auc_server.specs.Table.{challenge_of, challenged, challenged_with, ended, first_challenge, identified, identity_asked, index_after, names_given, next_given, next_id, noted, packets_after, random_at, resumed, resumed_with, resuming, resumption, resynchronised, resynchronising, sent_with, server_does, server_step, silent, vector_of_row}
@@ -51,7 +51,7 @@ use Rattle.auc_server.specs.declared.server.Resumed.{Resumed}
 use Rattle.auc_server.specs.declared.server.ServerState.{ServerState}
 use Rattle.auc_server.specs.declared.server.ServerState.TheVariants as state
 use Rattle.auc_server.specs.declared.setting.HomeRow.{HomeRow}
-use Rattle.auc_server.specs.declared.why.ServerWhy.{ServerWhy}
+use Rattle.auc_vector.specs.declared.why.ServerWhy.{ServerWhy}
 use Rattle.auc_sqn.specs.Number.{seq_of, top_of}
 use Rattle.auc_subs.specs.declared.row.Row as rows
 use Rattle.auc_vector.specs.Auts.{read_auts_of}

@@ -15,7 +15,7 @@ use Rattle.auc_server.specs.InnerMessages.{IsName}
 use Rattle.auc_server.specs.Messages.{aka_identity, reauth_bytes}
 use Rattle.auc_server.specs.Rounds.{checkcode}
 use Rattle.auc_server.specs.Server.{ServerEnd, started}
-use Rattle.auc_server.specs.Setting.{Setting}
+use Rattle.auc_subs.specs.Setting.{Setting}
 use Rattle.auc_server.specs.Table.{next_id}
 use Rattle.auc_server.specs.declared.naming.GivenNames.{GivenNames}
 use Rattle.auc_server.specs.declared.reply.Reply.{Reply}

@@ -28,8 +28,8 @@ use Rattle.auc_peer.specs.declared.peer.Peer.{Peer}
 use Rattle.auc_peer.specs.declared.peer.PeerState.TheVariants as state
 use Rattle.auc_peer.specs.declared.rows.Row.{Row}
 use Rattle.auc_peer.specs.declared.rows.Row.TheVariants as row
-use Rattle.auc_peer.specs.declared.why.PeerWhy.{PeerWhy}
-use Rattle.auc_peer.specs.declared.why.PeerWhy.TheVariants as why
+use Rattle.auc_vector.specs.declared.why.PeerWhy.{PeerWhy}
+use Rattle.auc_vector.specs.declared.why.PeerWhy.TheVariants as why
 use Rattle.auc_random.specs.Random.{nonce_of}
 use Rattle.auc_reauth.specs.Device.{Keeps, is_open}
 use Rattle.auc_reauth.specs.Server.{if_named}
@@ -40,7 +40,7 @@ use Rattle.auc_server.specs.InnerMessages.{IsName}
 use Rattle.auc_server.specs.Messages.{reauth_bytes, reauth_draft, reauth_in}
 use Rattle.auc_server.specs.Rounds.{checkcode}
 use Rattle.auc_server.specs.Server.{ServerEnd}
-use Rattle.auc_server.specs.Setting.{Setting}
+use Rattle.auc_subs.specs.Setting.{Setting}
 use Rattle.auc_server.specs.declared.server.Resumed.{Resumed}
 use Rattle.auc_vector.specs.Keys.{reauth_keys_of}
 use Rattle.auc_vector.specs.declared.turn.Turn.{Turn}

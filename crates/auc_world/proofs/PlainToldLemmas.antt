@@ -7,13 +7,12 @@ use Rattle.auc_server.specs.Rows.{is_held}
 use Rattle.auc_server.specs.declared.setting.HomeRow.{HomeRow}
 use Rattle.auc_vector.specs.declared.notes.Notes.{Notes}
 use Rattle.auc_world.specs.Agreement.{AreSized}
-use Rattle.auc_world.specs.Came.{Came}
-use Rattle.auc_world.specs.Event.{asked_in, number_in, number_released, resync_in, usim_in}
+use Rattle.auc_record.specs.Event.{Came, asked_in, number_in, number_released, resync_in, usim_in}
 use Rattle.auc_world.specs.Plain.{IsAskedFor, TellAnother, TellChallenge, TellNoCause, counter_accepted, counter_resumed, counter_taken, is_refused, is_unresolved, results, sqn_reported}
-use Rattle.auc_world.specs.declared.event.Event.{Event}
-use Rattle.auc_world.specs.declared.event.Note.{Note}
-use Rattle.auc_world.specs.declared.record.LineRecord.{LineRecord}
-use Rattle.auc_world.specs.declared.record.LineRecord.TheVariants as record_of
+use Rattle.auc_record.specs.declared.event.Event.{Event}
+use Rattle.auc_record.specs.declared.event.Note.{Note}
+use Rattle.auc_record.specs.declared.record.LineRecord.{LineRecord}
+use Rattle.auc_record.specs.declared.record.LineRecord.TheVariants as record_of
 
 -- the stages of a session: before a challenge or a re-authentication, after a re-authentication was sent, after a challenge was
 -- sent; or nothing is known of the lines

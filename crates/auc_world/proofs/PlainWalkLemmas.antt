@@ -8,7 +8,7 @@ use Rattle.auc_peer.specs.Subscription.{Subscription}
 use Rattle.auc_peer.specs.Table.{peer_step}
 use Rattle.auc_reauth.specs.Device.{Keeps}
 use Rattle.auc_server.specs.Server.{ServerEnd, resumed_of}
-use Rattle.auc_server.specs.Setting.{Setting}
+use Rattle.auc_subs.specs.Setting.{Setting}
 use Rattle.auc_server.specs.Table.{server_step}
 use Rattle.auc_server.specs.declared.reply.Reply.{Reply}
 use Rattle.auc_server.specs.declared.server.Resumed.{Resumed}
@@ -23,7 +23,7 @@ use Rattle.auc_world.specs.Happened.{kept_after, sent_by}
 use Rattle.auc_world.specs.Net.{Net}
 use Rattle.auc_world.specs.Plain.{HasResumed, sqn_reported}
 use Rattle.auc_world.specs.declared.net.Session.{Session}
-use Rattle.auc_world.specs.declared.record.LineRecord.{LineRecord}
+use Rattle.auc_record.specs.declared.record.LineRecord.{LineRecord}
 
 -- ---- the end
 

@@ -11,7 +11,7 @@ use Rattle.auc_subs.specs.Subscriber.{AreSubscribers, top_at}
 use Rattle.auc_world.specs.Agreement.{AreOfOneChallenge, AreReleasedOnce, AreSized, AreTold, Happening, HaveSecrets, IsFresh, IsRealm, PeerWon, ServerWon, after}
 use Rattle.auc_world.specs.Net.{Net, inputs_of_peer}
 use Rattle.auc_world.specs.Resumption.{resumptions}
-use Rattle.auc_world.specs.Setting.{Setting}
+use Rattle.auc_subs.specs.Setting.{Setting}
 use Rattle.auc_world.specs.declared.net.FastInputs.{FastInputs}
 use Rattle.auc_world.specs.declared.net.FullInputs.{FullInputs}
 use Rattle.auc_world.specs.declared.net.Inputs.TheVariants as inputs_of

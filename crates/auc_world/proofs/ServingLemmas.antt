@@ -14,13 +14,13 @@ use Rattle.auc_server.proofs.Facts.{IsReported, asked_is, sub_asked}
 use Rattle.auc_server.specs.Asked.{asked_after}
 use Rattle.auc_server.specs.Rows.{server_row}
 use Rattle.auc_server.specs.Server.{ServerEnd, challenged_of}
-use Rattle.auc_server.specs.Setting.{Setting}
+use Rattle.auc_subs.specs.Setting.{Setting}
 use Rattle.auc_server.specs.Steps.{Steps, asking}
 use Rattle.auc_server.specs.Table.{homes_after, silent}
 use Rattle.auc_server.specs.Laws.{Fits}
 use Rattle.auc_server.specs.declared.reply.Reply.TheVariants as replies
 use Rattle.auc_server.specs.declared.setting.HomeRow.{HomeRow}
-use Rattle.auc_server.specs.declared.why.ServerWhy.{ServerWhy}
+use Rattle.auc_vector.specs.declared.why.ServerWhy.{ServerWhy}
 use Rattle.auc_vector.specs.Notes.{Asked, Asking}
 use Rattle.auc_vector.specs.declared.notes.Notes.{Notes}
 use Rattle.auc_vector.specs.declared.notes.NumberNote.{NumberNote}
@@ -29,15 +29,16 @@ use Rattle.auc_vector.specs.declared.parts.Vector.{Vector}
 use Rattle.auc_vector.specs.declared.turn.Turn.{Turn}
 use Rattle.auc_world.proofs.ActingLemmas.{numbered}
 use Rattle.auc_world.proofs.HomeLemmas.{asked_same}
-use Rattle.auc_world.specs.Came.{AreReceived, Came, AsksAt, RepliesAt, asked_sub, asking_at, by_server, came_at_server, packet_number, received_by, vector_sent}
+use Rattle.auc_world.specs.Came.{AreReceived, AsksAt, RepliesAt, asked_sub, asking_at, by_server, came_at_server, packet_number, received_by, vector_sent}
+use Rattle.auc_record.specs.Event.{Came}
 use Rattle.auc_world.specs.Happened.{Delivery, Told, breach_at, delivery_at, drawn_in_turn, sent_by, server_finds, to_server, with_server}
 use Rattle.auc_world.specs.InnerWorld.{Serves, number_after, refusal_of, released_for, state_of}
 use Rattle.auc_world.specs.Net.{Net, inputs_of_server, judged, packet_at, posted}
 use Rattle.auc_world.specs.World.{AreOfSame, WorldState}
-use Rattle.auc_world.specs.declared.event.Note.{Note}
-use Rattle.auc_world.specs.declared.event.NoteStep.TheVariants as did
-use Rattle.auc_world.specs.declared.event.WorldRefusal.TheVariants as refused
-use Rattle.auc_world.specs.declared.net.Breach.{Breach}
+use Rattle.auc_record.specs.declared.event.Note.{Note}
+use Rattle.auc_record.specs.declared.event.NoteStep.TheVariants as did
+use Rattle.auc_record.specs.declared.event.WorldRefusal.TheVariants as refused
+use Rattle.auc_record.specs.declared.record.Breach.{Breach}
 use Rattle.auc_world.specs.declared.net.Inputs.{Inputs}
 use Rattle.auc_world.specs.declared.net.SentPacket.{SentPacket}
 use Rattle.auc_world.specs.declared.net.Session.{Session}

@@ -5,15 +5,15 @@ use Rattle.std.specs.Prelude.{if◌then◌else◌}
 use Rattle.std.proofs.lemmas.List.Concat.{flat_map-append}
 use Rattle.std.proofs.lemmas.List.Elements.{All-append, All-cons, All-nil}
 use Rattle.auc_lines.specs.Sim.{SimValue}
-use Rattle.auc_sim.specs.declared.note.SimNote.{SimNote}
-use Rattle.auc_world.specs.Draws.{DrawGives, IsReleasable}
-use Rattle.auc_world.specs.Lines.{numbers_of, released_by}
-use Rattle.auc_world.specs.Record.{subscriber_of}
-use Rattle.auc_world.specs.Setting.{Setting}
+use Rattle.auc_vector.specs.declared.sim_note.SimNote.{SimNote}
+use Rattle.auc_record.specs.Draws.{DrawGives, IsReleasable}
+use Rattle.auc_record.specs.Lines.{numbers_of, released_by}
+use Rattle.auc_record.specs.Record.{subscriber_of}
+use Rattle.auc_subs.specs.Setting.{Setting}
 use Rattle.auc_world.specs.Sim.{SimFollowsIf, SimGives}
-use Rattle.auc_world.specs.declared.further.Further.TheVariants as further
-use Rattle.auc_world.specs.declared.record.LineRecord.{LineRecord}
-use Rattle.auc_world.specs.declared.record.LineRecord.TheVariants.{Vector, Withheld, Exhausted, Sync, Give, Further, Event as Told}
+use Rattle.auc_record.specs.declared.further.Further.TheVariants as further
+use Rattle.auc_record.specs.declared.record.LineRecord.{LineRecord}
+use Rattle.auc_record.specs.declared.record.LineRecord.TheVariants.{Vector, Withheld, Exhausted, Sync, Give, Further, Event as Told}
 
 -- ---- what is drawn
 

@@ -5,11 +5,11 @@ use Rattle.auc_lines.specs.declared.sites.SiteEvent.TheVariants.{Ask, Deliver, D
 use Rattle.auc_sites.specs.Network.{Network, after_event, start}
 use Rattle.auc_vector.specs.declared.centre.CentreRefusal.TheVariants as refusal
 use Rattle.auc_world.specs.Sites.{note_of, refusal_in, turn_of}
-use Rattle.auc_world.specs.declared.record.LineRecord.{LineRecord}
-use Rattle.auc_world.specs.declared.record.LineRecord.TheVariants.{Vector, Exhausted}
-use Rattle.auc_world.specs.declared.sites.SitesNote.{SitesNote}
-use Rattle.auc_world.specs.declared.sites.SitesNote.TheVariants as note
-use Rattle.auc_world.specs.declared.sites.SitesOutcome.TheVariants as outcome
+use Rattle.auc_record.specs.declared.record.LineRecord.{LineRecord}
+use Rattle.auc_record.specs.declared.record.LineRecord.TheVariants.{Vector, Exhausted}
+use Rattle.auc_record.specs.declared.sites.SitesNote.{SitesNote}
+use Rattle.auc_record.specs.declared.sites.SitesNote.TheVariants as note
+use Rattle.auc_record.specs.declared.sites.SitesOutcome.TheVariants as outcome
 
 -- an event, with what is drawn in it for the subscriber at place 7
 record Step : Type 0 where

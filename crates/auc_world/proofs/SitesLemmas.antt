@@ -5,12 +5,12 @@ use Rattle.auc_lines.specs.declared.sites.SiteEvent.{SiteEvent}
 use Rattle.auc_sites.specs.Network.{Network, Turn, after_event, after_turns}
 use Rattle.auc_vector.specs.declared.centre.CentreRefusal.{CentreRefusal}
 use Rattle.auc_vector.specs.declared.centre.CentreRefusal.TheVariants as refusal
-use Rattle.auc_world.specs.Draws.{DrawGives}
-use Rattle.auc_world.specs.Lines.{numbers_of}
-use Rattle.auc_world.specs.Setting.{Setting}
+use Rattle.auc_record.specs.Draws.{DrawGives}
+use Rattle.auc_record.specs.Lines.{numbers_of}
+use Rattle.auc_subs.specs.Setting.{Setting}
 use Rattle.auc_world.specs.Sites.{SiteEventGives, SitesGo, refusal_in}
-use Rattle.auc_world.specs.declared.record.LineRecord.{LineRecord}
-use Rattle.auc_world.specs.declared.record.LineRecord.TheVariants.{Vector, Withheld, Exhausted, Sync, Give, Further, Event as Told}
+use Rattle.auc_record.specs.declared.record.LineRecord.{LineRecord}
+use Rattle.auc_record.specs.declared.record.LineRecord.TheVariants.{Vector, Withheld, Exhausted, Sync, Give, Further, Event as Told}
 
 -- ---- one event more
 

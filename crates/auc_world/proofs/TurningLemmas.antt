@@ -6,7 +6,7 @@ use Rattle.auc_server.proofs.Facts.{challenged_subs, identity_fits, resumed_subs
 use Rattle.auc_server.specs.Contexts.{context_in}
 use Rattle.auc_server.specs.Rows.{server_row, text_in}
 use Rattle.auc_server.specs.Server.{ServerEnd}
-use Rattle.auc_server.specs.Setting.{Setting}
+use Rattle.auc_subs.specs.Setting.{Setting}
 use Rattle.auc_server.specs.Table.{homes_after, homes_done, server_step}
 use Rattle.auc_server.specs.declared.reply.Reply.{Reply}
 use Rattle.auc_server.specs.declared.rows.Row.{Row}
@@ -14,7 +14,7 @@ use Rattle.auc_server.specs.declared.rows.Row.TheVariants as row
 use Rattle.auc_vector.specs.declared.notes.Notes.{Notes}
 use Rattle.auc_server.specs.declared.options.ServerOptions.{ServerOptions}
 use Rattle.auc_server.specs.declared.setting.HomeRow.{HomeRow}
-use Rattle.auc_server.specs.declared.why.ServerWhy.{ServerWhy}
+use Rattle.auc_vector.specs.declared.why.ServerWhy.{ServerWhy}
 use Rattle.auc_vector.specs.declared.turn.Turn.{Turn}
 
 pub identity_left : (set : Setting) (homes : List HomeRow) (s new : ServerEnd) (seen : Seen) (said : Reply) (turn : Turn ServerWhy) (bytes before : List ℕ) (left : ℕ)

@@ -5,9 +5,9 @@ use Rattle.auc_sqn.specs.declared.verdict.Verdict.TheVariants.{Fresh, Old, Aged}
 use Rattle.auc_subs.specs.declared.row.Row.{Row}
 use Rattle.auc_world.specs.Given.{past_by, verdict_by}
 use Rattle.auc_world.specs.Limits.{opened}
-use Rattle.auc_world.specs.Transcript.{reopened}
-use Rattle.auc_world.specs.declared.record.GiveVerdict.TheVariants as given
-use Rattle.auc_world.specs.declared.record.LineRecord.TheVariants.{Give}
+use Rattle.auc_record.specs.Openings.{reopened}
+use Rattle.auc_record.specs.declared.record.GiveVerdict.TheVariants as given
+use Rattle.auc_record.specs.declared.record.LineRecord.TheVariants.{Give}
 
 -- a row of an index length and an age limit
 abbrev row_with : ℕ → Option ℕ → Row

@@ -6,7 +6,7 @@ use Rattle.std.proofs.lemmas.List.Concat.{flat_map-append}
 use Rattle.std.proofs.lemmas.Option.{get_or_from_slice_get, slice_get_within}
 use Rattle.auc_world.specs.Sessions.{verdict_on}
 use Rattle.auc_world.specs.declared.net.Session.{Session}
-use Rattle.auc_world.specs.declared.record.SessionVerdict.{SessionVerdict}
+use Rattle.auc_record.specs.declared.record.SessionVerdict.{SessionVerdict}
 
 pub one_more : (sessions : List Session) (place : ℕ) (session : Session) → slice_get sessions place ≡ Some session
     → flat_map verdict_on (take (place + 1) sessions) ≡ flat_map verdict_on (take place sessions) ++ verdict_on session

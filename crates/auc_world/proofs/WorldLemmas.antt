@@ -17,15 +17,16 @@ use Rattle.auc_server.specs.Steps.{IsHome, IsServed}
 use Rattle.auc_server.specs.declared.options.ServerOptions.{ServerOptions}
 use Rattle.auc_server.specs.declared.setting.HomeRow.{HomeRow}
 use Rattle.auc_world.proofs.HomeLemmas.{held_alike}
-use Rattle.auc_world.specs.Came.{Came, came_in, came_opened, of_opening, session_at, session_of}
+use Rattle.auc_record.specs.Event.{Came}
+use Rattle.auc_world.specs.Came.{came_in, came_opened, of_opening, session_at, session_of}
 use Rattle.auc_world.specs.Happened.{at_place, at_session, new_session, opened}
 use Rattle.auc_world.specs.InnerWorld.{Acts, AreNumbered, ArePlaced, IsKept, Stands, came_of, device_with, net_of, state_of, with_session}
 use Rattle.auc_subs.specs.declared.row.Row.{Row}
 use Rattle.auc_world.specs.Net.{Net, device_place, place_with, session_place}
 use Rattle.auc_world.specs.World.{AreOfSame, HasHeld, IsName, WorldState}
 use Rattle.auc_world.specs.declared.acting.Deed.{Deed}
-use Rattle.auc_world.specs.declared.event.WorldRefusal.TheVariants as refused
-use Rattle.auc_world.specs.declared.net.Breach.{Breach}
+use Rattle.auc_record.specs.declared.event.WorldRefusal.TheVariants as refused
+use Rattle.auc_record.specs.declared.record.Breach.{Breach}
 use Rattle.auc_world.specs.declared.net.SentPacket.{SentPacket}
 use Rattle.auc_world.specs.declared.net.Session.{Session}
 use Rattle.auc_edge.specs.declared.identity_key.IdentityKey.{IdentityKey}

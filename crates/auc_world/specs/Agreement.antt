@@ -11,7 +11,7 @@ use Rattle.auc_reauth.specs.Store.{entry}
 use Rattle.auc_reauth.specs.declared.context.Context.{Context}
 use Rattle.auc_server.specs.Ordinals.{home_at}
 use Rattle.auc_server.specs.Server.{ServerEnd}
-use Rattle.auc_server.specs.Setting.{Setting}
+use Rattle.auc_subs.specs.Setting.{Setting}
 use Rattle.auc_server.specs.declared.server.Last.{Last}
 use Rattle.auc_server.specs.declared.server.ServerState.TheVariants as state
 use Rattle.auc_server.specs.declared.setting.HomeRow.{HomeRow}
@@ -22,8 +22,8 @@ use Rattle.auc_world.specs.Came.{AreReceived, Presented, bytes_named, presented_
 use Rattle.auc_world.specs.Happened.{Told, found, happened}
 use Rattle.auc_world.specs.Net.{Finding, Net, device_place, inputs_of_peer, inputs_of_server, other}
 use Rattle.auc_lines.specs.declared.part.End.{End}
-use Rattle.auc_world.specs.declared.event.Event.{Event}
-use Rattle.auc_world.specs.declared.net.Breach.{Breach}
+use Rattle.auc_record.specs.declared.event.Event.{Event}
+use Rattle.auc_record.specs.declared.record.Breach.{Breach}
 use Rattle.auc_world.specs.Resumption.{AreResumedOnce, resumptions}
 use Rattle.auc_world.specs.declared.net.FastInputs.{FastInputs}
 use Rattle.auc_world.specs.declared.net.FullInputs.{FullInputs}

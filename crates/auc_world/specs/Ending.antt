@@ -8,10 +8,10 @@ use Rattle.auc_world.specs.Came.{came, session_of}
 use Rattle.auc_world.specs.Given.{Before, PlainGives, packet_in}
 use Rattle.auc_world.specs.Happened.{Told, happened}
 use Rattle.auc_world.specs.Net.{Net, other}
-use Rattle.auc_world.specs.Setting.{Setting}
-use Rattle.auc_world.specs.declared.event.Event.TheVariants as event
+use Rattle.auc_subs.specs.Setting.{Setting}
+use Rattle.auc_record.specs.declared.event.Event.TheVariants as event
 use Rattle.auc_world.specs.declared.net.Session.{Session}
-use Rattle.auc_world.specs.declared.record.LineRecord.{LineRecord}
+use Rattle.auc_record.specs.declared.record.LineRecord.{LineRecord}
 
 -- how many packets a session's server may still send; eight, if it hasn't started
 abbrev pub server_left : Option ServerEnd → ℕ

@@ -1,7 +1,6 @@
 -- What the lines of a job give, by what came before them and in the network of its sessions. The centre's answers are free
 -- here; the rule of the round (`specs/Round`) says which of them a legal history allows.
-use Rattle.std.specs.Prelude.{◌≡◌, ℕ, ◌-◌, ◌/◌, ◌%◌, ◌^◌, ◌<◌, ◌≤◌, ◌||◌, ◌==◌, Bool, true, false, Option, Some, None, Ok, Err, List, [], ◌∷◌, ◌++◌, length, map, not, replicate, fold, slice_get, slice_set, take, All, Contains, if◌then◌else◌}
-use Rattle.std.specs.List.{list_any}
+use Rattle.std.specs.Prelude.{◌≡◌, ℕ, ◌-◌, ◌/◌, ◌%◌, ◌^◌, ◌<◌, ◌≤◌, ◌||◌, Bool, true, false, Option, Some, None, Ok, Err, List, [], ◌∷◌, ◌++◌, length, map, not, replicate, fold, slice_get, slice_set, take, All, Contains, if◌then◌else◌}
 use Rattle.std.specs.Str.{bytes_eq}
 use Rattle.auc_5g.specs.Keys.{asme_of, device_of, front_of, home_of, standard_of}
 use Rattle.auc_5g.specs.declared.device_keys.DeviceKeys.{DeviceKeys}
@@ -42,27 +41,28 @@ use Rattle.auc_vector.specs.declared.notes.NumberNote.TheVariants as number
 use Rattle.auc_vector.specs.declared.notes.ResyncNote.{ResyncNote}
 use Rattle.auc_vector.specs.declared.notes.ResyncNote.TheVariants as resync
 use Rattle.auc_vector.specs.declared.notes.UsimNote.{UsimNote}
-pub use Rattle.auc_world.specs.Draws.{DrawGives, IsReleasable, OneGives}
-use Rattle.auc_world.specs.Came.{AreReceived, Came, Presented, TellsNotes, TellsReply, asking_of, bytes_named, came, presented_by}
+use Rattle.auc_record.specs.Draws.{DrawGives, OneGives}
+use Rattle.auc_world.specs.Came.{AreReceived, Presented, TellsNotes, TellsReply, asking_of, bytes_named, came, presented_by}
+use Rattle.auc_record.specs.Event.{Came}
 use Rattle.auc_world.specs.Happened.{Told, happened}
 use Rattle.auc_world.specs.Net.{Net, other}
 use Rattle.auc_world.specs.Sim.{SimGives}
 use Rattle.auc_world.specs.Sites.{SitesGives}
 use Rattle.auc_world.specs.Start.{Kept, start_of}
-use Rattle.auc_world.specs.declared.event.Event.{Event}
-use Rattle.auc_world.specs.declared.event.Event.TheVariants as event
-use Rattle.auc_world.specs.declared.record.LineRecord.{LineRecord}
-use Rattle.auc_world.specs.declared.record.LineRecord.TheVariants as record_of
-use Rattle.auc_world.specs.declared.record.GiveVerdict.{GiveVerdict}
-use Rattle.auc_world.specs.declared.record.GiveVerdict.TheVariants as given
-use Rattle.auc_world.specs.declared.record.SyncVerdict.{SyncVerdict}
-use Rattle.auc_world.specs.declared.record.SyncVerdict.TheVariants as verdict
-use Rattle.auc_world.specs.Lines.{numbers_of, accepted}
-use Rattle.auc_world.specs.Setting.{Setting}
-use Rattle.auc_world.specs.VectorAt.{vector_at, vector_of_row}
-use Rattle.auc_world.specs.declared.further.FivegOutcome.{FivegOutcome}
-use Rattle.auc_world.specs.declared.further.FivegOutcome.TheVariants as fiveg
-use Rattle.auc_world.specs.declared.further.Further.TheVariants as further
+use Rattle.auc_record.specs.declared.event.Event.{Event}
+use Rattle.auc_record.specs.declared.event.Event.TheVariants as event
+use Rattle.auc_record.specs.declared.record.LineRecord.{LineRecord}
+use Rattle.auc_record.specs.declared.record.LineRecord.TheVariants as record_of
+use Rattle.auc_record.specs.declared.record.GiveVerdict.{GiveVerdict}
+use Rattle.auc_record.specs.declared.record.GiveVerdict.TheVariants as given
+use Rattle.auc_record.specs.declared.record.SyncVerdict.{SyncVerdict}
+use Rattle.auc_record.specs.declared.record.SyncVerdict.TheVariants as verdict
+use Rattle.auc_record.specs.Lines.{accepted, is_in, numbers_of}
+use Rattle.auc_subs.specs.Setting.{Setting}
+use Rattle.auc_record.specs.VectorAt.{vector_at, vector_of_row}
+use Rattle.auc_record.specs.declared.further.FivegOutcome.{FivegOutcome}
+use Rattle.auc_record.specs.declared.further.FivegOutcome.TheVariants as fiveg
+use Rattle.auc_record.specs.declared.further.Further.TheVariants as further
 
 -- the lines before a line of a transcript: those of earlier rounds, those of earlier jobs of its round, and
 -- those of its own job
@@ -127,10 +127,6 @@ pub record SyncGives (set : Setting) (sub : ℕ) (report : Report) (count : ℕ)
   pub follows : VectorsFollow set sub count answer more
 
 -- ---- give
-
--- whether a number stands in a list
-abbrev pub is_in : ℕ → List ℕ → Bool
-is_in n numbers = list_any (λ m. m == n) numbers
 
 -- whether the vector of a number was released in an earlier round or earlier in the same job
 abbrev pub is_released : Before → ℕ → ℕ → Bool

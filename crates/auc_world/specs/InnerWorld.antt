@@ -10,13 +10,14 @@ use Rattle.auc_history.specs.declared.entry.Entry.{Entry}
 use Rattle.auc_peer.specs.Subscription.{Subscription, subscription_of}
 use Rattle.auc_peer.specs.declared.device.Device.{Device}
 use Rattle.auc_released.specs.declared.numbers.Number.{Number}
-use Rattle.auc_server.specs.Setting.{Setting}
+use Rattle.auc_subs.specs.Setting.{Setting}
 use Rattle.auc_server.specs.declared.setting.HomeRow.{HomeRow}
 use Rattle.auc_subs.specs.Subscriber.{same_identity}
 use Rattle.auc_vector.specs.Notes.{Asked}
 use Rattle.auc_vector.specs.declared.notes.NumberNote.{NumberNote}
 use Rattle.auc_vector.specs.declared.notes.NumberNote.TheVariants as number
-use Rattle.auc_world.specs.Came.{AreReceived, Came, AsksAt, RepliesAt, TellsNotes, asking_at, came_at_peer, came_at_server, came_given_up, came_repeated, came_started, presented_at, received_by}
+use Rattle.auc_world.specs.Came.{AreReceived, AsksAt, RepliesAt, TellsNotes, asking_at, came_at_peer, came_at_server, came_given_up, came_repeated, came_started, presented_at, received_by}
+use Rattle.auc_record.specs.Event.{Came}
 use Rattle.auc_world.specs.Happened.{Delivery, Told, changed_at, delivery_in, give_up, peer_finds, repeat, server_finds, start, to_peer, to_server}
 use Rattle.auc_world.specs.Net.{Net, judged, packet_at}
 use Rattle.auc_world.specs.World.{AreHanded, HasHeld, IsWorld, WorldState}
@@ -24,9 +25,9 @@ use Rattle.auc_world.specs.declared.acting.Deed.{Deed}
 use Rattle.auc_world.specs.declared.acting.Deed.TheVariants as deed
 use Rattle.auc_world.specs.declared.changing.Change.{Change}
 use Rattle.auc_world.specs.declared.changing.Change.TheVariants as change
-use Rattle.auc_world.specs.declared.event.WorldRefusal.{WorldRefusal}
-use Rattle.auc_world.specs.declared.event.WorldRefusal.TheVariants as refused
-use Rattle.auc_world.specs.declared.net.Breach.{Breach}
+use Rattle.auc_record.specs.declared.event.WorldRefusal.{WorldRefusal}
+use Rattle.auc_record.specs.declared.event.WorldRefusal.TheVariants as refused
+use Rattle.auc_record.specs.declared.record.Breach.{Breach}
 use Rattle.auc_world.specs.declared.net.SentPacket.{SentPacket}
 use Rattle.auc_world.specs.declared.net.Session.{Session}
 

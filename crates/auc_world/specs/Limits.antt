@@ -1,11 +1,12 @@
 -- Limits: up to which number a subscriber's numbers are reserved, and where a round that goes by limits opens the
 -- subscribers.
-use Rattle.std.specs.Prelude.{◌≡◌, ℕ, ◌+◌, ◌<◌, ◌≤◌, ◌⊎◌, max, min, List, [], ◌∷◌, length, map, All, slice_index}
+use Rattle.std.specs.Prelude.{◌≡◌, ℕ, ◌+◌, ◌<◌, ◌≤◌, ◌⊎◌, max, List, [], ◌∷◌, length, map, All, slice_index}
 use Rattle.auc_sqn.specs.Number.{max_seq}
 use Rattle.auc_subs.specs.Subscriber.{tops_of}
 use Rattle.auc_subs.specs.declared.row.Row.{Row}
-use Rattle.auc_world.specs.declared.record.LineRecord.{LineRecord}
-use Rattle.auc_world.specs.Lines.{numbers_of}
+use Rattle.auc_record.specs.declared.record.LineRecord.{LineRecord}
+use Rattle.auc_record.specs.Lines.{numbers_of}
+use Rattle.auc_record.specs.Openings.{lesser}
 
 -- as many numbers as the first list has, each the greater of the two at its place; the first list goes on after the
 -- end of the second
@@ -13,12 +14,6 @@ abbrev pub greater : List ℕ → List ℕ → List ℕ
 greater [] others = []
 greater (n ∷ numbers) [] = n ∷ greater numbers []
 greater (n ∷ numbers) (m ∷ others) = max n m ∷ greater numbers others
-
--- the same with the lesser of the two
-abbrev pub lesser : List ℕ → List ℕ → List ℕ
-lesser [] others = []
-lesser (n ∷ numbers) [] = n ∷ lesser numbers []
-lesser (n ∷ numbers) (m ∷ others) = min n m ∷ lesser numbers others
 
 -- where the first round, and the round after a restart, opens each subscriber: at its own number or at its limit,
 -- whichever is greater, but at most at its greatest number. A limit may be above that

@@ -5,13 +5,13 @@ use Rattle.auc_history.specs.declared.entry.Entry.{Entry}
 use Rattle.auc_history.specs.Split.{Splits}
 use Rattle.auc_lines.specs.declared.part.Line.{Line}
 use Rattle.auc_lines.specs.Part.{AreApart, holds}
-use Rattle.auc_world.specs.declared.record.LineRecord.{LineRecord}
-use Rattle.auc_world.specs.Lines.{accepted}
-use Rattle.auc_world.specs.Entries.{is_reported, entries_of_lines, entries_of_jobs}
+use Rattle.auc_record.specs.declared.record.LineRecord.{LineRecord}
+use Rattle.auc_record.specs.Lines.{accepted}
+use Rattle.auc_record.specs.Entries.{is_reported, entries_of_lines, entries_of_jobs}
 use Rattle.auc_world.specs.Given.{JobGives, JobsGive}
 use Rattle.auc_world.specs.Net.{Net}
 use Rattle.auc_world.specs.Start.{Kept, start_of}
-use Rattle.auc_world.specs.Setting.{Setting}
+use Rattle.auc_subs.specs.Setting.{Setting}
 
 -- a job's lines, and the lines of the jobs that its worker served earlier in the round
 pub record Piece : Type 0 where

@@ -10,7 +10,7 @@ use Rattle.auc_reauth.specs.declared.context.Context.{Context}
 use Rattle.auc_server.specs.Moves.{IsNewName, IsNewOrNone, moved_by, waiting, waiting_at}
 use Rattle.auc_server.specs.Ordinals.{home_at, home_place}
 use Rattle.auc_server.specs.Server.{ServerEnd}
-use Rattle.auc_server.specs.Setting.{Setting}
+use Rattle.auc_subs.specs.Setting.{Setting}
 use Rattle.auc_server.specs.declared.setting.HomeRow.{HomeRow}
 use Rattle.auc_subs.specs.Subscriber.{AreSubscribers}
 use Rattle.auc_vector.specs.declared.notes.Notes.{Notes}

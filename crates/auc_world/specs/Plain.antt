@@ -16,7 +16,7 @@ use Rattle.auc_reauth.specs.Store.{entry}
 use Rattle.auc_reauth.specs.declared.context.Context.{Context}
 use Rattle.auc_server.specs.Rows.{is_held}
 use Rattle.auc_server.specs.Server.{ServerEnd, resumed_of}
-use Rattle.auc_server.specs.Setting.{Setting}
+use Rattle.auc_subs.specs.Setting.{Setting}
 use Rattle.auc_server.specs.declared.server.Resumed.{Resumed}
 use Rattle.auc_subs.specs.Subscriber.{AreSubscribers}
 use Rattle.auc_subs.specs.declared.row.Row.{Row}
@@ -29,8 +29,8 @@ use Rattle.auc_vector.specs.declared.notes.ResyncNote.TheVariants as resync
 use Rattle.auc_vector.specs.declared.notes.UsimNote.{UsimNote}
 use Rattle.auc_vector.specs.declared.notes.UsimNote.TheVariants as usim
 use Rattle.auc_world.specs.Agreement.{AreSized, IsRealm, IsSized}
-use Rattle.auc_world.specs.Came.{Came, session_of}
-use Rattle.auc_world.specs.Event.{asked_in, number_in, number_released, resync_in, usim_in}
+use Rattle.auc_record.specs.Event.{Came, asked_in, number_in, number_released, resync_in, usim_in}
+use Rattle.auc_world.specs.Came.{session_of}
 use Rattle.auc_world.specs.Given.{Before, PlainGives}
 use Rattle.auc_world.specs.Happened.{peer_options, server_options}
 use Rattle.auc_world.specs.Net.{Net}
@@ -38,8 +38,8 @@ use Rattle.auc_world.specs.Sessions.{server_keys, verdict_on}
 use Rattle.auc_world.specs.Start.{subscription_at}
 use Rattle.auc_world.specs.World.{IsName}
 use Rattle.auc_world.specs.declared.net.Session.{Session}
-use Rattle.auc_world.specs.declared.record.LineRecord.{LineRecord}
-use Rattle.auc_world.specs.declared.record.LineRecord.TheVariants.{Vector, Withheld, Exhausted, Sync, Give, Further, Event}
+use Rattle.auc_record.specs.declared.record.LineRecord.{LineRecord}
+use Rattle.auc_record.specs.declared.record.LineRecord.TheVariants.{Vector, Withheld, Exhausted, Sync, Give, Further, Event}
 
 -- ---- the options of a session
 

@@ -8,12 +8,12 @@ use Rattle.auc_server.specs.declared.server.ServerState.{ServerState}
 use Rattle.auc_server.specs.declared.server.ServerState.TheVariants as state
 use Rattle.auc_vector.specs.declared.turn.Outcome.TheVariants as outcome
 use Rattle.auc_world.specs.Net.{Net}
-use Rattle.auc_world.specs.declared.net.Breach.{Breach}
+use Rattle.auc_record.specs.declared.record.Breach.{Breach}
 use Rattle.auc_world.specs.declared.net.Session.{Session}
-use Rattle.auc_world.specs.declared.record.JobSessions.{JobSessions}
-use Rattle.auc_world.specs.declared.record.Premise.{Premise}
-use Rattle.auc_world.specs.declared.record.Premise.TheVariants as premise
-use Rattle.auc_world.specs.declared.record.SessionVerdict.{SessionVerdict}
+use Rattle.auc_record.specs.declared.record.JobSessions.{JobSessions}
+use Rattle.auc_record.specs.declared.record.Premise.{Premise}
+use Rattle.auc_record.specs.declared.record.Premise.TheVariants as premise
+use Rattle.auc_record.specs.declared.record.SessionVerdict.{SessionVerdict}
 
 -- ---- the keys
 

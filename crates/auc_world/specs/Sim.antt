@@ -6,15 +6,15 @@ use Rattle.auc_random.specs.Random.{sim_nonce}
 use Rattle.auc_sim.specs.Identity.{sim_identity}
 use Rattle.auc_sim.specs.Session.{SimInputs, SimRuns}
 use Rattle.auc_sim.specs.Triplets.{of_vector}
-use Rattle.auc_sim.specs.declared.note.SimNote.{SimNote}
+use Rattle.auc_vector.specs.declared.sim_note.SimNote.{SimNote}
 use Rattle.auc_subs.specs.declared.row.Row.{Row}
-use Rattle.auc_world.specs.Draws.{DrawGives}
-use Rattle.auc_world.specs.Lines.{numbers_of}
-use Rattle.auc_world.specs.Setting.{Setting}
-use Rattle.auc_world.specs.VectorAt.{vector_of_row}
-use Rattle.auc_world.specs.declared.further.Further.TheVariants as further
-use Rattle.auc_world.specs.declared.record.LineRecord.{LineRecord}
-use Rattle.auc_world.specs.declared.record.LineRecord.TheVariants as record_of
+use Rattle.auc_record.specs.Draws.{DrawGives}
+use Rattle.auc_record.specs.Lines.{numbers_of}
+use Rattle.auc_subs.specs.Setting.{Setting}
+use Rattle.auc_record.specs.VectorAt.{vector_of_row}
+use Rattle.auc_record.specs.declared.further.Further.TheVariants as further
+use Rattle.auc_record.specs.declared.record.LineRecord.{LineRecord}
+use Rattle.auc_record.specs.declared.record.LineRecord.TheVariants as record_of
 
 -- the session of a subscriber's numbers: the server has the triplets of their vectors, the peer a USIM with the subscriber's
 -- secret, and NONCE_MT is that of the first number

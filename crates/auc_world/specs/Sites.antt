@@ -20,16 +20,16 @@ use Rattle.auc_sites.specs.declared.site.Taken.{Taken}
 use Rattle.auc_sites.specs.declared.site.Taken.TheVariants as taken
 use Rattle.auc_vector.specs.declared.centre.CentreRefusal.{CentreRefusal}
 use Rattle.auc_vector.specs.declared.centre.CentreRefusal.TheVariants as refusal
-use Rattle.auc_world.specs.Draws.{DrawGives}
-use Rattle.auc_world.specs.Lines.{numbers_of}
-use Rattle.auc_world.specs.Setting.{Setting}
-use Rattle.auc_world.specs.declared.further.Further.TheVariants as further
-use Rattle.auc_world.specs.declared.record.LineRecord.{LineRecord}
-use Rattle.auc_world.specs.declared.record.LineRecord.TheVariants as record_of
-use Rattle.auc_world.specs.declared.sites.SitesNote.{SitesNote}
-use Rattle.auc_world.specs.declared.sites.SitesNote.TheVariants as note
-use Rattle.auc_world.specs.declared.sites.SitesOutcome.{SitesOutcome}
-use Rattle.auc_world.specs.declared.sites.SitesOutcome.TheVariants as outcome
+use Rattle.auc_record.specs.Draws.{DrawGives}
+use Rattle.auc_record.specs.Lines.{numbers_of}
+use Rattle.auc_subs.specs.Setting.{Setting}
+use Rattle.auc_record.specs.declared.further.Further.TheVariants as further
+use Rattle.auc_record.specs.declared.record.LineRecord.{LineRecord}
+use Rattle.auc_record.specs.declared.record.LineRecord.TheVariants as record_of
+use Rattle.auc_record.specs.declared.sites.SitesNote.{SitesNote}
+use Rattle.auc_record.specs.declared.sites.SitesNote.TheVariants as note
+use Rattle.auc_record.specs.declared.sites.SitesOutcome.{SitesOutcome}
+use Rattle.auc_record.specs.declared.sites.SitesOutcome.TheVariants as outcome
 
 -- ---- an event in the network
 

@@ -5,7 +5,7 @@ use Rattle.auc_lines.specs.declared.part.Line.{Line}
 use Rattle.auc_peer.specs.Subscription.{Subscription}
 use Rattle.auc_reauth.specs.Device.{Keeps}
 pub use Rattle.auc_reauth.specs.Kept.{Kept, fresh_kept, kept_or, kept_of}
-use Rattle.auc_server.specs.Setting.{Setting}
+use Rattle.auc_subs.specs.Setting.{Setting}
 use Rattle.auc_server.specs.declared.setting.HomeRow.{HomeRow}
 use Rattle.auc_subs.specs.declared.row.Row.{Row}
 use Rattle.auc_world.specs.Net.{Net}

@@ -6,18 +6,19 @@ use Rattle.auc_history.specs.Split.{all_entries}
 use Rattle.auc_lines.specs.declared.part.Line.{Line}
 use Rattle.auc_lines.specs.declared.part.Part.{Part}
 use Rattle.auc_lines.specs.declared.part.Part.TheVariants.{Round, Restart}
-use Rattle.auc_subs.specs.Subscriber.{top_at, tops_of}
+use Rattle.auc_subs.specs.Subscriber.{top_at}
 use Rattle.auc_subs.specs.declared.row.Row.{Row}
-use Rattle.auc_world.specs.declared.record.LineRecord.{LineRecord}
-use Rattle.auc_world.specs.declared.record.PartRecord.{PartRecord}
-use Rattle.auc_world.specs.declared.record.PartRecord.TheVariants as record_of
-use Rattle.auc_world.specs.declared.record.RoundRecord.{RoundRecord}
-use Rattle.auc_world.specs.Entries.{entries_of_jobs}
-use Rattle.auc_world.specs.Limits.{greater, lesser, opened, Raises}
-use Rattle.auc_world.specs.Lines.{all_lines, numbers_of}
+use Rattle.auc_record.specs.declared.record.LineRecord.{LineRecord}
+use Rattle.auc_record.specs.declared.record.PartRecord.{PartRecord}
+use Rattle.auc_record.specs.declared.record.PartRecord.TheVariants as record_of
+use Rattle.auc_record.specs.declared.record.RoundRecord.{RoundRecord}
+use Rattle.auc_record.specs.Entries.{entries_of_jobs}
+use Rattle.auc_world.specs.Limits.{greater, opened, Raises}
+use Rattle.auc_record.specs.Openings.{reopened}
+use Rattle.auc_record.specs.Lines.{all_lines, numbers_of}
 use Rattle.auc_world.specs.Round.{IsLawfulRound}
 use Rattle.auc_world.specs.Net.{Net}
-use Rattle.auc_world.specs.Setting.{Setting}
+use Rattle.auc_subs.specs.Setting.{Setting}
 use Rattle.auc_world.specs.Start.{Kept, fresh_kept, kept_by_jobs}
 
 -- ---- from part to part
@@ -47,11 +48,6 @@ beginning rows reserved = record {
   limits = reserved;
   highs = [];
 }
-
--- the words at which the next round opens the subscribers: those at which the last one closed them, but at most their
--- greatest numbers
-abbrev pub reopened : List Row → List ℕ → List ℕ
-reopened rows words = lesser (tops_of rows) words
 
 -- after a round that closed the subscribers at some words, with these networks of its jobs after the last lines
 abbrev pub after_round : List Row → Course → RoundRecord → List ℕ → List Net → Course

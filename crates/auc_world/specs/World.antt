@@ -8,7 +8,7 @@ use Rattle.auc_peer.specs.Turn.{Asked as AsksDevice, Decrypts}
 use Rattle.auc_peer.specs.declared.device.Device.{Device}
 use Rattle.auc_server.specs.Laws.{Fits}
 use Rattle.auc_server.specs.Server.{ServerEnd, challenged_of, resumed_of}
-use Rattle.auc_server.specs.Setting.{Setting}
+use Rattle.auc_subs.specs.Setting.{Setting}
 use Rattle.auc_server.specs.Steps.{IsHeld, IsHeldToo, IsHome}
 use Rattle.auc_server.specs.declared.setting.HomeRow.{HomeRow}
 use Rattle.auc_sqn.specs.Past.{Past, Remembers}
@@ -16,11 +16,12 @@ use Rattle.auc_subs.specs.declared.row.Row.{Row}
 use Rattle.auc_usim.specs.Usim.{Memory, IsAnswer, past_after_answer}
 use Rattle.auc_usim.specs.declared.answer.Answer.{Answer}
 use Rattle.auc_vector.specs.Notes.{Asked}
-use Rattle.auc_world.specs.Came.{AreReceived, AsksWhatItNeeds, Came, Presented, TellsNotes, TellsReply, asking_of, bytes_named, came, presented_by}
+use Rattle.auc_world.specs.Came.{AreReceived, AsksWhatItNeeds, Presented, TellsNotes, TellsReply, asking_of, bytes_named, came, presented_by}
+use Rattle.auc_record.specs.Event.{Came}
 use Rattle.auc_world.specs.Happened.{Told, happened}
 use Rattle.auc_world.specs.Net.{Net, device_place}
-use Rattle.auc_world.specs.declared.event.Event.{Event}
-use Rattle.auc_world.specs.declared.event.Event.TheVariants as event
+use Rattle.auc_record.specs.declared.event.Event.{Event}
+use Rattle.auc_record.specs.declared.event.Event.TheVariants as event
 
 -- a network, and the devices of its subscribers in the same order
 pub record WorldState : Type 0 where

@@ -8,13 +8,12 @@ ghost use Rattle.auc_world.specs.InnerWorld.{Acts};
 ghost use Rattle.auc_world.specs.World.{IsName};
 ghost use Rattle.auc_world.specs.declared.acting.Deed.TheVariants as deed;
 
-use crate::copying::copy_of;
-use crate::event::{Note, NoteStep, WorldRefusal};
 use crate::inputs::server_inputs;
 use crate::net::{SentPacket, Session};
 use crate::posting::{copy_sent, make_place, post};
 use auc_edge::{NoMemory, Octets};
 use auc_lines::End;
+use auc_record::{Note, NoteStep, WorldRefusal, copy_of};
 use auc_server::{Server, ServerOptions};
 use auc_vector::{Notes, Step};
 use std::alloc::Global;

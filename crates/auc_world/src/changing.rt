@@ -7,11 +7,10 @@ ghost use Rattle.auc_world.specs.InnerWorld.{copy_by};
 ghost use Rattle.auc_world.specs.Net.{copies, packet_at};
 
 use crate::acting::{Came, note};
-use crate::copying::copy_of;
-use crate::event::{NoteStep, WorldRefusal};
 use crate::net::SentPacket;
 use crate::posting::{make_place, post_made};
 use auc_edge::{NoMemory, Octets, Room};
+use auc_record::{NoteStep, WorldRefusal, copy_of};
 use std::alloc::Global;
 
 /// How the copy of a packet differs from it.

@@ -1,42 +1,15 @@
-//! Copies of the texts and names that sessions keep.
+//! Copies of the identities that sessions begin with.
 
 ghost use Rattle.std.specs.Prelude.{◌≡◌, IfOk};
 ghost use Rattle.auc_world.specs.Happened.{first_of};
 
-use auc_edge::{NoMemory, Octets};
+use auc_edge::NoMemory;
 use auc_lines::Identity;
 use auc_peer::FirstIdentity;
+use auc_record::copy_of;
 use std::alloc::Global;
 
-/// A copy of some bytes.
-pub(crate) fn copy_of(alloc: Global, bytes: &Octets) -> Result<Octets, NoMemory>
-    ensures { IfOk result (λ copy. copy ≡ bytes.now) }
-{
-    Octets::copied_from(alloc, bytes.as_slice())
-}
-
-/// A copy of some bytes, if there are any.
-pub(crate) fn copy_if_any(alloc: Global, bytes: &Option<Octets>) -> Result<Option<Octets>, NoMemory>
-    ensures { IfOk result (λ copy. copy ≡ bytes.now) }
-{
-    match bytes {
-        Some(bytes) => Ok(Some(copy_of(alloc, bytes)?)),
-        None => Ok(None),
-    }
-}
-
-/// A copy of the identity that a session's peer gives first.
-pub(crate) fn copy_identity(alloc: Global, identity: &Identity) -> Result<Identity, NoMemory>
-    ensures { IfOk result (λ copy. copy ≡ identity.now) }
-{
-    match identity {
-        Identity::Held => Ok(Identity::Held),
-        Identity::Permanent => Ok(Identity::Permanent),
-        Identity::Text(text) => Ok(Identity::Text(copy_of(alloc, text)?)),
-    }
-}
-
-/// What a peer is told of it.
+/// What a peer is told of the identity that it gives first.
 pub(crate) fn first_of(alloc: Global, identity: &Identity) -> Result<FirstIdentity, NoMemory>
     ensures { IfOk result (λ first. first ≡ first_of identity.now) }
 {

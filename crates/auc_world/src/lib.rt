@@ -1,7 +1,6 @@
-//! The records of a scenario's rounds, with what they are served with; what a lawful transcript is; and the network of a
-//! job's sessions.
+//! What a lawful transcript is, and the network of a job's sessions.
 //!
-//! A transcript is a list of parts: the records of a round, or a restart. A round is lawful if its records
+//! A transcript is a list of parts: the records of a round, or a restart (`auc_record`). A round is lawful if its records
 //! are what its jobs ask for, and if the jobs' entries of each subscriber split a legal history of its
 //! numbers (`specs/Given`, `specs/Round`). A transcript is lawful if each round is opened where the part before it
 //! leads (`specs/Transcript`). The centre's answers are free within that. No definition speaks of an order
@@ -21,34 +20,20 @@
 //! Put together, the workers' pieces are what the jobs give, and their entries split the same history. Two more
 //! say that a restart opens no subscriber below a released number, and that a USIM remembers what it accepted.
 //!
-//! The record of a line that releases a vector has its subscriber and its number, which determine the vector's bytes
-//! (`specs/Vectors`); that of an event has the vector itself. [`note`] and [`note_all`] keep a set of the numbers that
-//! lines release (`specs/Released`). They take memory, and leave the set as it was if memory runs out.
-//!
-//! What follows from the lines and the words of a round is made here too: the vectors of the full print
-//! ([`printed_vectors`]), the counts of the lines and the closings by them (`specs/Counts`), and the words at which the next
-//! round opens ([`reopened`]).
+//! The types and the calls of `auc_record` that the crates above need are passed on.
 #![tactic(auto)]
 
 mod acting;
 mod agreement;
 mod bits;
-mod bytes;
 mod changing;
-mod closing;
 mod copying;
-mod counting;
-mod event;
-mod further;
 mod inputs;
 mod law;
 mod net;
-mod noting;
 mod opening;
 mod places;
 mod posting;
-mod record;
-mod sites;
 mod turning;
 mod verdicts;
 mod world;
@@ -58,24 +43,18 @@ pub use agreement::{
     each_event_moves_contexts_once, each_honest_run_agrees, each_plain_session_ends,
     each_plain_session_succeeds, each_resumed_session_succeeds,
 };
-pub use auc_lines::End;
-pub use auc_server::Setting;
+pub use auc_record::{
+    BoxedEvent, BoxedFurther, Breach, Closing, Count, End, Event, EventRecord, FivegOutcome,
+    Further, GiveVerdict, JobRecord, JobSessions, JobVectors, LineRecord, Note, NoteStep,
+    PartRecord, Premise, RoundRecord, SessionVerdict, Setting, SitesNote, SitesOutcome,
+    SyncVerdict, WorldRefusal, closings, counts, note, note_all, printed_vectors, reopened,
+    vector_at,
+};
 pub use bits::{auts_of, turned};
-pub use bytes::{printed_vectors, vector_at};
-pub use closing::{closings, reopened};
-pub use counting::{Count, counts};
-pub use event::{BoxedEvent, Event, EventRecord, Note, NoteStep, WorldRefusal};
-pub use further::{BoxedFurther, FivegOutcome, Further};
 pub use law::{
     jobs_give_after_all_lines, past_has_each_accepted_sqn, pieces_split_the_round,
     restart_opens_above_released_numbers,
 };
-pub use net::{Breach, FastInputs, FullInputs, Inputs, SentPacket, Session};
-pub use noting::{note, note_all};
-pub use record::{
-    Closing, GiveVerdict, JobRecord, JobSessions, JobVectors, LineRecord, PartRecord, Premise,
-    RoundRecord, SessionVerdict, SyncVerdict,
-};
-pub use sites::{SitesNote, SitesOutcome};
+pub use net::{FastInputs, FullInputs, Inputs, SentPacket, Session};
 pub use verdicts::{round_premise, round_verdicts};
 pub use world::{DeviceList, HomeList, World};

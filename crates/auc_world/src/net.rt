@@ -1,4 +1,4 @@
-//! The network of a job's sessions: packets, sessions, and the first breach of the premise of equal keys.
+//! The network of a job's sessions: packets and sessions.
 
 use auc_edge::Octets;
 use auc_hmac::{KeySet, Master, Method};
@@ -65,16 +65,4 @@ pub struct Session {
     pub peer: Peer,
     /// The keys under which the peer ended in Success, or `None` if it didn't.
     pub peer_keys: Option<KeySet>,
-}
-
-/// A delivery that breaks the premise: an end found a right MAC over bytes that no end of the other role had sent with the
-/// same inputs of its keys.
-#[derive(Clone, Copy)]
-pub struct Breach {
-    /// The number of the session that the packet was delivered to.
-    pub session: u32,
-    /// The end that received it.
-    pub end: End,
-    /// The number of the packet, which counts the packets of the job from 1.
-    pub packet: u32,
 }

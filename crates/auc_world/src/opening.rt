@@ -5,11 +5,12 @@ ghost use Rattle.indexmap.specs.IndexMap.{insert_entry, IsUnchanged};
 ghost use Rattle.auc_lines.specs.Part.{IsShortIdentity};
 ghost use Rattle.auc_world.specs.Happened.{new_session};
 
-use crate::copying::{copy_if_any, copy_of, first_of};
+use crate::copying::first_of;
 use crate::net::Session;
 use auc_edge::NoMemory;
 use auc_lines::SessionLine;
 use auc_peer::{Peer, PeerOptions};
+use auc_record::{copy_if_any, copy_of};
 use auc_server::ServerOptions;
 use indexmap::IndexMap;
 use std::alloc::Global;

@@ -2,7 +2,7 @@
 
 ghost use Rattle.std.specs.Prelude.{◌≡◌, ◌≤◌, ◌<◌, ◌++◌, ℕ, [], Some, None, length, map, IfOk, IfErr, IfSome, OnErr, OnOk, is_some, true, vec_capacity, vec_len};
 ghost use Rattle.auc_world.specs.Came.{came_changed, came_in, came_opened, session_of, vector_sent};
-ghost use Rattle.auc_world.specs.Event.{asked_in};
+ghost use Rattle.auc_record.specs.Event.{asked_in};
 ghost use Rattle.auc_world.specs.Happened.{Delivery, at_session, delivery_at, opened, with_copy};
 ghost use Rattle.auc_world.specs.InnerWorld.{Answers, HasPlace, IsReached, IsUnreached, Serves, came_of, copy_by, net_of, number_after, released_for};
 ghost use Rattle.auc_world.specs.Net.{device_place, packet_at, posted, session_place};
@@ -12,23 +12,22 @@ ghost use Rattle.auc_peer.specs.Subscription.{subscription_of};
 ghost use Rattle.auc_server.specs.Steps.{OnlyAsks};
 ghost use Rattle.auc_subs.specs.Subscriber.{AreSubscribers};
 ghost use Rattle.auc_world.specs.Sessions.{job_sessions};
-ghost use Rattle.auc_world.specs.declared.event.NoteStep.TheVariants as did;
+ghost use Rattle.auc_record.specs.declared.event.NoteStep.TheVariants as did;
 ghost use Rattle.auc_world.specs.World.{Applies, AreHomes, AreOfSame, Challenges, IsKnownEvent, IsName, RememberPasts, usim_of};
 
 use crate::acting::{Came, Deed, act, note};
 use crate::changing::{Change, change_packet};
-use crate::event::{Event, Note, NoteStep, WorldRefusal};
 use crate::inputs::judged;
-use crate::net::{Breach, SentPacket, Session};
+use crate::net::{SentPacket, Session};
 use crate::opening::{add_session, new_session};
 use crate::places::{DevicePlaces, places};
 use crate::posting::{make_place, post};
-use crate::record::JobSessions;
 use crate::turning::{Served, Taken, answer, keys_won, serve};
 use crate::verdicts::job_verdicts;
 use auc_edge::NoMemory;
 use auc_lines::{End, SessionLine};
 use auc_peer::{Challenge, Device};
+use auc_record::{Breach, Event, JobSessions, Note, NoteStep, WorldRefusal};
 use auc_released::Number;
 use auc_server::{Challenged, HomeRow, Setting};
 use auc_usim::Answer;

@@ -1,6 +1,6 @@
 use Rattle.std.proofs.Common.{◌≡◌, List, None, length}
 use Rattle.auc_draw.specs.Book.{IsOf}
-use Rattle.auc_world.specs.declared.record.LineRecord.{LineRecord}
+use Rattle.auc_record.specs.declared.record.LineRecord.{LineRecord}
 use Rattle.auc_jobs.specs.InnerClaims.{IsBetween}
 use Rattle.auc_jobs.specs.InnerSharing.{Begins}
 use Rattle.auc_jobs.proofs.claiming.serve_claims.Given as goal

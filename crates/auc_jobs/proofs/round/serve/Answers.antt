@@ -1,7 +1,7 @@
 use Rattle.std.proofs.Common.{◌∙◌, ◌++◌, List}
 use Rattle.auc_journal.specs.Journal.{limits_of}
-use Rattle.auc_world.specs.Lines.{all_lines}
-use Rattle.auc_world.specs.declared.record.LineRecord.{LineRecord}
+use Rattle.auc_record.specs.Lines.{all_lines}
+use Rattle.auc_record.specs.declared.record.LineRecord.{LineRecord}
 use Rattle.auc_jobs.specs.declared.round.Ran.{Ran}
 use Rattle.auc_jobs.specs.declared.workers.RoundPieces.{RoundPieces}
 use Rattle.auc_jobs.specs.InnerKeeping.{StaysNear}

@@ -1,12 +1,12 @@
 use Rattle.std.proofs.Common.{◌≡◌, ℕ, List, length, ap, sym, ◌∙◌, refl, subst, arith}
 use Rattle.std.specs.Prelude.{slice_get, Some}
-use Rattle.auc_world.specs.Lines.{all_lines}
+use Rattle.auc_record.specs.Lines.{all_lines}
 use Rattle.auc_world.specs.Sessions.{AreVerdicts, premise_from}
-use Rattle.auc_world.specs.Setting.{Setting}
-use Rattle.auc_world.specs.declared.record.JobSessions.{JobSessions}
-use Rattle.auc_world.specs.declared.record.LineRecord.{LineRecord}
-use Rattle.auc_world.specs.declared.counting.Count.{Count}
-use Rattle.auc_world.specs.Counts.{AreCounted, counted_closings}
+use Rattle.auc_subs.specs.Setting.{Setting}
+use Rattle.auc_record.specs.declared.record.JobSessions.{JobSessions}
+use Rattle.auc_record.specs.declared.record.LineRecord.{LineRecord}
+use Rattle.auc_record.specs.declared.counting.Count.{Count}
+use Rattle.auc_record.specs.Counts.{AreCounted, counted_closings}
 use Rattle.auc_jobs.specs.InnerRound.{IsAdvanced}
 use Rattle.auc_jobs.specs.State.{Standing}
 use Rattle.auc_jobs.proofs.RoundLemmas.{advanced_as, as_many_sessions, closes_above, leads_on, stands_after}

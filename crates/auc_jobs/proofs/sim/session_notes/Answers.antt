@@ -2,10 +2,10 @@ use Rattle.std.proofs.Common.{◌≡◌, ◌∙◌, ◌≤◌, List, ap, arith, 
 use Rattle.std.specs.Prelude.{Some, slice_get, slice_index}
 use Rattle.auc_random.specs.Random.{sim_nonce}
 use Rattle.auc_sim.specs.Identity.{sim_identity}
-use Rattle.auc_sim.specs.declared.note.SimNote.{SimNote}
+use Rattle.auc_vector.specs.declared.sim_note.SimNote.{SimNote}
 use Rattle.auc_sim_packet.specs.declared.parts.Triplet.{Triplet}
 use Rattle.auc_jobs.specs.InnerSim.{AreNotesOf, AreTripletsOf}
-use Rattle.auc_world.specs.Setting.{Setting}
+use Rattle.auc_subs.specs.Setting.{Setting}
 use Rattle.auc_jobs.proofs.SimLemmas.{identity_size, session_is, triplets_size}
 use Rattle.auc_jobs.proofs.SiteLemmas.{if_ok_map}
 use Rattle.auc_jobs.proofs.sim.session_notes.Goals as goal

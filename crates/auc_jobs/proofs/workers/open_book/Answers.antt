@@ -2,7 +2,7 @@ use Rattle.std.proofs.Common.{length, ◌≤◌, ap, subst, sym, ◌∙◌}
 use Rattle.std.specs.Prelude.{All}
 use Rattle.auc_sqn.specs.Number.{max_seq}
 use Rattle.auc_subs.proofs.Facts.{length-tops_of, tops_within}
-use Rattle.auc_world.specs.Setting.{Setting}
+use Rattle.auc_subs.specs.Setting.{Setting}
 use Rattle.auc_jobs.specs.InnerSharing.{Shared}
 use Rattle.auc_jobs.proofs.StateLemmas.{openings_fit}
 use Rattle.auc_jobs.proofs.workers.open_book.Goals as goal

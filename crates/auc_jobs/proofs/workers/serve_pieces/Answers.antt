@@ -10,8 +10,8 @@ use Rattle.auc_sqn.specs.Number.{max_seq}
 use Rattle.auc_subs.specs.Subscriber.{tops_of}
 use Rattle.auc_subs.specs.declared.row.Row.{Row}
 use Rattle.auc_subs.proofs.Facts.{top_at-within}
-use Rattle.auc_world.specs.Vectors.{vectors_in}
-use Rattle.auc_world.specs.declared.record.LineRecord.{LineRecord}
+use Rattle.auc_record.specs.Vectors.{vectors_in}
+use Rattle.auc_record.specs.declared.record.LineRecord.{LineRecord}
 use Rattle.auc_jobs.specs.declared.claiming.WorkerJobs.{WorkerJobs}
 use Rattle.auc_jobs.specs.declared.workers.RoundPieces.{RoundPieces}
 use Rattle.auc_jobs.specs.InnerClaims.{ClosesAs, HaveWorked, IsDone}

@@ -6,7 +6,7 @@ use Rattle.auc_load.specs.Pieces.{each_vector}
 use Rattle.auc_load.specs.Summary.{all_bytes}
 use Rattle.auc_load.proofs.PieceLemmas.{if_ok_map}
 use Rattle.auc_load.proofs.SummaryLemmas.{bytes_of_load, source_of_load}
-use Rattle.auc_world.specs.declared.record.Closing.{Closing}
+use Rattle.auc_record.specs.declared.record.Closing.{Closing}
 use Rattle.auc_load.proofs.digest.digest.Goals as goal
 
 pub digest_of-requires-clause-source : goal.digest_of-requires-clause-source

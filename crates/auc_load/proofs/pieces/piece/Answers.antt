@@ -3,7 +3,7 @@ use Rattle.std.specs.Prelude.{slice_get}
 use Rattle.std.specs.List.{concat}
 use Rattle.auc_load.specs.Pieces.{Source, vectors_from, vectors_of_piece}
 use Rattle.auc_load.proofs.PieceLemmas.{closing_more, ends, none_after, numbers_within, piece_more}
-use Rattle.auc_world.specs.declared.record.Closing.{Closing}
+use Rattle.auc_record.specs.declared.record.Closing.{Closing}
 use Rattle.auc_load.proofs.pieces.piece.Goals as goal
 
 abbrev no_closing : Closing

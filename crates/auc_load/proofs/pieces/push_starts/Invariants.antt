@@ -1,7 +1,7 @@
 use Rattle.std.proofs.Common.{◌≡◌, ◌+◌, ◌-◌, ◌<◌, ◌≤◌, get_or, length}
 use Rattle.auc_load.specs.Pieces.{IsCut, Source, vectors_of_piece}
 use Rattle.auc_load.proofs.pieces.push_starts.Given as goal
-use Rattle.auc_world.specs.declared.record.Closing.{Closing}
+use Rattle.auc_record.specs.declared.record.Closing.{Closing}
 
 abbrev pub invariant-loop-at : goal.invariant-loop-at
 invariant-loop-at l = record {

@@ -1,7 +1,7 @@
 use Rattle.std.proofs.Common.{All, length, map}
 use Rattle.auc_named.specs.Named.{record_of}
 use Rattle.auc_named.proofs.RenumberLemmas.{IsTurned}
-use Rattle.auc_world.specs.Record.{IsBelow, subscriber_of}
+use Rattle.auc_record.specs.Record.{IsBelow, subscriber_of}
 use Rattle.auc_named.proofs.of_all.jobs_of_all.Given as goal
 
 abbrev pub invariant-loop-job : goal.invariant-loop-job

@@ -1,7 +1,7 @@
 -- The line is that of the subscriber's row.
 use Rattle.std.proofs.Common.{◌≡◌, ap, List, Some, slice_get, subst}
 use Rattle.auc_subs.specs.declared.row.Row.{Row}
-use Rattle.auc_world.specs.Setting.{Setting}
+use Rattle.auc_subs.specs.Setting.{Setting}
 use Rattle.auc_print.proofs.PieceLemmas.{failure_printed}
 use Rattle.auc_print.proofs.auts.print_failure.Goals as goal
 

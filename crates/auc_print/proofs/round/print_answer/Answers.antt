@@ -1,6 +1,6 @@
 -- In a full print the line is followed by the bytes of its vector, by AUTS and by what else is shown of it.
 use Rattle.std.proofs.Common.{ap}
-use Rattle.auc_world.specs.Setting.{Setting}
+use Rattle.auc_subs.specs.Setting.{Setting}
 use Rattle.auc_print.proofs.PieceLemmas.{answer_printed}
 use Rattle.auc_print.proofs.round.print_answer.Goals as goal
 

@@ -1,7 +1,7 @@
 -- The round's own line, the jobs' text and that of the lines that end it are the round's text.
 use Rattle.std.proofs.Common.{ap}
 use Rattle.std.proofs.lemmas.Result.{on_ok_weaker}
-use Rattle.auc_world.specs.Setting.{Setting}
+use Rattle.auc_subs.specs.Setting.{Setting}
 use Rattle.auc_print.proofs.TextLemmas.{end_printed, front_more, round_printed}
 use Rattle.auc_print.proofs.round.print_lines.Goals as goal
 

@@ -1,7 +1,7 @@
 use Rattle.std.proofs.Common.{◌≡◌, ℕ, List, OnErr, refl, subst}
-use Rattle.auc_world.specs.Setting.{Setting}
+use Rattle.auc_subs.specs.Setting.{Setting}
 use Rattle.auc_world.specs.Transcript.{Course}
-use Rattle.auc_world.specs.declared.record.LineRecord.{LineRecord}
+use Rattle.auc_record.specs.declared.record.LineRecord.{LineRecord}
 use Rattle.auc_run.specs.Inner.{AreEnough, Covers, StandsAfter}
 use Rattle.auc_run.specs.Output.{setting_of}
 use Rattle.auc_run.proofs.blocks.make_jobs.Goals as goal

@@ -1,6 +1,7 @@
 use Rattle.std.proofs.Common.{◌≡◌, ◌∷◌, [], ◌∙◌, Ok, Err, None, refl}
 use Rattle.auc_script.specs.declared.refusal.ScriptRefusal.TheVariants as wrong
-use Rattle.auc_run.specs.Service.{asked_of, end_line, refusal_reply}
+use Rattle.auc_refusal.specs.Replies.{end_line, refusal_reply}
+use Rattle.auc_run.specs.Service.{asked_of}
 use Rattle.auc_run.proofs.ServiceEnds.{answered, asked_short, empty_answer, ends_memory, nothing_served, own_covers, refused_answer}
 use Rattle.auc_run.proofs.blocks.serve_block.Goals as goal
 

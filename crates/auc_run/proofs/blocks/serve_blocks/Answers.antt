@@ -1,6 +1,6 @@
 use Rattle.std.proofs.Common.{◌∙◌, [], arith, refl}
-use Rattle.auc_run.specs.Refusal.{status_of}
-use Rattle.auc_run.specs.declared.status.Status.TheVariants as status
+use Rattle.auc_refusal.specs.Refusal.{status_of}
+use Rattle.auc_refusal.specs.declared.status.Status.TheVariants as status
 use Rattle.auc_run.proofs.FaultLemmas.{done_on_disk, done_on_wire, late_on_disk, late_on_wire, so_on_disk, so_on_wire}
 use Rattle.auc_run.proofs.ServiceEnds.{ends_late, ends_more, goes_more, goes_same, serves_any, turned_goes, turned_refused, turned_stops}
 use Rattle.auc_run.proofs.blocks.serve_blocks.Goals as goal

@@ -3,7 +3,7 @@ use Rattle.auc_edge.specs.declared.stop.Stop.{Stop}
 use Rattle.auc_run.specs.Inner.{MakesRound}
 use Rattle.auc_run.specs.InnerFaults.{RoseInRound}
 use Rattle.auc_run.specs.Output.{setting_of}
-use Rattle.auc_run.specs.Service.{end_line}
+use Rattle.auc_refusal.specs.Replies.{end_line}
 use Rattle.auc_run.proofs.BlockLemmas.{asked_quiet}
 use Rattle.auc_run.proofs.KnownLemmas.{known_block}
 use Rattle.auc_run.proofs.OutputLemmas.{IfOk-ok, OnErr-at}
@@ -20,8 +20,8 @@ returns-in-Ok-clause-turned g c = λ block waiting asked.
     let made = IfOk-ok c.make_jobs-stand.result.result c.in-Ok.stop is_made (cc c.in-Ok.is) c.make_jobs-stand.ensures.made in
     rw (c.turned.ensures.answer, c.turned.ensures.stand, c.round_answer.ensures, c.make_jobs-stand.ensures.number)
     (served g.D.Disk.seen g.D.Disk.may_leave g.D.Disk.moment g.D.Disk.left_since rows header waiting block c.make_jobs-stand.result.stand.text c.args.jobs c.args.stand.number c.args.stand.state c.make_jobs-stand.result.stand.state c.forget.new.self
-    c.args.stand.journal c.make_jobs-stand.result.stand.journal c.in-Ok.stop c.say_round-said.result (g.W.Wire.turns c.args.wire.now) (g.W.Wire.turns c.say_round-said.new.wire)
-    asked (known_block rows c.args.jobs c.requires.known) made (c.forget.ensures.forgotten, c.forget.ensures.stands) c.say_round-said.ensures.said c.say_round-said.ensures.stopped)
+    c.args.stand.journal c.make_jobs-stand.result.stand.journal c.in-Ok.stop c.say_reply-said.result (g.W.Wire.turns c.args.wire.now) (g.W.Wire.turns c.say_reply-said.new.wire)
+    asked (known_block rows c.args.jobs c.requires.known) made (c.forget.ensures.forgotten, c.forget.ensures.stands) c.say_reply-said.ensures.said c.say_reply-said.ensures.stopped)
 
 pub returns-in-Ok-clause-goes : goal.returns-in-Ok-clause-goes
 returns-in-Ok-clause-goes g c = rw c.turned.ensures.answer (turned_true c.round_answer.result)
@@ -29,12 +29,12 @@ returns-in-Ok-clause-goes g c = rw c.turned.ensures.answer (turned_true c.round_
 pub returns-in-Ok-clause-refused : goal.returns-in-Ok-clause-refused
 returns-in-Ok-clause-refused g c =
     rw (c.turned.ensures.answer, c.round_answer.ensures)
-    (round_stops c.say_round-said.result c.in-Ok.stop (c.make_jobs-stand.result.stand.text ++ end_line) (g.W.Wire.turns c.args.wire.now) (g.W.Wire.turns c.say_round-said.new.wire) c.say_round-said.ensures.stopped)
+    (round_stops c.say_reply-said.result c.in-Ok.stop (c.make_jobs-stand.result.stand.text ++ end_line) (g.W.Wire.turns c.args.wire.now) (g.W.Wire.turns c.say_reply-said.new.wire) c.say_reply-said.ensures.stopped)
 
 pub returns-in-Ok-clause-wire : goal.returns-in-Ok-clause-wire
 returns-in-Ok-clause-wire g c = record {
-  rose = λ is. c.say_round-said.ensures.wire.rose (round_said c.say_round-said.result c.in-Ok.stop (rw (c.turned.ensures.answer, c.round_answer.ensures) at is));
-  same = λ other. c.say_round-said.ensures.wire.same (λ is. other (rw (c.turned.ensures.answer, c.round_answer.ensures, is) refl));
+  rose = λ is. c.say_reply-said.ensures.wire.rose (round_said c.say_reply-said.result c.in-Ok.stop (rw (c.turned.ensures.answer, c.round_answer.ensures) at is));
+  same = λ other. c.say_reply-said.ensures.wire.same (λ is. other (rw (c.turned.ensures.answer, c.round_answer.ensures, is) refl));
 }
 
 pub returns-in-Ok-clause-store : goal.returns-in-Ok-clause-store
@@ -42,9 +42,9 @@ returns-in-Ok-clause-store g c =
     let rose : RoseInRound c.in-Ok.stop (g.D.Disk.faults c.args.stand.journal.disk) (g.D.Disk.faults c.make_jobs-stand.result.stand.journal.disk) =
     IfOk-ok c.make_jobs-stand.result.result c.in-Ok.stop _ (cc c.in-Ok.is) c.make_jobs-stand.ensures.store in
     rw c.turned.ensures.stand (record {
-      rose = λ is. rose.rose (round_fault c.say_round-said.result c.in-Ok.stop (c.make_jobs-stand.result.stand.text ++ end_line) (g.W.Wire.turns c.args.wire.now) (g.W.Wire.turns c.say_round-said.new.wire) c.say_round-said.ensures.stopped
+      rose = λ is. rose.rose (round_fault c.say_reply-said.result c.in-Ok.stop (c.make_jobs-stand.result.stand.text ++ end_line) (g.W.Wire.turns c.args.wire.now) (g.W.Wire.turns c.say_reply-said.new.wire) c.say_reply-said.ensures.stopped
           (rw (c.turned.ensures.answer, c.round_answer.ensures) at is));
-      same = λ quiet. rose.same (round_quiet c.say_round-said.result c.in-Ok.stop (c.make_jobs-stand.result.stand.text ++ end_line) (g.W.Wire.turns c.args.wire.now) (g.W.Wire.turns c.say_round-said.new.wire) c.say_round-said.ensures.stopped
+      same = λ quiet. rose.same (round_quiet c.say_reply-said.result c.in-Ok.stop (c.make_jobs-stand.result.stand.text ++ end_line) (g.W.Wire.turns c.args.wire.now) (g.W.Wire.turns c.say_reply-said.new.wire) c.say_reply-said.ensures.stopped
           (rw (c.turned.ensures.answer, c.round_answer.ensures) at quiet));
     })
 

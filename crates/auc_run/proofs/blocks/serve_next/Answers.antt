@@ -1,8 +1,10 @@
 use Rattle.std.proofs.Common.{◌∙◌, false, List, ℕ, Err, OnOk, IfErr, sym, subst, refl}
 use Rattle.auc_block.specs.Turns.{Says}
 use Rattle.auc_reading.specs.declared.refusal.ScriptWhy.TheVariants as why
-use Rattle.auc_run.specs.InnerService.{IsSaidUpTo, trouble_refusal, turned_by}
-use Rattle.auc_run.specs.Service.{refusal_reply}
+use Rattle.auc_refusal.specs.Causes.{trouble_refusal}
+use Rattle.auc_refusal.specs.Told.{IsSaidUpTo}
+use Rattle.auc_run.specs.InnerService.{turned_by}
+use Rattle.auc_refusal.specs.Replies.{refusal_reply}
 use Rattle.auc_run.proofs.ServiceEnds.{answered, ended, long_answer, long_rest, nothing_served, serves_block, troubled, turned_heard, turned_taken}
 use Rattle.auc_run.proofs.blocks.serve_next.Goals as goal
 

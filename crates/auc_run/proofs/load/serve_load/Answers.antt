@@ -2,7 +2,7 @@ use Rattle.std.proofs.Common.{◌∙◌, List, AllPairs, length, ap, subst, sym,
 use Rattle.auc_jobs.specs.Serving.{AreAllKnown}
 use Rattle.auc_lines.specs.Part.{AreApart}
 use Rattle.auc_lines.specs.declared.part.Line.{Line}
-use Rattle.auc_world.specs.Setting.{Setting}
+use Rattle.auc_subs.specs.Setting.{Setting}
 use Rattle.auc_run.proofs.LoadLemmas.{load_apart, load_ends, load_few, load_known}
 use Rattle.auc_run.proofs.load.serve_load.Goals as goal
 

@@ -2,7 +2,7 @@ use Rattle.std.proofs.Common.{◌≡◌, List, [], ◌∙◌, ap, map, rules, su
 use Rattle.std.proofs.lemmas.Result.{IfOk-weaker}
 use Rattle.auc_subs.specs.Subscriber.{AreSubscribers}
 use Rattle.auc_subs.specs.declared.row.Row.{Row}
-use Rattle.auc_world.specs.Setting.{Setting}
+use Rattle.auc_subs.specs.Setting.{Setting}
 use Rattle.auc_run.proofs.LoadLemmas.{served_lawful}
 use Rattle.auc_run.proofs.load.serve_once.Goals as goal
 

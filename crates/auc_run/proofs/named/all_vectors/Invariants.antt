@@ -1,5 +1,5 @@
 use Rattle.std.proofs.Common.{◌≡◌, map, take}
-use Rattle.auc_world.specs.Vectors.{vectors_in}
+use Rattle.auc_record.specs.Vectors.{vectors_in}
 use Rattle.auc_run.proofs.named.all_vectors.Given as goal
 
 abbrev pub invariant-loop-lines : goal.invariant-loop-lines

@@ -2,7 +2,7 @@ use Rattle.std.proofs.Common.{◌<◌, ◌≤◌, ℕ, List, [], ◌∙◌, ap, 
 use Rattle.auc_named.specs.Named.{AreAt}
 use Rattle.auc_subs.specs.Subscriber.{top_at}
 use Rattle.auc_subs.specs.declared.row.Row.{Row}
-use Rattle.auc_world.specs.Setting.{Setting}
+use Rattle.auc_subs.specs.Setting.{Setting}
 use Rattle.auc_run.proofs.NamedLemmas.{own_within}
 use Rattle.auc_run.proofs.named.own_start.Goals as goal
 

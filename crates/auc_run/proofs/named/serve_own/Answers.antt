@@ -9,8 +9,8 @@ use Rattle.auc_lines.specs.Part.{AreApart}
 use Rattle.auc_lines.specs.declared.part.Line.{Line}
 use Rattle.auc_named.specs.Named.{line_of}
 use Rattle.auc_subs.specs.declared.row.Row.{Row}
-use Rattle.auc_world.specs.Lines.{all_lines}
-use Rattle.auc_world.specs.Setting.{Setting}
+use Rattle.auc_record.specs.Lines.{all_lines}
+use Rattle.auc_subs.specs.Setting.{Setting}
 use Rattle.auc_run.proofs.NamedLemmas.{all_served, among_all, both, lawful_of_all, none_served, own_names, own_releasable, plain_apart, served_by}
 use Rattle.auc_run.proofs.OutputLemmas.{IfOk-ok}
 use Rattle.auc_run.proofs.StandLemmas.{imsis_differ}

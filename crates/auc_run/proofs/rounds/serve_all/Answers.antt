@@ -2,8 +2,8 @@ use Rattle.std.proofs.Common.{◌+◌, ◌∷◌, ◌∙◌, drop, ap, subst, sy
 use Rattle.std.proofs.lemmas.List.{drop_more, drop_all}
 use Rattle.auc_lines.specs.declared.part.Part.{Part}
 use Rattle.auc_edge.specs.Sink.{Appends, AppendsFront}
-use Rattle.auc_run.specs.Refusal.{status_of}
-use Rattle.auc_run.specs.declared.status.Status.TheVariants as status
+use Rattle.auc_refusal.specs.Refusal.{status_of}
+use Rattle.auc_refusal.specs.declared.status.Status.TheVariants as status
 use Rattle.auc_run.proofs.OutputLemmas.{IfErr-at, OnErr-at, OnOk-at, Serving-all, Serving-none, Serving-part, Serving-stops, done_full, not_done, write_full}
 use Rattle.auc_run.proofs.rounds.serve_all.Goals as goal
 

@@ -2,8 +2,8 @@ use Rattle.std.proofs.Common.{◌≡◌, List, OnOk, subst}
 use Rattle.auc_journal.specs.Journal.{limits_of}
 use Rattle.auc_jobs.specs.State.{StandsAt}
 use Rattle.auc_world.specs.Limits.{opened}
-use Rattle.auc_world.specs.Setting.{Setting}
-use Rattle.auc_world.specs.declared.record.LineRecord.{LineRecord}
+use Rattle.auc_subs.specs.Setting.{Setting}
+use Rattle.auc_record.specs.declared.record.LineRecord.{LineRecord}
 use Rattle.auc_run.specs.declared.rounds.Settings.{Settings}
 use Rattle.auc_run.proofs.StepLemmas.{part_ends, part_goes, part_store, restart_ends, restart_goes}
 use Rattle.auc_run.proofs.rounds.serve_part.Goals as goal

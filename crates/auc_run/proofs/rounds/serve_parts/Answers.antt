@@ -2,9 +2,10 @@ use Rattle.std.proofs.Common.{ℕ, List, refl, subst}
 use Rattle.auc_ident.specs.Names.{names_key}
 use Rattle.auc_journal.specs.Journal.{limits_of}
 use Rattle.auc_lines.specs.declared.part.Part.{Part}
-use Rattle.auc_world.specs.Setting.{Setting}
+use Rattle.auc_subs.specs.Setting.{Setting}
 use Rattle.auc_world.specs.Transcript.{beginning}
-use Rattle.auc_run.specs.Inner.{RunsParts, status_in}
+use Rattle.auc_refusal.specs.Refusal.{status_in}
+use Rattle.auc_run.specs.Inner.{RunsParts}
 use Rattle.auc_run.specs.Output.{setting_of}
 use Rattle.auc_run.proofs.OutputLemmas.{Serving-nothing}
 use Rattle.auc_run.proofs.StandLemmas.{begins_stand}

@@ -3,7 +3,7 @@ use Rattle.std.specs.Option.{option_copied}
 use Rattle.auc_edge.specs.Faults.{Rose}
 use Rattle.auc_run.specs.Crash.{MayHaveLeft, MayLeave}
 use Rattle.auc_run.specs.Service.{EndsUnserved, Serves}
-use Rattle.auc_run.specs.Words.{service_named}
+use Rattle.auc_input.specs.Words.{service_named}
 use Rattle.auc_run.proofs.RememberLemmas.{remembers_told}
 use Rattle.auc_run.proofs.ServiceTold.{read_named, read_refused, read_write, usage_unnamed}
 use Rattle.auc_run.proofs.ServiceTop.{service_told}

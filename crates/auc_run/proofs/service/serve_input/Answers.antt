@@ -4,7 +4,7 @@ use Rattle.auc_run.proofs.KnownLemmas.{known}
 use Rattle.auc_run.proofs.RememberLemmas.{remembers_unopened}
 use Rattle.auc_run.proofs.ServiceTop.{early_journal, serves_ready}
 use Rattle.auc_run.proofs.TopLemmas.{journal_stops}
-use Rattle.auc_run.specs.Inner.{open_refusal}
+use Rattle.auc_refusal.specs.Causes.{open_refusal}
 use Rattle.auc_run.proofs.AlwaysLemmas.{always_opening}
 use Rattle.auc_run.proofs.service.serve_input.Goals as goal
 

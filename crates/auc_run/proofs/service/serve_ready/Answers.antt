@@ -1,8 +1,8 @@
 use Rattle.std.proofs.Common.{inl, refl, ap}
 use Rattle.auc_journal.specs.Journal.{limits_of}
-use Rattle.auc_run.specs.Inner.{status_in}
+use Rattle.auc_refusal.specs.Refusal.{status_in}
 use Rattle.auc_run.specs.Output.{setting_of}
-use Rattle.auc_run.specs.declared.status.Status.TheVariants as status
+use Rattle.auc_refusal.specs.declared.status.Status.TheVariants as status
 use Rattle.auc_run.proofs.ServiceTold.{memory_no_journal, remembers_begun, write_no_journal}
 use Rattle.auc_run.proofs.ServiceTop.{ready_fails, ready_runs, ready_serves, remembers_blocks}
 use Rattle.auc_run.proofs.AlwaysLemmas.{always_opening, always_remembers}

@@ -1,7 +1,6 @@
 use Rattle.std.proofs.Common.{◌≡◌, refl, sym, subst}
-use Rattle.auc_run.specs.Inner.{files_seen}
+use Rattle.auc_input.specs.Words.{files_seen, Files}
 use Rattle.auc_run.specs.Outcome.{RunsFull}
-use Rattle.auc_run.specs.Words.{Files}
 use Rattle.auc_run.proofs.AlwaysLemmas.{always_same}
 use Rattle.auc_run.proofs.CauseLemmas.{ends_before}
 use Rattle.auc_run.proofs.TellingLemmas.{telling_needs}

@@ -1,7 +1,7 @@
 use Rattle.auc_journal.specs.Image.{reserved_in}
 use Rattle.auc_run.proofs.TellingLemmas.{done_found, limits_found, limits_unopened, remembers_limits, stops_found, unopened_stops}
 use Rattle.auc_run.proofs.RememberLemmas.{remembers_unopened}
-use Rattle.auc_run.specs.Inner.{status_in}
+use Rattle.auc_refusal.specs.Refusal.{status_in}
 use Rattle.std.proofs.Common.{refl}
 use Rattle.auc_run.proofs.AlwaysLemmas.{always_opening}
 use Rattle.auc_run.proofs.top_call.print_journal.Goals as goal

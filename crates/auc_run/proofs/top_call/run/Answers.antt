@@ -1,8 +1,8 @@
 use Rattle.std.proofs.Common.{◌≡◌, ◌∙◌, inl, inr, refl, subst}
-use Rattle.auc_run.specs.Inner.{Tells}
-use Rattle.auc_run.specs.declared.refusal.Refusal.{Refusal}
-use Rattle.auc_run.specs.declared.refusal.Refusal.TheVariants as refused
-use Rattle.auc_run.specs.declared.status.Status.TheVariants as status
+use Rattle.auc_refusal.specs.Told.{Tells}
+use Rattle.auc_refusal.specs.declared.refusal.Refusal.{Refusal}
+use Rattle.auc_refusal.specs.declared.refusal.Refusal.TheVariants as refused
+use Rattle.auc_refusal.specs.declared.status.Status.TheVariants as status
 use Rattle.auc_run.proofs.CauseLemmas.{comes_at}
 use Rattle.auc_run.proofs.EndLemmas.{algorithm_may, algorithm_told, ran_told, usage_told, write_told}
 use Rattle.auc_run.specs.Crash.{MayHaveLeft, MayLeave}

@@ -1,7 +1,7 @@
 use Rattle.std.proofs.Common.{List, Option, refl, subst}
 use Rattle.auc_edge.specs.Shelf.{File}
-use Rattle.auc_run.specs.Inner.{files_seen}
-use Rattle.auc_run.specs.Outcome.{AreRight}
+use Rattle.auc_input.specs.Words.{files_seen}
+use Rattle.auc_input.specs.Reading.{AreRight}
 use Rattle.auc_run.proofs.CauseLemmas.{right_wrong}
 use Rattle.auc_run.proofs.RefusalLemmas.{right_read}
 use Rattle.auc_run.proofs.AlwaysLemmas.{always_same}

@@ -3,7 +3,7 @@ use Rattle.auc_world.specs.Agreement.{IsRealm}
 use Rattle.auc_run.specs.Crash.{MayHaveLeft, MayLeave}
 use Rattle.auc_journal.specs.Journal.{limits_of}
 use Rattle.auc_world.specs.Transcript.{beginning}
-use Rattle.auc_run.specs.Inner.{status_in}
+use Rattle.auc_refusal.specs.Refusal.{status_in}
 use Rattle.auc_run.specs.Output.{setting_of}
 use Rattle.auc_run.proofs.KnownLemmas.{known}
 use Rattle.auc_run.proofs.OutcomeLemmas.{files_full, files_run}

@@ -1,7 +1,7 @@
 use Rattle.std.proofs.Common.{ℕ, ◌≤◌, subst, sym}
 use Rattle.auc_subs.proofs.Facts.{top_at-row}
 use Rattle.auc_subs.specs.Subscriber.{top_at}
-use Rattle.auc_server.specs.Setting.{Setting}
+use Rattle.auc_subs.specs.Setting.{Setting}
 use Rattle.auc_server.proofs.challenge.vector_at.Goals as goal
 
 pub vector-requires-clause-last : goal.vector-requires-clause-last

@@ -1,7 +1,7 @@
 use Rattle.std.proofs.Common.{sym, subst}
 use Rattle.auc_server.specs.InnerRows.{IsHeldRow}
 use Rattle.auc_server.specs.Rows.{by_auts}
-use Rattle.auc_server.specs.Setting.{Setting}
+use Rattle.auc_subs.specs.Setting.{Setting}
 use Rattle.auc_server.proofs.HomeLemmas.{auts_own}
 use Rattle.auc_server.proofs.rows.on_sync_failure.Goals as goal
 

@@ -1,7 +1,7 @@
 use Rattle.std.proofs.Common.{Option, Some, None, slice_get}
 use Rattle.auc_peer.specs.Laws.{AcceptedIsOfTheContext}
 use Rattle.auc_peer.specs.Subscription.{Subscription}
-use Rattle.auc_server.specs.Setting.{Setting}
+use Rattle.auc_subs.specs.Setting.{Setting}
 use Rattle.auc_world.specs.Happened.{Delivery, Told, delivery_in}
 use Rattle.auc_world.specs.Net.{Net, keeps_at}
 use Rattle.auc_world.specs.Resumption.{AcceptsIn, AcceptsItsOwn}

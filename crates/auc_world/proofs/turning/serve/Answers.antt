@@ -3,7 +3,7 @@ use Rattle.std.specs.Prelude.{ℕ}
 use Rattle.auc_edge.specs.Reserved.{Reserved}
 use Rattle.auc_server.specs.Steps.{IsHeld, IsHeldToo, IsServed, Steps}
 use Rattle.auc_server.specs.declared.setting.HomeRow.{HomeRow}
-use Rattle.auc_server.specs.declared.why.ServerWhy.{ServerWhy}
+use Rattle.auc_vector.specs.declared.why.ServerWhy.{ServerWhy}
 use Rattle.auc_vector.specs.declared.turn.Turn.{Turn}
 use Rattle.auc_world.proofs.TurningLemmas.{identity_left, name_stays, turn_subs, written_back}
 use Rattle.auc_world.proofs.turning.serve.Goals as goal

@@ -1,6 +1,6 @@
 use Rattle.std.proofs.Common.{rules, arith}
 use Rattle.std.proofs.lemmas.List.Sorted.{IsNonDecreasingBy-from_sort_by_key}
-use Rattle.auc_world.specs.declared.record.SessionVerdict.{SessionVerdict}
+use Rattle.auc_record.specs.declared.record.SessionVerdict.{SessionVerdict}
 use Rattle.auc_world.proofs.verdicts.round_verdicts.Goals as goal
 
 pub returns : goal.returns

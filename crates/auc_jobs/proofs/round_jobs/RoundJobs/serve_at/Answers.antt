@@ -1,7 +1,7 @@
 use Rattle.std.proofs.Common.{◌≡◌, ◌∙◌, ap, sym, subst, rules, true, ℕ}
 use Rattle.auc_cards.specs.Own.{AllCards}
 use Rattle.auc_lines.specs.Part.{holds}
-use Rattle.auc_world.specs.Setting.{Setting}
+use Rattle.auc_subs.specs.Setting.{Setting}
 use Rattle.auc_jobs.specs.InnerSharing.{IsServable, Shared}
 use Rattle.auc_jobs.specs.InnerUsims.{has_usim, usim_of}
 use Rattle.auc_jobs.specs.InnerWorker.{AreForRows, IsCentreOf, WorkerServesLines, WorkerState, start_world}

@@ -1,10 +1,10 @@
 use Rattle.std.proofs.Common.{◌∙◌, ◌++◌, ◌<◌, ◌≤◌, ℕ, List, ap, fold, length, slice_index, subst, sym}
 use Rattle.auc_cards.specs.Stores.{put_own}
 use Rattle.auc_subs.specs.Subscriber.{top_at}
-use Rattle.auc_world.specs.Lines.{all_lines}
-use Rattle.auc_world.specs.declared.record.LineRecord.{LineRecord}
+use Rattle.auc_record.specs.Lines.{all_lines}
+use Rattle.auc_record.specs.declared.record.LineRecord.{LineRecord}
 use Rattle.auc_jobs.specs.InnerUsims.{ArePutBack}
-use Rattle.auc_world.specs.Released.{AreReleased}
+use Rattle.auc_record.specs.Released.{AreReleased}
 use Rattle.auc_jobs.specs.State.{Standing}
 use Rattle.auc_jobs.proofs.state.State.advance.Goals as goal
 

@@ -1,8 +1,8 @@
 use Rattle.std.proofs.Common.{◌++◌, List, subst}
 use Rattle.std.specs.Prelude.{OnOk}
-use Rattle.auc_world.specs.Lines.{all_lines}
-use Rattle.auc_world.specs.Released.{AreReleased}
-use Rattle.auc_world.specs.declared.record.LineRecord.{LineRecord}
+use Rattle.auc_record.specs.Lines.{all_lines}
+use Rattle.auc_record.specs.Released.{AreReleased}
+use Rattle.auc_record.specs.declared.record.LineRecord.{LineRecord}
 use Rattle.auc_jobs.specs.State.{Standing}
 use Rattle.auc_jobs.proofs.state.State.note.Goals as goal
 

@@ -2,14 +2,14 @@ use Rattle.auc_jobs.specs.InnerUsims.{usim_of, verdict_by}
 use Rattle.std.proofs.Common.{◌≡◌, ◌++◌, ap, arith, sym, subst, ◌∙◌}
 use Rattle.std.specs.Prelude.{Some, slice_get}
 use Rattle.auc_subs.proofs.Facts.{top_at-row}
-use Rattle.auc_world.specs.Setting.{Setting}
+use Rattle.auc_subs.specs.Setting.{Setting}
 use Rattle.auc_jobs.specs.InnerServing.{before_at, IsAnswered}
 use Rattle.auc_jobs.specs.InnerWorker.{WorkerState}
-use Rattle.auc_world.specs.Released.{AreReleased}
+use Rattle.auc_record.specs.Released.{AreReleased}
 use Rattle.auc_jobs.specs.Numbers.{AreNumbers}
 use Rattle.auc_jobs.specs.Usims.{AreBehind}
 use Rattle.auc_jobs.proofs.JobLemmas.{answered_above, answered_present, answered_absent}
-use Rattle.auc_world.specs.declared.record.GiveVerdict.TheVariants as given
+use Rattle.auc_record.specs.declared.record.GiveVerdict.TheVariants as given
 use Rattle.auc_jobs.proofs.worker.Worker.answered.Goals as goal
 
 pub present-requires-clause-last : goal.present-requires-clause-last

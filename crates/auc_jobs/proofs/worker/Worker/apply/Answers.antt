@@ -1,7 +1,7 @@
 use Rattle.std.proofs.Common.{◌∙◌, ap, map, subst}
 use Rattle.std.specs.Prelude.{IfOk}
 use Rattle.auc_server.specs.declared.setting.HomeRow.{HomeRow}
-use Rattle.auc_world.specs.Came.{Came}
+use Rattle.auc_record.specs.Event.{Came}
 use Rattle.auc_world.specs.World.{Applies, RememberPasts, usim_of}
 use Rattle.auc_jobs.specs.InnerUsims.{has_usim}
 use Rattle.auc_jobs.specs.InnerWorker.{AreForRows, WorkerState}

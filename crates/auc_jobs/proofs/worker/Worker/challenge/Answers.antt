@@ -4,10 +4,10 @@ use Rattle.auc_5g.specs.Keys.{device_of, home_of}
 use Rattle.auc_subs.specs.declared.row.Row.{Row}
 use Rattle.auc_random.specs.Random.{rand_of}
 use Rattle.auc_world.specs.Given.{Authenticates, Before, judged_lines}
-use Rattle.auc_world.specs.Setting.{Setting}
-use Rattle.auc_world.specs.VectorAt.{vector_of_row}
-use Rattle.auc_world.specs.declared.record.GiveVerdict.TheVariants as given
-use Rattle.auc_world.specs.declared.record.LineRecord.{LineRecord}
+use Rattle.auc_subs.specs.Setting.{Setting}
+use Rattle.auc_record.specs.VectorAt.{vector_of_row}
+use Rattle.auc_record.specs.declared.record.GiveVerdict.TheVariants as given
+use Rattle.auc_record.specs.declared.record.LineRecord.{LineRecord}
 use Rattle.auc_jobs.specs.declared.giving.UsimAnswer.{UsimAnswer}
 use Rattle.auc_jobs.specs.InnerServing.{GivesVerdict}
 use Rattle.auc_jobs.specs.InnerUsims.{HasKeys, verdict_by}

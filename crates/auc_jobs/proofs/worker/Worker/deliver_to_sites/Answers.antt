@@ -1,5 +1,5 @@
 use Rattle.std.proofs.Common.{◌∙◌, sym}
-use Rattle.auc_world.specs.declared.sites.SitesOutcome.{SitesOutcome}
+use Rattle.auc_record.specs.declared.sites.SitesOutcome.{SitesOutcome}
 use Rattle.auc_jobs.specs.InnerSites.{DeliveryDoes, DrawsIn, GrantDoes}
 use Rattle.auc_jobs.proofs.SiteLemmas.{delivery_known, draws_granted, draws_none, if_ok_map}
 use Rattle.auc_jobs.proofs.worker.Worker.deliver_to_sites.Goals as goal

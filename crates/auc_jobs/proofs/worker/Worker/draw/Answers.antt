@@ -1,8 +1,9 @@
 use Rattle.std.proofs.Common.{◌≡◌, ◌-◌, ◌+◌, [], List, arith, refl, sym, subst, ℕ}
 use Rattle.std.proofs.Math.Nat.{sub-zero}
-use Rattle.auc_world.specs.Given.{Before, DrawGives}
-use Rattle.auc_world.specs.Setting.{Setting}
-use Rattle.auc_world.specs.declared.record.LineRecord.{LineRecord}
+use Rattle.auc_world.specs.Given.{Before}
+use Rattle.auc_record.specs.Draws.{DrawGives}
+use Rattle.auc_subs.specs.Setting.{Setting}
+use Rattle.auc_record.specs.declared.record.LineRecord.{LineRecord}
 use Rattle.auc_jobs.specs.InnerServing.{IsNext}
 use Rattle.auc_jobs.proofs.DrawingLemmas.{GoesOn, draw_all, draw_begins, draw_ends, draw_more}
 use Rattle.auc_jobs.proofs.WorkerLemmas.{also_serves, goes_on_beside, more_serves, none_serves}

@@ -1,11 +1,11 @@
 use Rattle.std.proofs.Common.{◌≡◌, ◌∙◌, [], ◌∷◌, List, ℕ, ap, subst}
 use Rattle.std.specs.Prelude.{Option}
 use Rattle.auc_world.specs.Given.{Before, EpsGives}
-use Rattle.auc_world.specs.Setting.{Setting}
-use Rattle.auc_world.specs.Vectors.{IsOfRow}
-use Rattle.auc_world.specs.declared.further.Further.TheVariants as further
-use Rattle.auc_world.specs.declared.record.LineRecord.{LineRecord}
-use Rattle.auc_world.specs.declared.record.LineRecord.TheVariants.{Further}
+use Rattle.auc_subs.specs.Setting.{Setting}
+use Rattle.auc_record.specs.Vectors.{IsOfRow}
+use Rattle.auc_record.specs.declared.further.Further.TheVariants as further
+use Rattle.auc_record.specs.declared.record.LineRecord.{LineRecord}
+use Rattle.auc_record.specs.declared.record.LineRecord.TheVariants.{Further}
 use Rattle.auc_jobs.specs.InnerServing.{IsNext}
 use Rattle.auc_jobs.specs.InnerWorker.{WorkerState}
 use Rattle.auc_jobs.proofs.LineLemmas.{on_ok_map}

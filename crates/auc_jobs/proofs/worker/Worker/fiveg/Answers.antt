@@ -1,8 +1,8 @@
 use Rattle.std.proofs.Common.{List, ℕ, subst}
 use Rattle.std.specs.Prelude.{Option}
 use Rattle.auc_world.specs.Given.{Before, FivegFollows, FivegGives}
-use Rattle.auc_world.specs.Setting.{Setting}
-use Rattle.auc_world.specs.declared.record.LineRecord.{LineRecord}
+use Rattle.auc_subs.specs.Setting.{Setting}
+use Rattle.auc_record.specs.declared.record.LineRecord.{LineRecord}
 use Rattle.auc_jobs.specs.InnerServing.{IsNext}
 use Rattle.auc_jobs.proofs.LineLemmas.{on_ok_map}
 use Rattle.auc_jobs.proofs.SystemLemmas.{fiveg_ends, fiveg_then}

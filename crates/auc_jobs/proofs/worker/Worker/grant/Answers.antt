@@ -3,8 +3,8 @@ use Rattle.auc_sites.specs.Network.{after_reply, with_last}
 use Rattle.auc_sites.specs.SiteNet.{NetState, after_new_grant}
 use Rattle.auc_sites.specs.declared.master.Reply.TheVariants as reply
 use Rattle.auc_world.specs.Given.{Before}
-use Rattle.auc_world.specs.declared.record.LineRecord.{LineRecord}
-use Rattle.auc_world.specs.declared.sites.SitesOutcome.TheVariants as outcome
+use Rattle.auc_record.specs.declared.record.LineRecord.{LineRecord}
+use Rattle.auc_record.specs.declared.sites.SitesOutcome.TheVariants as outcome
 use Rattle.auc_jobs.specs.InnerSites.{GrantDoes, IsLease}
 use Rattle.auc_jobs.proofs.SiteLemmas.{grant_granted, grant_refused, lease_of_line}
 use Rattle.auc_jobs.proofs.WorkerLemmas.{also_serves}

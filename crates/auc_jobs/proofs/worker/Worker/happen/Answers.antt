@@ -1,7 +1,7 @@
 use Rattle.std.proofs.Common.{ℕ, [], ◌∷◌, ◌++◌, ◌∙◌, ap, sym, subst}
 use Rattle.std.specs.Prelude.{Option}
-use Rattle.auc_world.specs.declared.event.EventRecord.{EventRecord}
-use Rattle.auc_world.specs.declared.record.LineRecord.TheVariants.{Event as Happening}
+use Rattle.auc_record.specs.declared.event.EventRecord.{EventRecord}
+use Rattle.auc_record.specs.declared.record.LineRecord.TheVariants.{Event as Happening}
 use Rattle.auc_world.specs.Given.{packet_in}
 use Rattle.auc_jobs.specs.InnerPlaying.{Leads}
 use Rattle.auc_jobs.specs.InnerServing.{Happens, Serves, before_at}

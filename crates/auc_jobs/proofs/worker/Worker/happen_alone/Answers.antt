@@ -1,6 +1,6 @@
 use Rattle.std.proofs.Common.{List, subst, sym}
 use Rattle.auc_world.specs.Given.{EventGives}
-use Rattle.auc_world.specs.declared.record.LineRecord.{LineRecord}
+use Rattle.auc_record.specs.declared.record.LineRecord.{LineRecord}
 use Rattle.auc_jobs.specs.InnerServing.{Happens, before_at}
 use Rattle.auc_jobs.specs.InnerUsims.{usim_of}
 use Rattle.auc_jobs.proofs.JobLemmas.{serves_as}

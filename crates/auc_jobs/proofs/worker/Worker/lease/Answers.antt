@@ -7,8 +7,8 @@ use Rattle.auc_sites.proofs.Facts.{drawn_above, drawn_more}
 use Rattle.auc_history.specs.declared.entry.Entry.TheVariants.{Drawn}
 use Rattle.auc_subs.specs.Subscriber.{top_at}
 use Rattle.auc_world.specs.Given.{Before}
-use Rattle.auc_world.specs.Setting.{Setting}
-use Rattle.auc_world.specs.declared.record.LineRecord.{LineRecord}
+use Rattle.auc_subs.specs.Setting.{Setting}
+use Rattle.auc_record.specs.declared.record.LineRecord.{LineRecord}
 use Rattle.auc_jobs.specs.InnerServing.{IsNext}
 use Rattle.auc_jobs.specs.InnerSim.{IsNumber}
 use Rattle.auc_jobs.specs.InnerSites.{IsLease}

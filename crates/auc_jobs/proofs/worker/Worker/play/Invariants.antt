@@ -1,6 +1,6 @@
 use Rattle.std.proofs.Common.{List}
 use Rattle.auc_world.specs.Ending.{deliveries_left}
-use Rattle.auc_world.specs.declared.record.LineRecord.{LineRecord}
+use Rattle.auc_record.specs.declared.record.LineRecord.{LineRecord}
 use Rattle.auc_jobs.specs.InnerServing.{Serves, before_at}
 use Rattle.auc_jobs.specs.InnerUsims.{usim_of}
 use Rattle.auc_jobs.specs.InnerWorker.{GoesOnWith, WorkerStands}

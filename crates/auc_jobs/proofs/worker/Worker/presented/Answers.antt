@@ -1,6 +1,6 @@
 use Rattle.std.proofs.Common.{◌≡◌, [], ◌∷◌, ◌++◌, ◌∙◌, ap, sym, subst}
-use Rattle.auc_world.specs.declared.record.GiveVerdict.{GiveVerdict}
-use Rattle.auc_world.specs.declared.record.LineRecord.TheVariants.{Give}
+use Rattle.auc_record.specs.declared.record.GiveVerdict.{GiveVerdict}
+use Rattle.auc_record.specs.declared.record.LineRecord.TheVariants.{Give}
 use Rattle.auc_jobs.specs.InnerServing.{before_at, GivesVerdict, Serves}
 use Rattle.auc_jobs.specs.InnerUsims.{usim_of, verdict_by}
 use Rattle.auc_jobs.specs.InnerWorker.{WorkerState}

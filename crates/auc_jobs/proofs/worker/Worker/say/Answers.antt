@@ -1,6 +1,6 @@
 use Rattle.std.proofs.Common.{[], ◌∷◌, ◌++◌, ◌∙◌, ◌≡◌, ap, subst}
-use Rattle.auc_world.specs.declared.further.Further.{Further as Said}
-use Rattle.auc_world.specs.declared.record.LineRecord.TheVariants.{Further}
+use Rattle.auc_record.specs.declared.further.Further.{Further as Said}
+use Rattle.auc_record.specs.declared.record.LineRecord.TheVariants.{Further}
 use Rattle.auc_jobs.specs.InnerUsims.{usim_of}
 use Rattle.auc_jobs.specs.InnerWorker.{WorkerServes, WorkerState}
 use Rattle.auc_jobs.proofs.JobLemmas.{serves_adds}

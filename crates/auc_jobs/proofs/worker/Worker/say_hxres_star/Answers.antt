@@ -1,7 +1,7 @@
 use Rattle.std.proofs.Common.{◌≡◌, [], ◌∷◌, ◌∙◌, Bool, List, ℕ, ap, sym}
 use Rattle.auc_world.specs.Given.{hxres_lines}
-use Rattle.auc_world.specs.declared.further.Further.TheVariants as further
-use Rattle.auc_world.specs.declared.record.LineRecord.TheVariants.{Further}
+use Rattle.auc_record.specs.declared.further.Further.TheVariants as further
+use Rattle.auc_record.specs.declared.record.LineRecord.TheVariants.{Further}
 use Rattle.auc_jobs.proofs.LineLemmas.{on_ok_map}
 use Rattle.auc_jobs.proofs.WorkerLemmas.{also_serves}
 use Rattle.auc_jobs.proofs.worker.Worker.say_hxres_star.Goals as goal

@@ -1,9 +1,9 @@
 use Rattle.std.proofs.Common.{◌≡◌, ◌++◌, [], ◌∷◌, List, refl, reverse}
 use Rattle.auc_world.specs.Given.{Before}
-use Rattle.auc_world.specs.Setting.{Setting}
-use Rattle.auc_world.specs.declared.further.Further.TheVariants as further
-use Rattle.auc_world.specs.declared.record.LineRecord.{LineRecord}
-use Rattle.auc_world.specs.declared.record.LineRecord.TheVariants.{Further}
+use Rattle.auc_subs.specs.Setting.{Setting}
+use Rattle.auc_record.specs.declared.further.Further.TheVariants as further
+use Rattle.auc_record.specs.declared.record.LineRecord.{LineRecord}
+use Rattle.auc_record.specs.declared.record.LineRecord.TheVariants.{Further}
 use Rattle.auc_jobs.specs.InnerSim.{said_lines}
 use Rattle.auc_jobs.proofs.SimLemmas.{notes_all, notes_begin, notes_more}
 use Rattle.auc_jobs.proofs.WorkerLemmas.{also_serves, goes_on_beside, more_serves, none_serves}

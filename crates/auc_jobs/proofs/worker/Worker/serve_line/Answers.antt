@@ -1,8 +1,9 @@
 use Rattle.std.proofs.Common.{List}
-use Rattle.auc_world.specs.Given.{Before, DrawGives, EpsGives, FivegGives, GiveGives, SyncGives}
+use Rattle.auc_world.specs.Given.{Before, EpsGives, FivegGives, GiveGives, SyncGives}
+use Rattle.auc_record.specs.Draws.{DrawGives}
 use Rattle.auc_world.specs.Sim.{SimGives}
 use Rattle.auc_world.specs.Sites.{SitesGives}
-use Rattle.auc_world.specs.declared.record.LineRecord.{LineRecord}
+use Rattle.auc_record.specs.declared.record.LineRecord.{LineRecord}
 use Rattle.auc_jobs.proofs.LineLemmas.{on_ok_map}
 use Rattle.auc_jobs.proofs.WorkerLemmas.{goes_on_with, still_serves}
 use Rattle.auc_jobs.proofs.worker.Worker.serve_line.Goals as goal

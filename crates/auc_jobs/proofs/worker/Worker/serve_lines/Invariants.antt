@@ -1,7 +1,7 @@
 use Rattle.auc_jobs.specs.InnerUsims.{has_usim, usim_of}
 use Rattle.std.proofs.Common.{◌≡◌, ℕ, List, drop}
 use Rattle.auc_world.specs.World.{AreOfSame}
-use Rattle.auc_world.specs.declared.record.LineRecord.{LineRecord}
+use Rattle.auc_record.specs.declared.record.LineRecord.{LineRecord}
 use Rattle.auc_jobs.specs.InnerWorker.{WorkerStands}
 use Rattle.auc_jobs.proofs.JobLemmas.{ServingLines}
 use Rattle.auc_jobs.proofs.worker.Worker.serve_lines.Given as goal

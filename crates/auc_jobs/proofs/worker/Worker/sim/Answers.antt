@@ -1,8 +1,8 @@
 use Rattle.std.proofs.Common.{◌≡◌, ◌∙◌, List, ap, subst, sym, ℕ}
 use Rattle.auc_world.specs.Given.{Before}
-use Rattle.auc_world.specs.Setting.{Setting}
+use Rattle.auc_subs.specs.Setting.{Setting}
 use Rattle.auc_world.specs.Sim.{SimGives}
-use Rattle.auc_world.specs.declared.record.LineRecord.{LineRecord}
+use Rattle.auc_record.specs.declared.record.LineRecord.{LineRecord}
 use Rattle.auc_jobs.specs.InnerSim.{AreNotesOf, said_lines}
 use Rattle.auc_jobs.specs.InnerSites.{IsLease}
 use Rattle.auc_jobs.specs.InnerWorker.{WorkerState}

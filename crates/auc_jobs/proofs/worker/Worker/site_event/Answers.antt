@@ -3,7 +3,7 @@ use Rattle.std.specs.Prelude.{Option}
 use Rattle.auc_lines.specs.declared.sites.SiteEvent.TheVariants as asked
 use Rattle.auc_sites.specs.SiteNet.{NetState, site_at}
 use Rattle.auc_world.specs.Sites.{note_of_draw, note_of_number}
-use Rattle.auc_world.specs.declared.sites.SitesNote.TheVariants as note
+use Rattle.auc_record.specs.declared.sites.SitesNote.TheVariants as note
 use Rattle.auc_jobs.specs.InnerSites.{EventDoes}
 use Rattle.auc_jobs.proofs.SiteLemmas.{draws_delivered, draws_none, event_quiet, number_said}
 use Rattle.auc_jobs.proofs.worker.Worker.site_event.Goals as goal

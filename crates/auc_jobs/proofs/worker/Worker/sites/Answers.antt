@@ -6,9 +6,9 @@ use Rattle.auc_sites.specs.Network.{start}
 use Rattle.auc_sites.specs.SiteNet.{state_of}
 use Rattle.auc_world.specs.Given.{Before}
 use Rattle.auc_world.specs.Sites.{sites_start}
-use Rattle.auc_world.specs.declared.further.Further.TheVariants as further
-use Rattle.auc_world.specs.declared.record.LineRecord.{LineRecord}
-use Rattle.auc_world.specs.declared.record.LineRecord.TheVariants.{Further}
+use Rattle.auc_record.specs.declared.further.Further.TheVariants as further
+use Rattle.auc_record.specs.declared.record.LineRecord.{LineRecord}
+use Rattle.auc_record.specs.declared.record.LineRecord.TheVariants.{Further}
 use Rattle.auc_jobs.specs.InnerWorker.{WorkerServes}
 use Rattle.auc_jobs.proofs.SiteLemmas.{SitesGoOn, sites_begin, sites_end, sites_step, start_packets, start_sites}
 use Rattle.auc_jobs.proofs.WorkerLemmas.{also_serves, goes_on_beside, none_serves}

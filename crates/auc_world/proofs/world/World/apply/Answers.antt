@@ -3,14 +3,14 @@ use Rattle.auc_world.proofs.ApplyLemmas.{acted_ends, answered_applies, both_ok, 
 use Rattle.auc_world.proofs.AskedLemmas.{acted_asks_nobody, asks_nobody, opened_asks_nobody}
 use Rattle.auc_world.proofs.CopyLemmas.{changed_is_silent}
 use Rattle.auc_world.specs.Came.{session_of}
-use Rattle.auc_world.specs.Event.{asked_in}
+use Rattle.auc_record.specs.Event.{asked_in}
 use Rattle.auc_world.specs.declared.acting.Deed.TheVariants as deed
 use Rattle.auc_world.specs.World.{Applies}
 use Rattle.auc_lines.specs.declared.part.End.{End}
 use Rattle.auc_server.specs.declared.setting.HomeRow.{HomeRow}
 use Rattle.auc_world.proofs.WorldLemmas.{on_error}
-use Rattle.auc_world.specs.declared.event.Event.{Event}
-use Rattle.auc_world.specs.declared.event.Event.TheVariants as event
+use Rattle.auc_record.specs.declared.event.Event.{Event}
+use Rattle.auc_record.specs.declared.event.Event.TheVariants as event
 use Rattle.auc_world.proofs.world.World.apply.Goals as goal
 
 pub returns-in-Open-clause-applied : goal.returns-in-Open-clause-applied

@@ -6,7 +6,7 @@ use Rattle.auc_world.specs.Happened.{delivery_at}
 use Rattle.auc_world.specs.InnerWorld.{IsUnreached, state_of}
 use Rattle.auc_world.specs.Net.{session_place}
 use Rattle.auc_world.specs.World.{WorldState}
-use Rattle.auc_world.specs.declared.event.WorldRefusal.TheVariants as refused
+use Rattle.auc_record.specs.declared.event.WorldRefusal.TheVariants as refused
 use Rattle.auc_world.proofs.world.World.reached.Goals as goal
 
 pub returns-in-Some-clause-place : goal.returns-in-Some-clause-place

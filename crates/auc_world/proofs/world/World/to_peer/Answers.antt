@@ -7,13 +7,13 @@ use Rattle.auc_peer.specs.Subscription.{subscription_of}
 use Rattle.auc_peer.specs.Turn.{Steps}
 use Rattle.auc_peer.specs.declared.device.Device.{Device}
 use Rattle.auc_peer.specs.declared.peer.Peer.{Peer}
-use Rattle.auc_server.specs.Setting.{Setting}
+use Rattle.auc_subs.specs.Setting.{Setting}
 use Rattle.auc_world.proofs.AnsweringLemmas.{answers, answers_nobody, answers_now}
 use Rattle.auc_world.proofs.ServingLemmas.{has_packet, reaches_last, packet_read}
 use Rattle.auc_world.proofs.WorldLemmas.{answered_states, kept_device, kept_session, map_same, of_all, on_error, set_same, values_set}
 use Rattle.auc_world.specs.InnerWorld.{IsKept, is_key, number_after, state_of}
 use Rattle.auc_world.specs.World.{HasHeld, WorldState}
-use Rattle.auc_world.specs.declared.event.Note.{Note}
+use Rattle.auc_record.specs.declared.event.Note.{Note}
 use Rattle.auc_world.specs.declared.net.SentPacket.{SentPacket}
 use Rattle.auc_world.specs.declared.net.Session.{Session}
 use Rattle.auc_world.proofs.world.World.to_peer.Goals as goal

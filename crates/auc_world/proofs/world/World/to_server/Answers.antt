@@ -14,7 +14,7 @@ use Rattle.auc_world.proofs.WorldLemmas.{kept_alike, kept_homes, kept_session, o
 use Rattle.auc_world.specs.Came.{vector_sent}
 use Rattle.auc_world.specs.InnerWorld.{IsKept, is_key, number_after, state_of}
 use Rattle.auc_world.specs.World.{AreHomes, HasHeld, WorldState}
-use Rattle.auc_world.specs.declared.event.Note.{Note}
+use Rattle.auc_record.specs.declared.event.Note.{Note}
 use Rattle.auc_world.specs.declared.net.SentPacket.{SentPacket}
 use Rattle.auc_world.specs.declared.net.Session.{Session}
 use Rattle.auc_world.proofs.world.World.to_server.Goals as goal

@@ -1,0 +1,5 @@
+mod TurnLemmas
+pub mod Facts
+mod OpeningLemmas
+mod ReadingLemmas
+mod HeaderLemmas

@@ -1,0 +1,6 @@
+pub mod Facts
+mod CountLemmas
+mod HeldLemmas
+mod NotingLemmas
+mod OpeningLemmas
+mod VectorLemmas

@@ -1,0 +1,14 @@
+pub mod Counts
+pub mod Draws
+pub mod Ends
+pub mod Entries
+pub mod Event
+pub mod InnerRoom
+pub mod InnerVectors
+pub mod Lines
+pub mod Openings
+pub mod Record
+pub mod Released
+pub mod Told
+pub mod VectorAt
+pub mod Vectors
