@@ -24,7 +24,7 @@ use Rattle.auc_vector.specs.declared.centre.Resynced.{Resynced}
 use Rattle.auc_vector.specs.declared.centre.Resynced.TheVariants.{Moved as moved, InRange}
 use Rattle.auc_vector.specs.declared.centre.CentreRefusal.{CentreRefusal}
 use Rattle.auc_vector.specs.declared.centre.CentreRefusal.TheVariants.{Exhausted, Withheld, Beyond}
-use Rattle.auc_centre.specs.Adds.{Adds, IsTold, kept_by}
+use Rattle.auc_centre.specs.Adds.{AddsAtDesk, IsTold, kept_by}
 use Rattle.auc_centre.specs.InnerSteps.{Steps, Settles}
 use Rattle.auc_centre.proofs.StepLemmas.{makes_steps, steps_both, entries_here, entries_elsewhere, adds_here, adds_elsewhere}
 
@@ -76,7 +76,7 @@ refusal_told top (Some v) w released high = All-nil (IsTold top [] released)
 
 -- what it adds
 pub refusal_adds : (sub w : ℕ) (old new : PassValue) → Draws (slice_index old.tops sub) sub old.deeds new.deeds (exhausted w) → new.ended ≡ old.ended → new.tops ≡ old.tops → AreInOrder new.deeds
-    → Adds old sub (unless_spent (kept_by old sub) (Drawn (w + 1) ∷ [])) [] new
+    → AddsAtDesk old sub (unless_spent (kept_by old sub) (Drawn (w + 1) ∷ [])) [] new
 refusal_adds sub w old new draws ended tops order =
     adds_here old new sub (unless_spent (kept_by old sub) (Drawn (w + 1) ∷ [])) [] (refusal_steps sub w old new draws ended tops order)
     (refusal_told (slice_index old.tops sub) (kept_by old sub) w (released_of sub new.deeds) draws.0)
@@ -130,15 +130,15 @@ settled_names sub n mid new kept (Err (Beyond seen seq_ms)) never = absurd never
 
 -- what the draw adds
 pub settled_adds : (sub n : ℕ) (old mid new : PassValue) (answer : Result ℕ CentreRefusal) → IsSettled sub n old mid new answer
-    → Adds old sub (entries_of_next (kept_by old sub) answer) (withheld_of_next answer) new
+    → AddsAtDesk old sub (entries_of_next (kept_by old sub) answer) (withheld_of_next answer) new
 settled_adds sub n old mid new answer is =
     let Told : ℕ → Type 0 = IsTold (slice_index old.tops sub) (withheld_of_next answer) (released_of sub new.deeds) in
     let told = All-cons Told n [] (settled_told (slice_index old.tops sub) sub n mid new answer is.settles) (All-nil Told) in
-    subst (λ (es : List Entry). Adds old sub es (withheld_of_next answer) new) (settled_names sub n mid new (kept_by old sub) answer is.settles)
+    subst (λ (es : List Entry). AddsAtDesk old sub es (withheld_of_next answer) new) (settled_names sub n mid new (kept_by old sub) answer is.settles)
     (adds_here old new sub (Drawn n ∷ []) (withheld_of_next answer) (draw_steps sub n old mid new answer is) told)
 
 -- and for another subscriber
-pub settled_elsewhere : (i sub n : ℕ) (old mid new : PassValue) (answer : Result ℕ CentreRefusal) → i ≢ sub → IsSettled sub n old mid new answer → Adds old i [] [] new
+pub settled_elsewhere : (i sub n : ℕ) (old mid new : PassValue) (answer : Result ℕ CentreRefusal) → i ≢ sub → IsSettled sub n old mid new answer → AddsAtDesk old i [] [] new
 settled_elsewhere i sub n old mid new answer apart is = adds_elsewhere old new i sub (Drawn n ∷ []) (withheld_of_next answer) apart (draw_steps sub n old mid new answer is)
 
 -- the kept words stay: the one of the subscriber
@@ -167,7 +167,7 @@ pub move_steps : (sub to from : ℕ) (old new : PassValue) → Jumps (slice_inde
 move_steps sub to from old new jumps ended tops order = makes_steps sub (Moved from to ∷ []) old new jumps.2 ended tops order
 
 -- what it adds
-pub move_adds : (sub to from : ℕ) (old new : PassValue) → Steps old sub (Moved from to ∷ []) [] new → Adds old sub (Moved from to ∷ []) [] new
+pub move_adds : (sub to from : ℕ) (old new : PassValue) → Steps old sub (Moved from to ∷ []) [] new → AddsAtDesk old sub (Moved from to ∷ []) [] new
 move_adds sub to from old new steps = adds_here old new sub (Moved from to ∷ []) [] steps (All-nil (IsTold (slice_index old.tops sub) [] (released_of sub new.deeds)))
 
 -- one that finds it high enough
@@ -184,14 +184,14 @@ look_draws top (Some w) seen released = All-nil (IsTold top [] released)
 
 -- what a look at the number adds, which is the one that is named
 look_adds : (sub seen at : ℕ) (old new : PassValue) → at ≡ seen → Steps old sub (unless_spent (kept_by old sub) (Look seen ∷ [])) [] new
-    → Adds old sub (unless_spent (kept_by old sub) (Look at ∷ [])) [] new
+    → AddsAtDesk old sub (unless_spent (kept_by old sub) (Look at ∷ [])) [] new
 look_adds sub seen at old new same steps =
-    let P : ℕ → Type 0 = λ n. Adds old sub (unless_spent (kept_by old sub) (Look n ∷ [])) [] new in
+    let P : ℕ → Type 0 = λ n. AddsAtDesk old sub (unless_spent (kept_by old sub) (Look n ∷ [])) [] new in
     subst P (sym same) (adds_here old new sub (unless_spent (kept_by old sub) (Look seen ∷ [])) [] steps (look_draws (slice_index old.tops sub) (kept_by old sub) seen (released_of sub new.deeds)))
 
 -- the number stands: its verdict names the word that was found
 pub standing_adds : (sub seq_ms seen : ℕ) (old new : PassValue) (answer : Result Resynced CentreRefusal) → Steps old sub (unless_spent (kept_by old sub) (Look seen ∷ [])) [] new
-    → AnswersResync (Some seen) seq_ms answer → Adds old sub (entries_of_resync (kept_by old sub) answer) [] new
+    → AnswersResync (Some seen) seq_ms answer → AddsAtDesk old sub (entries_of_resync (kept_by old sub) answer) [] new
 standing_adds sub seq_ms seen old new (Ok (moved at seq)) steps (never, verdict) = let bad : ⊥ = cc in absurd bad
 standing_adds sub seq_ms seen old new (Ok (InRange at seq)) steps (same, verdict) = look_adds sub seen at old new same steps
 standing_adds sub seq_ms seen old new (Err (Exhausted w)) steps never = absurd never

@@ -13,7 +13,7 @@ use Rattle.auc_draw.specs.declared.rule.Deed.TheVariants.{Released, Withheld}
 use Rattle.auc_draw.specs.Deeds.{entries_by, entries_of, claims_by, claims_of, held_by, held_of, released_in, released_of, kept_stop, stop_read, withholding, made, AreInOrder}
 use Rattle.auc_draw.specs.Values.{PassValue}
 use Rattle.auc_draw.proofs.Facts.{in_order_last, after_last}
-use Rattle.auc_centre.specs.Adds.{Adds, IsTold}
+use Rattle.auc_centre.specs.Adds.{AddsAtDesk, IsTold}
 use Rattle.auc_vector.specs.declared.centre.CentreRefusal.{CentreRefusal}
 use Rattle.auc_vector.specs.declared.centre.CentreRefusal.TheVariants.{Exhausted, Withheld as refused, Beyond}
 use Rattle.auc_centre.specs.InnerSteps.{Steps, Settles}
@@ -175,7 +175,7 @@ claims_stay old new sub es ws steps =
 -- ---- what steps add
 
 -- for the subscriber, if each drawn number is withheld or released
-pub adds_here : (old new : PassValue) (sub : ℕ) (es : List Entry) (ws : List (ℕ × Stop)) → Steps old sub es ws new → All (IsTold (slice_index old.tops sub) ws (released_of sub new.deeds)) (drawn es) → Adds old sub es ws new
+pub adds_here : (old new : PassValue) (sub : ℕ) (es : List Entry) (ws : List (ℕ × Stop)) → Steps old sub es ws new → All (IsTold (slice_index old.tops sub) ws (released_of sub new.deeds)) (drawn es) → AddsAtDesk old sub es ws new
 adds_here old new sub es ws steps told =
     let all = entries_here old new sub es ws steps in
     let order = subst IsInOrder all (steps.ordered.each sub) in
@@ -192,7 +192,7 @@ adds_here old new sub es ws steps told =
     }
 
 -- for another one
-pub adds_elsewhere : (old new : PassValue) (i sub : ℕ) (es : List Entry) (ws : List (ℕ × Stop)) → i ≢ sub → Steps old sub es ws new → Adds old i [] [] new
+pub adds_elsewhere : (old new : PassValue) (i sub : ℕ) (es : List Entry) (ws : List (ℕ × Stop)) → i ≢ sub → Steps old sub es ws new → AddsAtDesk old i [] [] new
 adds_elsewhere old new i sub es ws apart steps =
     let all = entries_elsewhere old new i sub es ws apart steps in
     let order = subst IsInOrder all (steps.ordered.each i) in

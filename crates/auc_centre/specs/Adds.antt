@@ -21,7 +21,7 @@ IsTold top withheld released n = (top < n) ⊎ (Contains (numbers_of withheld) n
 
 -- some calls at a desk: the pass before them, a subscriber, the entries of it that they made, its withheld numbers, each
 -- with its cause, and the pass after them
-pub record Adds (old : PassValue) (sub : ℕ) (entries : List Entry) (withheld : List (ℕ × Stop)) (new : PassValue) : Type 0 where
+pub record AddsAtDesk (old : PassValue) (sub : ℕ) (entries : List Entry) (withheld : List (ℕ × Stop)) (new : PassValue) : Type 0 where
   -- the entries come after those that the pass had made before
   pub made : entries_of sub new.deeds ≡ entries_of sub old.deeds ++ entries
   -- each of them continues those before it

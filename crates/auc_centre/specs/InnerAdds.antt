@@ -12,10 +12,10 @@ use Rattle.auc_draw.specs.declared.rule.Deed.{Deed}
 use Rattle.auc_draw.specs.Deeds.{entries_of, held_of, released_in, released_of}
 use Rattle.auc_draw.specs.Values.{PassValue}
 use Rattle.auc_draw.proofs.Facts.{in_order_none, in_order_both, after_none, after_both}
-use Rattle.auc_centre.specs.Adds.{Adds, IsTold, numbers_of}
+use Rattle.auc_centre.specs.Adds.{AddsAtDesk, IsTold, numbers_of}
 
 -- no call adds nothing
-pub adds_nothing : (a : PassValue) (i : ℕ) → Adds a i [] [] a
+pub adds_nothing : (a : PassValue) (i : ℕ) → AddsAtDesk a i [] [] a
 adds_nothing a i = record {
   made = sym (append-nil (entries_of i a.deeds));
   ordered = in_order_none;
@@ -44,7 +44,7 @@ released_more : (old new : PassValue) (i : ℕ) (rest : List Deed) → new.deeds
 released_more old new i rest grows = sym (ap (released_of i) grows ∙ flat_map-append (released_in i) old.deeds rest)
 
 -- two stretches, one after the other, are one
-pub adds_both : (a b c : PassValue) (i : ℕ) (es fs : List Entry) (ws vs : List (ℕ × Stop)) → Adds a i es ws b → Adds b i fs vs c → Adds a i (es ++ fs) (ws ++ vs) c
+pub adds_both : (a b c : PassValue) (i : ℕ) (es fs : List Entry) (ws vs : List (ℕ × Stop)) → AddsAtDesk a i es ws b → AddsAtDesk b i fs vs c → AddsAtDesk a i (es ++ fs) (ws ++ vs) c
 adds_both a b c i es fs ws vs first second =
     let Told : List (ℕ × Stop) → List ℕ → ℕ → Type 0 = IsTold (slice_index a.tops i) in
     let still = λ (n : ℕ) (told : Told ws (released_of i b.deeds) n). subst (λ (ns : List ℕ). Told (ws ++ vs) ns n) (released_more b c i second.grows.0 second.grows.1) (told_still (slice_index a.tops i) ws vs (released_of i b.deeds) (released_of i second.grows.0) n told) in

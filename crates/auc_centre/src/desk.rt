@@ -5,7 +5,7 @@ ghost use Rattle.auc_draw.specs.Book.{IsOf};
 ghost use Rattle.auc_vector.specs.Centre.{AnswersResync};
 ghost use Rattle.auc_centre.specs.Kept.{subs_of};
 
-use crate::kept::Kept;
+use crate::kept::RoundKeeper;
 use crate::naming::Naming;
 use crate::settling::settle;
 use auc_disk::Disk;
@@ -25,7 +25,7 @@ pub struct Desk<'a, L: Naming<D>, D: Disk + Drop> {
     /// The round's book.
     pub book: &'a Book,
     /// The round's keeper.
-    pub keeper: &'a Mutex<Kept<L, D>>,
+    pub keeper: &'a Mutex<RoundKeeper<L, D>>,
     /// The pass is of the named table, and has the named greatest numbers.
     pub ghost own: { IsOf L.table L.tops pass.now },
     /// So is the book, and has them.
@@ -36,7 +36,7 @@ pub struct Desk<'a, L: Naming<D>, D: Disk + Drop> {
 
 impl<L: Naming<D>, D: Disk + Drop> Centre for Desk<'_, L, D> {
     ghost use Rattle.std.specs.Prelude.{length, slice_index};
-    ghost use Rattle.auc_centre.specs.Adds.{Adds, kept_by};
+    ghost use Rattle.auc_centre.specs.Adds.{AddsAtDesk, kept_by};
     ghost use Rattle.auc_centre.specs.InnerAdds.{adds_nothing, adds_both};
 
     ghost subs = { λ d. length d.book.now.openings };
@@ -47,7 +47,7 @@ impl<L: Naming<D>, D: Disk + Drop> Centre for Desk<'_, L, D> {
 
     ghost name = { λ d. d.pass.ghost_name };
 
-    ghost goes = { λ a i es ws b. Adds a.pass.now i es ws b.pass.now };
+    ghost goes = { λ a i es ws b. AddsAtDesk a.pass.now i es ws b.pass.now };
 
     ghost stays = { λ a i. adds_nothing a.pass.now i };
 

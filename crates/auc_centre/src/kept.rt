@@ -14,12 +14,12 @@ use std::marker::{Model, PhantomData};
 
 /// A round's keeper, of which all that holds since the opening is known to whoever takes it out of its lock.
 #[derive(Drop)]
-pub struct Kept<L: Naming<D>, D: Disk + Drop> {
+pub struct RoundKeeper<L: Naming<D>, D: Disk + Drop> {
     keeper: Keeper<D>,
     named: PhantomData<L>,
 }
 
-impl<L: Naming<D>, D: Disk + Drop> Model for Kept<L, D> {
+impl<L: Naming<D>, D: Disk + Drop> Model for RoundKeeper<L, D> {
     ghost use Rattle.auc_keeper.specs.Keeper.{KeeperState};
     ghost use Rattle.auc_centre.specs.Kept.{IsKept};
 
@@ -30,13 +30,13 @@ impl<L: Naming<D>, D: Disk + Drop> Model for Kept<L, D> {
     ghost invariant = { λ k. IsKept D.seen D.may_leave D.faults D.moment D.left_since L.table L.passes L.opening k.keeper };
 }
 
-impl<L: Naming<D>, D: Disk + Drop> Kept<L, D> {
+impl<L: Naming<D>, D: Disk + Drop> RoundKeeper<L, D> {
     /// Takes the keeper of the round that `L` names.
-    pub fn new(keeper: Keeper<D>) -> Kept<L, D>
+    pub fn new(keeper: Keeper<D>) -> RoundKeeper<L, D>
         requires { IsKept D.seen D.may_leave D.faults D.moment D.left_since L.table L.passes L.opening keeper }
         ensures { result ≡ keeper }
     {
-        Kept {
+        RoundKeeper {
             keeper,
             named: PhantomData,
         }

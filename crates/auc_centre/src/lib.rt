@@ -8,7 +8,7 @@
 //! claims the next one.
 //!
 //! Contracts see of the calls at a desk what they added to what the pass did (`specs/Adds`). [`Naming`] names the table
-//! of the round's words, so that a worker knows after a desk's end that its pass is still one of the book. [`Kept`] is
+//! of the round's words, so that a worker knows after a desk's end that its pass is still one of the book. [`RoundKeeper`] is
 //! the keeper in its lock, and says what holds of it since the round began.
 //!
 //! Nothing here takes memory or can fail. A draw waits for the lock, and for the limit or the stop.
@@ -21,5 +21,5 @@ mod naming;
 mod settling;
 
 pub use desk::Desk;
-pub use kept::Kept;
+pub use kept::RoundKeeper;
 pub use naming::Naming;

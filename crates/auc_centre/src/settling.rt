@@ -8,7 +8,7 @@ ghost use Rattle.auc_draw.specs.Deeds.{entries_of, AreInOrder};
 ghost use Rattle.auc_centre.specs.Kept.{subs_of};
 ghost use Rattle.auc_centre.specs.InnerSteps.{Settles, Tries};
 
-use crate::kept::Kept;
+use crate::kept::RoundKeeper;
 use crate::naming::Naming;
 use auc_disk::Disk;
 use auc_draw::{Book, Pass, Release};
@@ -21,7 +21,7 @@ pub(crate) fn settle<L: Naming<D>, D: Disk + Drop, R: Wait>(
     rt: &R,
     pass: &mut Pass,
     book: &Book,
-    keeper: &Mutex<Kept<L, D>>,
+    keeper: &Mutex<RoundKeeper<L, D>>,
     sub: u32,
     n: u64,
 ) -> Result<u64, CentreRefusal>

@@ -47,8 +47,8 @@ abbrev pub standing : ℕ → ℕ → ℕ
 standing top word = min word top
 
 -- a reply names the number that stands at a top and a word, and then the SEQ
-abbrev pub Names : ℕ → ℕ → ℕ → ℕ → ℕ → Type 0
-Names top word seq_ms seen seq = (seen ≡ standing top word) × (seq ≡ seq_ms)
+abbrev pub NamesNumber : ℕ → ℕ → ℕ → ℕ → ℕ → Type 0
+NamesNumber top word seq_ms seen seq = (seen ≡ standing top word) × (seq ≡ seq_ms)
 
 -- the reply to a resynchronisation at a top and a word (TS 33.102 §6.3.5 and Annex C.2.1): the number is below the SEQ
 -- and moves to it; it isn't below, and the next number is at most 2 ^ 28 above the SEQ; or the next number is further
@@ -56,9 +56,9 @@ Names top word seq_ms seen seq = (seen ≡ standing top word) × (seq ≡ seq_ms
 abbrev pub RepliesToResync : ℕ → ℕ → ℕ → Reply → Type 0
 RepliesToResync top word seq_ms (Number n) = ⊥
 RepliesToResync top word seq_ms (Exhausted w) = ⊥
-RepliesToResync top word seq_ms (Moved from to) = Names top word seq_ms from to × (from < to)
-RepliesToResync top word seq_ms (InRange seen seq) = Names top word seq_ms seen seq × (seq ≤ seen) × (seen + 1 ≤ seq + 2 ^ 28)
-RepliesToResync top word seq_ms (Beyond seen seq) = Names top word seq_ms seen seq × (seq + 2 ^ 28 < seen + 1)
+RepliesToResync top word seq_ms (Moved from to) = NamesNumber top word seq_ms from to × (from < to)
+RepliesToResync top word seq_ms (InRange seen seq) = NamesNumber top word seq_ms seen seq × (seq ≤ seen) × (seen + 1 ≤ seq + 2 ^ 28)
+RepliesToResync top word seq_ms (Beyond seen seq) = NamesNumber top word seq_ms seen seq × (seq + 2 ^ 28 < seen + 1)
 
 -- the reply to an event at its subscriber's top and word
 abbrev pub Replies : ℕ → ℕ → Event → Reply → Type 0

@@ -21,7 +21,7 @@ use Rattle.auc_draw.specs.Deeds.{entries_of, claims_of}
 use Rattle.auc_draw.specs.declared.rule.Note.{Note}
 use Rattle.auc_draw.specs.Book.{AreTaken}
 use Rattle.auc_draw.specs.InnerLimits.{opening_note, first_note, stop_at, limit_at, AreTold, IsTold, KeepsLimits}
-use Rattle.auc_draw.specs.InnerRule.{keeper_view, new_view, spent_view, after_split, after_join, lists_view, view_entries, view_claims, all_view_entries, all_view_claims, passes_in, IsCovered, Fits, FitsJoined, Numbers, FitsClaims, Jobs, KeepsNumbers, Keeps, mark_by, marks_in, wide_by, wide_in}
+use Rattle.auc_draw.specs.InnerRule.{keeper_view, new_view, spent_view, after_split, after_join, lists_view, view_entries, view_claims, all_view_entries, all_view_claims, passes_in, IsCovered, FitsWord, FitsJoined, Numbers, FitsClaims, Jobs, KeepsNumbers, Keeps, mark_by, marks_in, wide_by, wide_in}
 use Rattle.auc_draw.proofs.CoverLemmas.{covered_permuted}
 use Rattle.auc_draw.proofs.StepLemmas.{Alike, numbers_still, jobs_still, few_marks}
 use Rattle.auc_draw.proofs.LimitLemmas.{first_same, first_else, still_same, limits_stepped, limits_push, told_none}
@@ -32,7 +32,7 @@ no_pairs : {X : Type 0} (R : X → X → Type 0) → AllPairs R []
 no_pairs R k j d below within = absurd (omega arith)
 
 -- no entries fit at each word
-nothing_fits : (top word active : ℕ) → Fits top word active []
+nothing_fits : (top word active : ℕ) → FitsWord top word active []
 nothing_fits top word active = record { marked = omega arith; ordered = no_pairs IsBefore; below = all_nil (λ e. reach_of e ≤ word) }
 
 -- no claims fit at each word
@@ -66,7 +66,7 @@ opens_numbers openings tops rest note low = record {
   numbers = record {
     bounded = λ i known. omega (arith, low i known, word i known);
     covers = λ i known. nothing_covers (slice_index tops i) (slice_index openings i) (slice_index words i) (word i known);
-    fits = λ j v at i known. one (λ u. Fits (slice_index tops i) (slice_index words i) u.active (entries_of i u.own)) (nothing_fits (slice_index tops i) (slice_index words i) 0) j v at;
+    fits = λ j v at i known. one (λ u. FitsWord (slice_index tops i) (slice_index words i) u.active (entries_of i u.own)) (nothing_fits (slice_index tops i) (slice_index words i) 0) j v at;
     rests = λ j v at i known. one (λ u. All (FitsJoined (slice_index tops i) i) u.joined) (all_nil (FitsJoined (slice_index tops i) i)) j v at;
   };
   jobs = record {
@@ -167,7 +167,7 @@ numbers_push openings tops s r rule bare = record {
   bounded = λ i known. omega (arith, rule.bounded i known, sum_push (λ v. marks_in (slice_index tops i) (view_entries i v)) s.views r);
   covers = λ i known. subst (λ (es : List Entry). IsCovered (slice_index tops i) (slice_index openings i) (slice_index s.words i) es) (sym (flat_push (view_entries i) s.views r (bare_entries i r bare))) (rule.covers i known);
   fits = λ j u at i known. ⊎_elim (λ (old : get_elem? s.views j ≡ some u). rule.fits j u old i known)
-      (λ (new : r ≡ u). subst (λ (x : View). Fits (slice_index tops i) (slice_index s.words i) x.active (entries_of i x.own)) new (subst (λ (ds : List Deed). Fits (slice_index tops i) (slice_index s.words i) r.active (entries_of i ds)) (sym bare.own) (nothing_fits (slice_index tops i) (slice_index s.words i) r.active)))
+      (λ (new : r ≡ u). subst (λ (x : View). FitsWord (slice_index tops i) (slice_index s.words i) x.active (entries_of i x.own)) new (subst (λ (ds : List Deed). FitsWord (slice_index tops i) (slice_index s.words i) r.active (entries_of i ds)) (sym bare.own) (nothing_fits (slice_index tops i) (slice_index s.words i) r.active)))
       (at_snoc s.views r u j at);
   rests = λ j u at i known. ⊎_elim (λ (old : get_elem? s.views j ≡ some u). rule.rests j u old i known)
       (λ (new : r ≡ u). subst (λ (x : View). All (FitsJoined (slice_index tops i) i) x.joined) new (subst (λ (l : List (List Deed)). All (FitsJoined (slice_index tops i) i) l) (sym bare.joined) (all_nil (FitsJoined (slice_index tops i) i))))
@@ -386,9 +386,9 @@ numbers_joined openings tops s v w other rule meets = record {
   );
   covers = λ i known. covered_permuted (slice_index tops i) (slice_index openings i) (slice_index s.words i) (all_view_entries i s.views) (all_view_entries i (after s v w other)) (rule.covers i known) (joined_view_entries i s v w other meets);
   fits = λ j u at i known. ⊎_elim
-      (λ (gone : spent_view ≡ u). subst (λ (x : View). Fits (slice_index tops i) (slice_index s.words i) x.active (entries_of i x.own)) gone (nothing_fits (slice_index tops i) (slice_index s.words i) 0))
+      (λ (gone : spent_view ≡ u). subst (λ (x : View). FitsWord (slice_index tops i) (slice_index s.words i) x.active (entries_of i x.own)) gone (nothing_fits (slice_index tops i) (slice_index s.words i) 0))
       (λ (rest : ((j ≡ 0) × (after_join v w ≡ u)) ⊎ ((j ≢ 0) × (get_elem? s.views j ≡ some u))). ⊎_elim
-      (λ (mine : (j ≡ 0) × (after_join v w ≡ u)). subst (λ (x : View). Fits (slice_index tops i) (slice_index s.words i) x.active (entries_of i x.own)) mine.1 (rule.fits 0 v meets.first i known))
+      (λ (mine : (j ≡ 0) × (after_join v w ≡ u)). subst (λ (x : View). FitsWord (slice_index tops i) (slice_index s.words i) x.active (entries_of i x.own)) mine.1 (rule.fits 0 v meets.first i known))
       (λ (theirs : (j ≢ 0) × (get_elem? s.views j ≡ some u)). rule.fits j u theirs.1 i known) rest)
       (one_of s v w other j u at);
   rests = λ j u at i known. ⊎_elim

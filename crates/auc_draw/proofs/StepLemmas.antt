@@ -22,7 +22,7 @@ use Rattle.auc_draw.specs.declared.rule.Deed.{Deed}
 use Rattle.auc_draw.specs.declared.rule.Deed.TheVariants.{Made, Claimed}
 use Rattle.auc_draw.specs.declared.rule.View.{View}
 use Rattle.auc_draw.specs.Deeds.{entries_by, entries_of, claims_by, claims_of}
-use Rattle.auc_draw.specs.InnerRule.{view_entries, view_claims, all_view_entries, passes_in, IsCovered, Fits, FitsJoined, Numbers, FitsClaims, Jobs, Seats, KeepsNumbers, Keeps, AllowsDraw, AllowsJump, AllowsClaim, mark_by, marks_in, wide_by, wide_in, with_deed, draws, jumps, jump_entry, claims}
+use Rattle.auc_draw.specs.InnerRule.{view_entries, view_claims, all_view_entries, passes_in, IsCovered, FitsWord, FitsJoined, Numbers, FitsClaims, Jobs, Seats, KeepsNumbers, Keeps, AllowsDraw, AllowsJump, AllowsClaim, mark_by, marks_in, wide_by, wide_in, with_deed, draws, jumps, jump_entry, claims}
 use Rattle.auc_draw.specs.InnerLimits.{first_note}
 use Rattle.auc_draw.proofs.LimitLemmas.{first_same, plain_told, made_plain, claimed_plain, IsPlain, still_set, limits_stepped}
 use Rattle.auc_draw.proofs.CoverLemmas.{Leads, draw_leads, move_leads, look_leads, covered_more, covered_permuted}
@@ -126,10 +126,10 @@ numbers_still openings tops s id v w words rule at word alike same = record {
       let still = flat_set_same (view_entries i) s.views id v w at (entries_alike i v w alike (same i)) in
       subst (λ (n : ℕ). IsCovered (slice_index tops i) (slice_index openings i) n (all_view_entries i (slice_set s.views id w))) (sym (word i known))
       (subst (λ (es : List Entry). IsCovered (slice_index tops i) (slice_index openings i) (slice_index s.words i) es) (sym still) (rule.covers i known));
-  fits = λ j u there i known. subst (λ (n : ℕ). Fits (slice_index tops i) n u.active (entries_of i u.own)) (sym (word i known)) (⊎_elim
-      (λ (mine : (j ≡ id) × (w ≡ u)). subst (λ (x : View). Fits (slice_index tops i) (slice_index s.words i) x.active (entries_of i x.own)) mine.1
-      (subst (λ (a : ℕ). Fits (slice_index tops i) (slice_index s.words i) a (entries_of i w.own)) (sym alike.active)
-      (subst (λ (es : List Entry). Fits (slice_index tops i) (slice_index s.words i) v.active es) (sym (same i)) (rule.fits id v at i known))))
+  fits = λ j u there i known. subst (λ (n : ℕ). FitsWord (slice_index tops i) n u.active (entries_of i u.own)) (sym (word i known)) (⊎_elim
+      (λ (mine : (j ≡ id) × (w ≡ u)). subst (λ (x : View). FitsWord (slice_index tops i) (slice_index s.words i) x.active (entries_of i x.own)) mine.1
+      (subst (λ (a : ℕ). FitsWord (slice_index tops i) (slice_index s.words i) a (entries_of i w.own)) (sym alike.active)
+      (subst (λ (es : List Entry). FitsWord (slice_index tops i) (slice_index s.words i) v.active es) (sym (same i)) (rule.fits id v at i known))))
       (λ (theirs : (j ≢ id) × (get_elem? s.views j ≡ some u)). rule.fits j u theirs.1 i known)
       (at_set s.views id j w u there));
   rests = λ j u there i known. ⊎_elim
@@ -173,7 +173,7 @@ pub record Adds (top word next : ℕ) (e : Entry) (es : List Entry) (total : ℕ
   pub leads : Leads top word next e
 
 -- what fits at a word fits at a higher one
-pub fits_higher : (top word next active : ℕ) (es : List Entry) → word ≤ next → Fits top word active es → Fits top next active es
+pub fits_higher : (top word next active : ℕ) (es : List Entry) → word ≤ next → FitsWord top word active es → FitsWord top next active es
 fits_higher top word next active es up fits = record {
   marked = fits.marked;
   ordered = fits.ordered;
@@ -181,7 +181,7 @@ fits_higher top word next active es up fits = record {
 }
 
 -- and a further entry
-fits_more : (top word next total active : ℕ) (e : Entry) (es : List Entry) → active ≡ 1 → Fits top word active es → Adds top word next e es total → Fits top next active (es ++ e ∷ [])
+fits_more : (top word next total active : ℕ) (e : Entry) (es : List Entry) → active ≡ 1 → FitsWord top word active es → Adds top word next e es total → FitsWord top next active (es ++ e ∷ [])
 fits_more top word next total active e es one fits adds = record {
   marked = omega (arith, one, adds.marked, sum_by-append (mark_by top) es (e ∷ []), sum_by-cons (mark_by top) e []);
   ordered = all_pairs_push IsBefore es e fits.ordered (λ k d within. adds.before (get_or es k d) (fits.below k d within));
@@ -210,7 +210,7 @@ numbers_more openings tops s id v sub next e st adds = record {
   bounded = λ i known. bounded_at i known (i == sub) refl;
   covers = λ i known. covered_at i known (i == sub) refl;
   fits = λ j u at i known. ⊎_elim
-      (λ (mine : (j ≡ id) × (w ≡ u)). subst (λ (x : View). Fits (slice_index tops i) (slice_index (slice_set s.words sub next) i) x.active (entries_of i x.own)) mine.1 (mine_fits i known (i == sub) refl))
+      (λ (mine : (j ≡ id) × (w ≡ u)). subst (λ (x : View). FitsWord (slice_index tops i) (slice_index (slice_set s.words sub next) i) x.active (entries_of i x.own)) mine.1 (mine_fits i known (i == sub) refl))
       (λ (theirs : (j ≢ id) × (get_elem? s.views j ≡ some u)). others_fit u i (rule.fits j u theirs.1 i known) (i == sub) refl)
       (at_set s.views id j w u at);
   rests = λ j u at i known. ⊎_elim
@@ -267,30 +267,30 @@ numbers_more openings tops s id v sub next e st adds = record {
         let word = word_at s.words sub i next sized false other in
         omega (arith, rule.bounded i known, marks_of i, ap (marks_in (slice_index tops i)) (entries_with_other i sub v e (not_same i other)), word)
 
-    others_fit : (u : View) → (i : ℕ) → Fits (slice_index tops i) (slice_index s.words i) u.active (entries_of i u.own) → (b : Bool) → (i == sub) ≡ b → Fits (slice_index tops i) (slice_index (slice_set s.words sub next) i) u.active (entries_of i u.own)
+    others_fit : (u : View) → (i : ℕ) → FitsWord (slice_index tops i) (slice_index s.words i) u.active (entries_of i u.own) → (b : Bool) → (i == sub) ≡ b → FitsWord (slice_index tops i) (slice_index (slice_set s.words sub next) i) u.active (entries_of i u.own)
     others_fit u i fits true same =
         let here = eqb-true i sub same in
         fits_higher (slice_index tops i) (slice_index s.words i) (slice_index (slice_set s.words sub next) i) u.active (entries_of i u.own) (omega (arith, adds.rises, ap (λ k. slice_index s.words k) here, word_at s.words sub i next sized true same)) fits
     others_fit u i fits false other =
-        let R : ℕ → Type 0 = λ n. Fits (slice_index tops i) n u.active (entries_of i u.own) in
+        let R : ℕ → Type 0 = λ n. FitsWord (slice_index tops i) n u.active (entries_of i u.own) in
         subst R (sym (word_at s.words sub i next sized false other)) fits
 
-    mine_fits : (i : ℕ) → i < length openings → (b : Bool) → (i == sub) ≡ b → Fits (slice_index tops i) (slice_index (slice_set s.words sub next) i) w.active (entries_of i w.own)
+    mine_fits : (i : ℕ) → i < length openings → (b : Bool) → (i == sub) ≡ b → FitsWord (slice_index tops i) (slice_index (slice_set s.words sub next) i) w.active (entries_of i w.own)
     mine_fits i known true same =
         let here = eqb-true i sub same in
         let fits = rule.fits id v st.at sub st.known in
         let more = fits_more (slice_index tops sub) (slice_index s.words sub) next (sum_by (marks_at sub) s.views) v.active e (entries_of sub v.own) st.active fits adds in
-        let P : List Entry → Type 0 = λ es. Fits (slice_index tops sub) next v.active es in
-        let at_sub : Fits (slice_index tops sub) next v.active (entries_of sub w.own) = subst P (sym (entries_same sub v.own e)) more in
-        let Q : ℕ → Type 0 = λ k. Fits (slice_index tops k) next v.active (entries_of k w.own) in
-        let there : Fits (slice_index tops i) next v.active (entries_of i w.own) = subst Q (sym here) at_sub in
-        let R : ℕ → Type 0 = λ n. Fits (slice_index tops i) n v.active (entries_of i w.own) in
+        let P : List Entry → Type 0 = λ es. FitsWord (slice_index tops sub) next v.active es in
+        let at_sub : FitsWord (slice_index tops sub) next v.active (entries_of sub w.own) = subst P (sym (entries_same sub v.own e)) more in
+        let Q : ℕ → Type 0 = λ k. FitsWord (slice_index tops k) next v.active (entries_of k w.own) in
+        let there : FitsWord (slice_index tops i) next v.active (entries_of i w.own) = subst Q (sym here) at_sub in
+        let R : ℕ → Type 0 = λ n. FitsWord (slice_index tops i) n v.active (entries_of i w.own) in
         subst R (sym (word_at s.words sub i next sized true same)) there
     mine_fits i known false other =
         let fits = rule.fits id v st.at i known in
-        let P : List Entry → Type 0 = λ es. Fits (slice_index tops i) (slice_index s.words i) v.active es in
-        let there : Fits (slice_index tops i) (slice_index s.words i) v.active (entries_of i w.own) = subst P (sym (entries_other i sub v.own e (not_same i other))) fits in
-        let R : ℕ → Type 0 = λ n. Fits (slice_index tops i) n v.active (entries_of i w.own) in
+        let P : List Entry → Type 0 = λ es. FitsWord (slice_index tops i) (slice_index s.words i) v.active es in
+        let there : FitsWord (slice_index tops i) (slice_index s.words i) v.active (entries_of i w.own) = subst P (sym (entries_other i sub v.own e (not_same i other))) fits in
+        let R : ℕ → Type 0 = λ n. FitsWord (slice_index tops i) n v.active (entries_of i w.own) in
         subst R (sym (word_at s.words sub i next sized false other)) there
 
 -- and the whole part on numbers

@@ -101,7 +101,7 @@ pub record IsCovered (top opening word : ℕ) (entries : List Entry) : Type 0 wh
   pub stands : (word ≡ opening) ⊎ Any (λ e. last_of e ≡ Some word) entries
 
 -- a seat's own entries of a subscriber whose word this is
-pub record Fits (top word active : ℕ) (entries : List Entry) : Type 0 where
+pub record FitsWord (top word active : ℕ) (entries : List Entry) : Type 0 where
   -- only a pass has a mark, and no more than one
   pub marked : marks_in top entries ≤ active
   pub ordered : IsInOrder entries
@@ -116,7 +116,7 @@ pub record FitsJoined (top i : ℕ) (deeds : List Deed) : Type 0 where
 pub record Numbers (openings tops : List ℕ) (s : State (Unit {0}) View) : Type 0 where
   pub bounded : (i : ℕ) → i < length openings → slice_index s.words i ≤ slice_index tops i + sum_by (λ v. marks_in (slice_index tops i) (view_entries i v)) s.views
   pub covers : (i : ℕ) → i < length openings → IsCovered (slice_index tops i) (slice_index openings i) (slice_index s.words i) (all_view_entries i s.views)
-  pub fits : (j : ℕ) (v : View) → get_elem? s.views j ≡ some v → (i : ℕ) → i < length openings → Fits (slice_index tops i) (slice_index s.words i) v.active (entries_of i v.own)
+  pub fits : (j : ℕ) (v : View) → get_elem? s.views j ≡ some v → (i : ℕ) → i < length openings → FitsWord (slice_index tops i) (slice_index s.words i) v.active (entries_of i v.own)
   pub rests : (j : ℕ) (v : View) → get_elem? s.views j ≡ some v → (i : ℕ) → i < length openings → All (FitsJoined (slice_index tops i) i) v.joined
 
 -- ---- the job word

@@ -5,7 +5,7 @@ use Rattle.std.proofs.lemmas.List.{append_cancel_left}
 use Rattle.auc_cards.specs.Usims.{HaveSecrets}
 use Rattle.auc_core.specs.Step.{CoreState}
 use Rattle.auc_jobs.proofs.Facts.{Applied, event_serves, placed_after, remember_pasts, secrets_after}
-use Rattle.auc_jobs.specs.InnerServing.{Happens, Serves, Stands, before_at}
+use Rattle.auc_jobs.specs.InnerServing.{Happens, ServesLine, JobStands, before_at}
 use Rattle.auc_jobs.specs.InnerWorker.{AreAtDevices}
 use Rattle.auc_subs.specs.Subscriber.{AreSubscribers, tops_of}
 use Rattle.auc_vector.specs.Stretch.{IsStretch}
@@ -33,7 +33,7 @@ none_released = []
 -- it accepted and is its row's, each session is at the device of its subscriber, no word is above the mark, and the greatest numbers
 -- are the rows'
 pub record Holds (set : Setting) (own : List LineRecord) (world : WorldState) (core : CoreState) : Type 0 where
-  pub stands : Stands set.rows (before_at [] [] own) (kept_in core) none_released (usim_of set.rows world)
+  pub stands : JobStands set.rows (before_at [] [] own) (kept_in core) none_released (usim_of set.rows world)
   pub secrets : HaveSecrets set.rows (usim_of set.rows world)
   pub placed : AreAtDevices set.rows world.net
   pub low : AreLow core
@@ -79,7 +79,7 @@ step_gives set own old core e result new next are step holds = record {
     applied : Applied IsStretch kept_in top_in set old new e core next result
     applied = record { applies = step.applied (remember_pasts old.devices); subscribers = are; secrets = holds.secrets; placed = holds.placed; same = step.devices }
 
-    served : Serves (λ sub entries withheld. IsStretch core sub entries withheld next) set.rows (before_at [] [] own) (kept_in next) none_released (usim_of set.rows new)
+    served : ServesLine (λ sub entries withheld. IsStretch core sub entries withheld next) set.rows (before_at [] [] own) (kept_in next) none_released (usim_of set.rows new)
         (λ added. Happens set (before_at [] [] own) old.net e (packet_in result) added new.net) (own ++ line ∷ [])
     served = event_serves IsStretch kept_in top_in set old new e core next result [] [] own (own ++ line ∷ []) none_released applied (λ sub inside. ap (λ (tops : List ℕ). slice_index tops sub) holds.tops) step.asked holds.stands refl
 

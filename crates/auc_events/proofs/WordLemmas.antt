@@ -8,7 +8,7 @@ use Rattle.auc_history.specs.History.{IsLegal, IsMove, covered, covers, drawn_by
 use Rattle.auc_history.specs.declared.entry.Entry.{Entry}
 use Rattle.auc_history.specs.declared.entry.Entry.TheVariants.{Drawn, Moved, Look}
 use Rattle.auc_vector.specs.Centre.{unless_spent}
-use Rattle.auc_vector.specs.Notes.{AnswersNumber, Asked, AskedOf, Asking, entries_noted, entries_resynced, kept_noted}
+use Rattle.auc_vector.specs.Notes.{AnswersNumber, AskedCentre, AskedOf, Asking, entries_noted, entries_resynced, kept_noted}
 use Rattle.auc_vector.specs.Stretch.{IsStretch, kept_at}
 use Rattle.auc_vector.specs.declared.notes.Notes.{Notes}
 use Rattle.auc_vector.specs.declared.notes.NumberNote.{NumberNote}
@@ -130,7 +130,7 @@ own_low core next request notes asked low =
     (All-append (λ e. All (λ n. n ≤ top + 1) (drawn_by e)) (entries_resynced kept notes.resync) (entries_noted kept notes.number) (resync_low top kept notes.resync)
     (number_low top kept (slice_index next.words request.sub) notes.number asked.number keeps))))
 
-pub words_low : (core next : CoreState) (o : Option Asking) (notes : Notes) → Asked IsStretch kept_in top_in o notes core next → AreLow core → AreLow next
+pub words_low : (core next : CoreState) (o : Option Asking) (notes : Notes) → AskedCentre IsStretch kept_in top_in o notes core next → AreLow core → AreLow next
 words_low core next None notes asked low sub = stays_low core next sub (asked.0 sub) (low sub)
 words_low core next (Some request) notes asked low sub = by (eqb_tells request.sub sub)
   where

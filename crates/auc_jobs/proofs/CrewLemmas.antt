@@ -42,11 +42,11 @@ use Rattle.auc_world.proofs.Facts.{accepted-append, job_quiet}
 use Rattle.auc_vector.specs.declared.parts.Vector.{Vector as AuthVector}
 use Rattle.auc_jobs.specs.declared.claiming.ClaimedJob.{ClaimedJob}
 use Rattle.auc_jobs.specs.declared.claiming.WorkerJobs.{WorkerJobs}
-use Rattle.auc_jobs.specs.InnerClaims.{Turn, turns, entries_of_turn, IsGiven, IsSettledAt, IsPrinted, ClaimsAre, HasServed, IsLast, IsDone, AreCollected}
+use Rattle.auc_jobs.specs.InnerClaims.{ServedTurn, turns, entries_of_turn, IsGiven, IsSettledAt, IsPrinted, ClaimsAre, HasServed, IsLast, IsDone, AreCollected}
 use Rattle.auc_jobs.specs.InnerKeeping.{told_stop}
 use Rattle.auc_jobs.specs.InnerRound.{AreSettled, AreServed, GoesByLimits, IsSettled, left_in, left_on}
 use Rattle.auc_jobs.specs.InnerServing.{before_at}
-use Rattle.auc_jobs.specs.InnerSharing.{Shared, Begins, IsServable}
+use Rattle.auc_jobs.specs.InnerSharing.{Shared, IsAfter, IsServable}
 use Rattle.auc_jobs.specs.InnerUsims.{OwnDevices, usim_in}
 use Rattle.auc_jobs.specs.Serving.{AreAllKnown, AreKnown}
 use Rattle.auc_jobs.proofs.LimitLemmas.{AreLimited, above_limit, flat_limited, flat_lines, withholds_by}
@@ -112,7 +112,7 @@ places_turns : (earlier : List LineRecord) (done : List ClaimedJob) → places_o
 places_turns earlier [] = refl
 places_turns earlier (c ∷ done) = ap (λ (ks : List ℕ). c.job ∷ ks) (places_turns (earlier ++ c.served.lines) done)
 
-abbrev all_turns : List WorkerJobs → List Turn
+abbrev all_turns : List WorkerJobs → List ServedTurn
 all_turns all = flat_map (λ d. turns [] d.jobs.items) all
 
 abbrev all_jobs : List WorkerJobs → List ClaimedJob
@@ -147,7 +147,7 @@ all_times shared early (d ∷ all) j low each =
     ∙ sym (times-append j (places d.jobs.items) (places (all_jobs all))) ∙ ap (times j) (sym (map-append (λ c. c.job) d.jobs.items (all_jobs all)))
 
 -- what holds of each worker's turns, or jobs, holds of all
-gather_turns : (P : Turn → Type 0) (all : List WorkerJobs) → All (λ d. All P (turns [] d.jobs.items)) all → All P (all_turns all)
+gather_turns : (P : ServedTurn → Type 0) (all : List WorkerJobs) → All (λ d. All P (turns [] d.jobs.items)) all → All P (all_turns all)
 gather_turns P [] each = All-nil P
 gather_turns P (d ∷ all) each =
     All-append P (turns [] d.jobs.items) (all_turns all) (All-head (λ x. All P (turns [] x.jobs.items)) d all each) (gather_turns P all (All-tail (λ x. All P (turns [] x.jobs.items)) d all each))
@@ -166,22 +166,22 @@ of_jobs P earlier (c ∷ done) each =
 -- ---- a worker's earlier lines are of lower jobs
 
 -- some turn of a lower job reports the word
-abbrev Lower : List Turn → ℕ → ℕ → ℕ → Type 0
-Lower all sub word job = (u : Turn) × Contains all u × (u.claimed.job < job) × (is_reported sub word u.claimed.served.lines ≡ true)
+abbrev Lower : List ServedTurn → ℕ → ℕ → ℕ → Type 0
+Lower all sub word job = (u : ServedTurn) × Contains all u × (u.claimed.job < job) × (is_reported sub word u.claimed.served.lines ≡ true)
 
 or_cases : (a b : Bool) → (a || b) ≡ true → (a ≡ true) ⊎ (b ≡ true)
 or_cases true b is = inl refl
 or_cases false b is = inr is
 
 -- if a worker's earlier lines report a word, a turn of a lower job does
-abbrev IsFromLower : List Turn → ℕ → ℕ → Turn → Type 0
+abbrev IsFromLower : List ServedTurn → ℕ → ℕ → ServedTurn → Type 0
 IsFromLower all sub word t = is_reported sub word t.earlier ≡ true → Lower all sub word t.claimed.job
 
-lower_from : (all : List Turn) (sub word : ℕ) (earlier : List LineRecord) (done : List ClaimedJob) → AllPairs (λ b c. b.job < c.job) done
+lower_from : (all : List ServedTurn) (sub word : ℕ) (earlier : List LineRecord) (done : List ClaimedJob) → AllPairs (λ b c. b.job < c.job) done
     → (is_reported sub word earlier ≡ true → All (λ c. Lower all sub word c.job) done) → All (Contains all) (turns earlier done) → All (IsFromLower all sub word) (turns earlier done)
 lower_from all sub word earlier [] rising before within = All-nil (IsFromLower all sub word)
 lower_from all sub word earlier (c ∷ done) rising before within =
-    let t : Turn = record { earlier = earlier; claimed = c } in
+    let t : ServedTurn = record { earlier = earlier; claimed = c } in
     All-cons (IsFromLower all sub word) t (turns (earlier ++ c.served.lines) done)
     (λ said. All-head (λ b. Lower all sub word b.job) c done (before said))
     (lower_from all sub word (earlier ++ c.served.lines) done (AllPairs-tail (λ a b. a.job < b.job) c done rising)
@@ -192,7 +192,7 @@ lower_from all sub word earlier (c ∷ done) rising before within =
     (or_cases (is_reported sub word earlier) (is_reported sub word c.served.lines) (sym (list_any-append (reports sub word) earlier c.served.lines) ∙ said)))
     (All-tail (Contains all) t (turns (earlier ++ c.served.lines) done) within))
 
-lower_all : (shared : Shared) (early : List LineRecord) (every : List Turn) (sub word : ℕ) (all : List WorkerJobs) → All (λ d. HasServed shared early d.pass d.jobs.items) all
+lower_all : (shared : Shared) (early : List LineRecord) (every : List ServedTurn) (sub word : ℕ) (all : List WorkerJobs) → All (λ d. HasServed shared early d.pass d.jobs.items) all
     → All (Contains every) (all_turns all) → All (IsFromLower every sub word) (all_turns all)
 lower_all shared early every sub word [] each within = All-nil (IsFromLower every sub word)
 lower_all shared early every sub word (d ∷ all) each within =
@@ -202,13 +202,13 @@ lower_all shared early every sub word (d ∷ all) each within =
     (lower_all shared early every sub word all (All-tail (λ x. HasServed shared early x.pass x.jobs.items) d all each) (all_back (Contains every) (turns [] d.jobs.items) (all_turns all) within))
 
 -- in the jobs' order they stand before
-abbrev lines_in : List Turn → List LineRecord
+abbrev lines_in : List ServedTurn → List LineRecord
 lines_in ts = flat_map (λ t. t.claimed.served.lines) ts
 
-reported_in : (sub word : ℕ) (ts : List Turn) (u : Turn) → Contains ts u → is_reported sub word u.claimed.served.lines ≡ true → is_reported sub word (lines_in ts) ≡ true
+reported_in : (sub word : ℕ) (ts : List ServedTurn) (u : ServedTurn) → Contains ts u → is_reported sub word u.claimed.served.lines ≡ true → is_reported sub word (lines_in ts) ≡ true
 reported_in sub word [] u (k, within, at) said = absurd (omega (arith, within))
 reported_in sub word (t ∷ ts) u (zero, within, at) said =
-    list_any-append (reports sub word) t.claimed.served.lines (lines_in ts) ∙ ap (λ b. b || is_reported sub word (lines_in ts)) (ap (λ (x : Turn). is_reported sub word x.claimed.served.lines) at ∙ said)
+    list_any-append (reports sub word) t.claimed.served.lines (lines_in ts) ∙ ap (λ b. b || is_reported sub word (lines_in ts)) (ap (λ (x : ServedTurn). is_reported sub word x.claimed.served.lines) at ∙ said)
 reported_in sub word (t ∷ ts) u (suc k, within, at) said =
     list_any-append (reports sub word) t.claimed.served.lines (lines_in ts) ∙ or_right (is_reported sub word t.claimed.served.lines) (is_reported sub word (lines_in ts)) (reported_in sub word ts u (k, omega (arith, within), at) said)
   where
@@ -217,10 +217,10 @@ reported_in sub word (t ∷ ts) u (suc k, within, at) said =
     or_right false b is = is
 
 -- the first place of some in the jobs' order, and the others
-place_first : (t : Turn) (ts : List Turn) (from count : ℕ) → places_of (t ∷ ts) ≡ up from (suc count) → t.claimed.job ≡ from
+place_first : (t : ServedTurn) (ts : List ServedTurn) (from count : ℕ) → places_of (t ∷ ts) ≡ up from (suc count) → t.claimed.job ≡ from
 place_first t ts from count is = cc
 
-place_rest : (t : Turn) (ts : List Turn) (from count : ℕ) → places_of (t ∷ ts) ≡ up from (suc count) → places_of ts ≡ up (from + 1) count
+place_rest : (t : ServedTurn) (ts : List ServedTurn) (from count : ℕ) → places_of (t ∷ ts) ≡ up from (suc count) → places_of ts ≡ up (from + 1) count
 place_rest t ts from count is = cc
 
 job_first : (c : ClaimedJob) (done : List ClaimedJob) (from count : ℕ) → places (c ∷ done) ≡ up from (suc count) → c.job ≡ from
@@ -229,7 +229,7 @@ job_first c done from count is = cc
 job_rest : (c : ClaimedJob) (done : List ClaimedJob) (from count : ℕ) → places (c ∷ done) ≡ up from (suc count) → places done ≡ up (from + 1) count
 job_rest c done from count is = cc
 
-places_low : (from count : ℕ) (ts : List Turn) → places_of ts ≡ up from count → All (λ t. from ≤ t.claimed.job) ts
+places_low : (from count : ℕ) (ts : List ServedTurn) → places_of ts ≡ up from count → All (λ t. from ≤ t.claimed.job) ts
 places_low from count [] is = All-nil (λ t. from ≤ t.claimed.job)
 places_low from zero (t ∷ ts) is = let no : ⊥ = cc in absurd no
 places_low from (suc count) (t ∷ ts) is =
@@ -237,10 +237,10 @@ places_low from (suc count) (t ∷ ts) is =
     (all_from (λ u. from + 1 ≤ u.claimed.job) (λ u. from ≤ u.claimed.job) ts (λ u low. omega (arith, low)) (places_low (from + 1) count ts (place_rest t ts from count is)))
 
 -- the turns as pieces
-abbrev pieces_in : List Turn → List Piece
+abbrev pieces_in : List ServedTurn → List Piece
 pieces_in ts = map (λ t. record { earlier = t.earlier; lines = t.claimed.served.lines }) ts
 
-reports_earlier : (sub : ℕ) (front ts : List Turn) (from count : ℕ) → places_of ts ≡ up from count
+reports_earlier : (sub : ℕ) (front ts : List ServedTurn) (from count : ℕ) → places_of ts ≡ up from count
     → ((word : ℕ) → All (IsFromLower (front ++ ts) sub word) ts) → ReportsAreEarlier sub (lines_in front) (pieces_in ts)
 reports_earlier sub front [] from count placed lower = tt
 reports_earlier sub front (t ∷ ts) from zero placed lower = let no : ⊥ = cc in absurd no
@@ -253,7 +253,7 @@ reports_earlier sub front (t ∷ ts) from (suc count) placed lower = (
   subst (λ (ls : List LineRecord). ReportsAreEarlier sub ls (pieces_in ts))
       (flat_map-append (λ x. x.claimed.served.lines) front (t ∷ []) ∙ ap (λ (ls : List LineRecord). lines_in front ++ ls) (append-nil t.claimed.served.lines))
       (reports_earlier sub (front ++ t ∷ []) ts (from + 1) count (place_rest t ts from count placed)
-      (λ word. subst (λ (all : List Turn). All (IsFromLower all sub word) ts) (sym (append_assoc front (t ∷ []) ts))
+      (λ word. subst (λ (all : List ServedTurn). All (IsFromLower all sub word) ts) (sym (append_assoc front (t ∷ []) ts))
       (All-tail (IsFromLower (front ++ t ∷ ts) sub word) t ts (lower word)))),
 )
 
@@ -268,7 +268,7 @@ quiet_from : (shared : Shared) (early earlier : List LineRecord) (done : List Cl
     → All (λ t. IsQuietAt shared.jobs t.earlier t.claimed.job) (turns earlier done)
 quiet_from shared early earlier [] apart rising below given quiet = All-nil (λ t. IsQuietAt shared.jobs t.earlier t.claimed.job)
 quiet_from shared early earlier (c ∷ done) apart rising below given quiet =
-    let t : Turn = record { earlier = earlier; claimed = c } in
+    let t : ServedTurn = record { earlier = earlier; claimed = c } in
     let here = All-head (IsGiven shared early) t (turns (earlier ++ c.served.lines) done) given in
     All-cons (λ t. IsQuietAt shared.jobs t.earlier t.claimed.job) t (turns (earlier ++ c.served.lines) done) (All-head (λ b. IsQuietAt shared.jobs earlier b.job) c done quiet)
     (quiet_from shared early (earlier ++ c.served.lines) done apart (AllPairs-tail (λ a b. a.job < b.job) c done rising) (All-tail (λ b. b.job < length shared.jobs) c done below)
@@ -297,7 +297,7 @@ first_job all jobs job asked from place reads is there =
 jobs_on : (all jobs : List (List Line)) (job : List Line) (from : ℕ) → AreJobsFrom all (job ∷ jobs) from → AreJobsFrom all jobs (from + 1)
 jobs_on all jobs job from reads i next at = reads (suc i) next (ap (slice_get all) (let there : from + suc i ≡ from + 1 + i = omega arith in there) ∙ at)
 
-pieces_give : (shared : Shared) (early : List LineRecord) (jobs : List (List Line)) (ts : List Turn) (from : ℕ) → places_of ts ≡ up from (length jobs) → AreJobsFrom shared.jobs jobs from
+pieces_give : (shared : Shared) (early : List LineRecord) (jobs : List (List Line)) (ts : List ServedTurn) (from : ℕ) → places_of ts ≡ up from (length jobs) → AreJobsFrom shared.jobs jobs from
     → All (IsGiven shared early) ts → All (λ t. IsQuietAt shared.jobs t.earlier t.claimed.job) ts
     → (nets : List Net) × PiecesGive shared.set early shared.state.kept jobs (pieces_in ts) nets × (map (λ t. t.claimed.served.sessions) ts ≡ map job_sessions nets)
     × (map (λ t. left_on t.claimed.served.devices) ts ≡ map left_in nets)
@@ -315,8 +315,8 @@ pieces_give shared early (job ∷ jobs) (t ∷ ts) from placed reads given quiet
         subst (λ (x : List Line). JobGives shared.set (before_at early t.earlier []) (start_of shared.set shared.state.kept x) x t.claimed.served.lines here.net) (sym same) here.given,
         more,
       ),
-      ap (λ (j : JobSessions). j ∷ map (λ (x : Turn). x.claimed.served.sessions) ts) here.ends ∙ ap (λ (js : List JobSessions). job_sessions here.net ∷ js) ends,
-      ap (λ (l : List HomeRow × List Keeps). l ∷ map (λ (x : Turn). left_on x.claimed.served.devices) ts) here.left
+      ap (λ (j : JobSessions). j ∷ map (λ (x : ServedTurn). x.claimed.served.sessions) ts) here.ends ∙ ap (λ (js : List JobSessions). job_sessions here.net ∷ js) ends,
+      ap (λ (l : List HomeRow × List Keeps). l ∷ map (λ (x : ServedTurn). left_on x.claimed.served.devices) ts) here.left
           ∙ ap (λ (ls : List (List HomeRow × List Keeps)). left_in here.net ∷ ls) left,
     )
 
@@ -340,7 +340,7 @@ counts : (j : ℕ) (done : List ClaimedJob) → sum_by (λ c. cond (c.job == j) 
 counts j [] = refl
 counts j (c ∷ done) = sum_by-cons (λ x. cond (x.job == j) 1 0) c done ∙ ap (λ k. cond (c.job == j) 1 0 + k) (counts j done) ∙ sym (times-cons j c.job (places done))
 
-same_jobs : {X : Type 0} (f : ClaimedJob → X) (all : List ClaimedJob) (ts : List Turn) (done : List ClaimedJob) (from count : ℕ) → ((j : ℕ) → times j (places all) ≤ 1) → places_of ts ≡ up from count → places done ≡ up from count
+same_jobs : {X : Type 0} (f : ClaimedJob → X) (all : List ClaimedJob) (ts : List ServedTurn) (done : List ClaimedJob) (from count : ℕ) → ((j : ℕ) → times j (places all) ≤ 1) → places_of ts ≡ up from count → places done ≡ up from count
     → All (λ t. Contains all t.claimed) ts → All (Contains all) done → map (λ t. f t.claimed) ts ≡ map f done
 same_jobs f all [] [] from count once placed sorted has in_all = refl
 same_jobs f all [] (c ∷ done) from zero once placed sorted has in_all = let no : ⊥ = cc in absurd no
@@ -369,16 +369,16 @@ entries_all shared early sub (d ∷ all) each =
     ∙ ap (λ (es : List Entry). flat_map (entries_of_turn sub) (turns [] d.jobs.items) ++ es) (entries_all shared early sub all (All-tail (λ x. HasServed shared early x.pass x.jobs.items) d all each))
     ∙ sym (flat_map-append (entries_of_turn sub) (turns [] d.jobs.items) (all_turns all))
 
-entries_in : (sub : ℕ) (ts : List Turn) → flat_map (entries_of_turn sub) ts ≡ all_entries (entries_of_pieces sub (pieces_in ts))
+entries_in : (sub : ℕ) (ts : List ServedTurn) → flat_map (entries_of_turn sub) ts ≡ all_entries (entries_of_pieces sub (pieces_in ts))
 entries_in sub [] = refl
 entries_in sub (t ∷ ts) = ap (λ (es : List Entry). entries_of_turn sub t ++ es) (entries_in sub ts)
 
-orders_in : (sub : ℕ) (ts : List Turn) → All (λ t. IsInOrder (entries_of_turn sub t)) ts → All IsInOrder (entries_of_pieces sub (pieces_in ts))
+orders_in : (sub : ℕ) (ts : List ServedTurn) → All (λ t. IsInOrder (entries_of_turn sub t)) ts → All IsInOrder (entries_of_pieces sub (pieces_in ts))
 orders_in sub [] each = All-nil IsInOrder
 orders_in sub (t ∷ ts) each =
     All-cons IsInOrder (entries_of_turn sub t) (entries_of_pieces sub (pieces_in ts)) (All-head (λ x. IsInOrder (entries_of_turn sub x)) t ts each) (orders_in sub ts (All-tail (λ x. IsInOrder (entries_of_turn sub x)) t ts each))
 
-lines_pieces : (ts : List Turn) → lines_of_pieces (pieces_in ts) ≡ map (λ t. t.claimed.served.lines) ts
+lines_pieces : (ts : List ServedTurn) → lines_of_pieces (pieces_in ts) ≡ map (λ t. t.claimed.served.lines) ts
 lines_pieces [] = refl
 lines_pieces (t ∷ ts) = ap (λ (ls : List (List LineRecord)). t.claimed.served.lines ∷ ls) (lines_pieces ts)
 
@@ -441,7 +441,7 @@ own_turns : (shared : Shared) (early earlier : List LineRecord) (done : List Cla
     → All (λ c. All (IsOwn shared.set.rows) c.served.lines) done
 own_turns shared early earlier [] known given = All-nil (λ c. All (IsOwn shared.set.rows) c.served.lines)
 own_turns shared early earlier (c ∷ done) known given =
-    let t : Turn = record { earlier = earlier; claimed = c } in
+    let t : ServedTurn = record { earlier = earlier; claimed = c } in
     let here = All-head (IsGiven shared early) t (turns (earlier ++ c.served.lines) done) given in
     All-cons (λ c. All (IsOwn shared.set.rows) c.served.lines) c done
     (job_own shared.set (before_at early earlier []) (start_of shared.set shared.state.kept here.asked) here.net here.asked c.served.lines (all_at (AreKnown shared.set.rows) shared.jobs c.job here.asked known here.there) here.given)
@@ -478,14 +478,14 @@ module _ (shared : Shared) (early : List LineRecord) (openings : List ℕ) (book
   abbrev n : ℕ
   n = length shared.jobs
 
-  abbrev ts : List Turn
+  abbrev ts : List ServedTurn
   ts = all_turns all
 
   -- what holds of each worker's jobs, or turns, holds of all
   of_all_jobs : (P : ClaimedJob → Type 0) → ((d : WorkerJobs) → HasServed shared early d.pass d.jobs.items → All P d.jobs.items) → All P (all_jobs all)
   of_all_jobs P f = gather_jobs P all (all_from (λ d. HasServed shared early d.pass d.jobs.items) (λ d. All P d.jobs.items) all f a.served)
 
-  of_all_turns : (P : Turn → Type 0) → ((d : WorkerJobs) → HasServed shared early d.pass d.jobs.items → All P (turns [] d.jobs.items)) → All P ts
+  of_all_turns : (P : ServedTurn → Type 0) → ((d : WorkerJobs) → HasServed shared early d.pass d.jobs.items → All P (turns [] d.jobs.items)) → All P ts
   of_all_turns P f = gather_turns P all (all_from (λ d. HasServed shared early d.pass d.jobs.items) (λ d. All P (turns [] d.jobs.items)) all f a.served)
 
   below_jobs : All (λ c. c.job < n) (all_jobs all)
@@ -500,7 +500,7 @@ module _ (shared : Shared) (early : List LineRecord) (openings : List ℕ) (book
   in_place : Placed n ts
   in_place = placed n ts once_turns (of_all_turns (λ t. t.claimed.job < n) (λ d s. of_jobs (λ c. c.job < n) [] d.jobs.items s.below))
 
-  abbrev os : List Turn
+  abbrev os : List ServedTurn
   os = in_place.ordered
 
   times_same : (j : ℕ) → times j (places sorted) ≡ times j (places (all_jobs all))
@@ -635,7 +635,7 @@ pub record Closing (id : TableId) (shared : Shared) (openings : List ℕ) (book 
   pub sized : length openings ≡ length shared.set.rows
 
 assembles : (id : TableId) (shared : Shared) (openings : List ℕ) (book : BookValue) (keeper : KeeperValue) (all : List WorkerJobs) (passes : List PassValue) (closed : ClosedValue) (done sorted : List ClaimedJob)
-    → Closing id shared openings book keeper all passes closed done sorted → (early : List LineRecord) → Begins shared early → Assembles shared early openings book keeper all closed sorted
+    → Closing id shared openings book keeper all passes closed done sorted → (early : List LineRecord) → IsAfter shared early → Assembles shared early openings book keeper all closed sorted
 assembles id shared openings book keeper all passes closed done sorted c early begins =
     let finish : All (HasFinishedAt shared early) all = both (IsDone id book.tops shared) (λ d. d.is_whole ≡ true) (HasFinishedAt shared early) all
     (λ d is whole. ((is.whole whole).served early begins, (is.whole whole).last)) c.finished c.collected.whole in
@@ -655,7 +655,7 @@ assembles id shared openings book keeper all passes closed done sorted c early b
 -- the round is served
 pub served_by_workers : (id : TableId) (shared : Shared) (openings : List ℕ) (book : BookValue) (keeper : KeeperValue) (all : List WorkerJobs) (passes : List PassValue) (closed : ClosedValue) (done sorted : List ClaimedJob) (records : List (List LineRecord)) (usims : List OwnDevices) (sessions : List JobSessions) (words : List ℕ)
     → Closing id shared openings book keeper all passes closed done sorted → records ≡ map (λ c. c.served.lines) sorted → usims ≡ map (λ c. c.served.devices) sorted → sessions ≡ map (λ c. c.served.sessions) sorted → words ≡ closed.words
-    → (early : List LineRecord) → Begins shared early → AreServed shared.set early shared.state.kept openings shared.jobs records usims sessions words
+    → (early : List LineRecord) → IsAfter shared early → AreServed shared.set early shared.state.kept openings shared.jobs records usims sessions words
 served_by_workers id shared openings book keeper all passes closed done sorted records usims sessions words c lines own came ends early begins =
     subst (λ (ws : List ℕ). AreServed shared.set early shared.state.kept openings shared.jobs records usims sessions ws) (sym ends)
     (subst (λ (js : List JobSessions). AreServed shared.set early shared.state.kept openings shared.jobs records usims js closed.words) (sym came)

@@ -24,7 +24,7 @@ use Rattle.auc_server.specs.declared.rows.Row.TheVariants as row
 use Rattle.auc_subs.specs.Subscriber.{top_at}
 use Rattle.auc_subs.specs.declared.row.Row.{Row as SubscriberRow}
 use Rattle.auc_vector.specs.Centre.{IsWordKept, unless_spent}
-use Rattle.auc_vector.specs.Notes.{Asked, AskedOf, Asking, AnswersNumber, AnswersReport, entries_noted, entries_resynced, kept_noted}
+use Rattle.auc_vector.specs.Notes.{AskedCentre, AskedOf, Asking, AnswersNumber, AnswersReport, entries_noted, entries_resynced, kept_noted}
 use Rattle.auc_vector.specs.declared.notes.Notes.{Notes}
 use Rattle.auc_vector.specs.declared.notes.NumberNote.{NumberNote}
 use Rattle.auc_vector.specs.declared.notes.NumberNote.TheVariants as number
@@ -34,7 +34,7 @@ use Rattle.auc_world.specs.Came.{AsksWhatItNeeds, AsksIn, Presented, TellsNotes,
 use Rattle.auc_record.specs.Event.{Came, asked_in, device_in, number_for, number_in, resync_for, resync_in, usim_in}
 use Rattle.auc_record.specs.Entries.{entries_of_line, entries_of_number, entries_of_resync, is_reported}
 use Rattle.auc_world.specs.Given.{Before, CentreAnswers, EventGives, IsCentreAsked, IsNumberAnswer, NumberFollows, PlainGives, RelayGives, behind, packet_of, resync_note}
-use Rattle.auc_world.specs.Happened.{Delivery, Told, changed_in, delivery_at, delivery_of, peer_turn}
+use Rattle.auc_world.specs.Happened.{Delivery, ToldEvent, changed_in, delivery_at, delivery_of, peer_turn}
 use Rattle.auc_record.specs.Lines.{held_by}
 use Rattle.auc_world.specs.Net.{Net, device_place, keeps_at, other, packet_at, session_place}
 use Rattle.auc_subs.specs.Setting.{Setting}
@@ -58,7 +58,7 @@ presented_sub None = None
 presented_sub (Some p) = Some p.delivery.session.sub
 
 -- what came of an event names whom it asked and whose device it reached
-pub record Agrees (set : Setting) (w : Net) (told : Told) (c : Came) (a : Option Asking) (p : Option Presented) (Needs : Type 0) : Type 0 where
+pub record Agrees (set : Setting) (w : Net) (told : ToldEvent) (c : Came) (a : Option Asking) (p : Option Presented) (Needs : Type 0) : Type 0 where
   pub asks : asked_in c ≡ asked_sub a
   pub silent : a ≡ None → number_in c ≡ None
   pub reaches : device_in c ≡ presented_sub p
@@ -73,7 +73,7 @@ no_presented : (q : Presented) → ◌≡◌ {A = Option Presented} None (Some q
 no_presented q e = cc
 
 -- it concerns nobody
-quiet : (set : Setting) (w : Net) (told : Told) (c : Came) (Needs : Type 0) → asked_in c ≡ None → number_in c ≡ None → device_in c ≡ None → Agrees set w told c None None Needs
+quiet : (set : Setting) (w : Net) (told : ToldEvent) (c : Came) (Needs : Type 0) → asked_in c ≡ None → number_in c ≡ None → device_in c ≡ None → Agrees set w told c None None Needs
 quiet set w told c Needs none nothing nowhere = record {
   asks = none;
   silent = λ e. nothing;
@@ -84,13 +84,13 @@ quiet set w told c Needs none nothing nowhere = record {
 }
 
 -- in a session
-quiet_in : (set : Setting) (w : Net) (told : Told) (does : Session → Came) (o : Option Session) (Needs : Type 0)
+quiet_in : (set : Setting) (w : Net) (told : ToldEvent) (does : Session → Came) (o : Option Session) (Needs : Type 0)
     → ((s : Session) → (asked_in (does s) ≡ None) × (number_in (does s) ≡ None) × (device_in (does s) ≡ None)) → Agrees set w told (came_in does o) None None Needs
 quiet_in set w told does None Needs each = quiet set w told (came_in does None) Needs refl refl refl
 quiet_in set w told does (Some s) Needs each = quiet set w told (does s) Needs (each s).0 (each s).1 (each s).2
 
 -- a delivery to a server
-at_server : (set : Setting) (w : Net) (told : Told) (o : Option ServerEnd) (d : Delivery) (Needs : Type 0) → d.session.server ≡ o → (Needs → AsksIn set w end.Server told (Some d))
+at_server : (set : Setting) (w : Net) (told : ToldEvent) (o : Option ServerEnd) (d : Delivery) (Needs : Type 0) → d.session.server ≡ o → (Needs → AsksIn set w end.Server told (Some d))
     → Agrees set w told (came_at_server set w told o) (asking_at set w told o) None Needs
 at_server set w told None d Needs is from = quiet set w told (came_at_server set w told None) Needs refl refl refl
 at_server set w told (Some s) d Needs is from = record {
@@ -110,7 +110,7 @@ at_server set w told (Some s) d Needs is from = record {
         one a b e = cc
 
 -- a delivery to a peer
-at_peer : (set : Setting) (w : Net) (told : Told) (d : Delivery) (o : Option Subscription) (Needs : Type 0)
+at_peer : (set : Setting) (w : Net) (told : ToldEvent) (d : Delivery) (o : Option Subscription) (Needs : Type 0)
     → Agrees set w told (came_at_peer set w d told o) None (presented_at w d told o) Needs
 at_peer set w told d None Needs = quiet set w told (came_at_peer set w d told None) Needs refl refl refl
 at_peer set w told d (Some device) Needs = record {
@@ -129,7 +129,7 @@ at_peer set w told d (Some device) Needs = record {
     one a b e = cc
 
 -- a delivery
-delivered_agrees : (set : Setting) (w : Net) (told : Told) (at' : End) (packet place : ℕ) (x : Option Session) (y : Option SentPacket)
+delivered_agrees : (set : Setting) (w : Net) (told : ToldEvent) (at' : End) (packet place : ℕ) (x : Option Session) (y : Option SentPacket)
     → Agrees set w told (came_delivered set w at' told y (delivery_of packet place x y)) (asking_in set w at' told (delivery_of packet place x y))
     (presented_in w at' told (delivery_of packet place x y)) (AsksIn set w at' told (delivery_of packet place x y))
 delivered_agrees set w told end.Server packet place None None = quiet set w told _ _ refl refl refl
@@ -143,7 +143,7 @@ delivered_agrees set w told end.Server packet place (Some s) (Some sent) =
 delivered_agrees set w told end.Peer packet place (Some s) (Some sent) =
     at_peer set w told (record { place = place; session = s; bytes = sent.bytes; packet = packet }) (slice_get w.devices s.device) _
 
-nowhere_agrees : (set : Setting) (w : Net) (told : Told) (at' : End) (y : Option SentPacket)
+nowhere_agrees : (set : Setting) (w : Net) (told : ToldEvent) (at' : End) (y : Option SentPacket)
     → Agrees set w told (came_delivered set w at' told y None) (asking_in set w at' told None) (presented_in w at' told None) (AsksIn set w at' told None)
 nowhere_agrees set w told end.Server None = quiet set w told _ _ refl refl refl
 nowhere_agrees set w told end.Peer None = quiet set w told _ _ refl refl refl
@@ -151,13 +151,13 @@ nowhere_agrees set w told end.Server (Some sent) = quiet set w told _ _ refl ref
 nowhere_agrees set w told end.Peer (Some sent) = quiet set w told _ _ refl refl refl
 
 -- a changed copy of a packet
-changed_agrees : (set : Setting) (w : Net) (told : Told) (there : Option SentPacket) (copy : Option (List ℕ)) → Agrees set w told (came_changed w.packets there copy) None None (Unit {0})
+changed_agrees : (set : Setting) (w : Net) (told : ToldEvent) (there : Option SentPacket) (copy : Option (List ℕ)) → Agrees set w told (came_changed w.packets there copy) None None (Unit {0})
 changed_agrees set w told None copy = quiet set w told (came_changed w.packets None copy) (Unit {0}) refl refl refl
 changed_agrees set w told (Some sent) None = quiet set w told (came_changed w.packets (Some sent) None) (Unit {0}) refl refl refl
 changed_agrees set w told (Some sent) (Some bytes) = quiet set w told (came_changed w.packets (Some sent) (Some bytes)) (Unit {0}) refl refl refl
 
 -- each event
-pub agrees : (set : Setting) (w : Net) (e : Event) (told : Told) → Agrees set w told (came set w e told) (asking_of set w e told) (presented_by w e told) (AsksWhatItNeeds set w e told)
+pub agrees : (set : Setting) (w : Net) (e : Event) (told : ToldEvent) → Agrees set w told (came set w e told) (asking_of set w e told) (presented_by w e told) (AsksWhatItNeeds set w e told)
 agrees set w (event.Open line) told = by (session_place w.sessions line.session) (device_place set.rows w.devices line.sub)
   where
     by : (old place : Option ℕ) → Agrees set w told (came_opened old place) None None (Unit {0})
@@ -193,14 +193,14 @@ agrees set w (event.Deliver session at' packet) told = at_number (session_place 
     at_number (Some place) = delivered_agrees set w told at' packet place (slice_get w.sessions place) (packet_at w.packets packet)
 
 -- what the answers are
-pub numbers_told : (told : Told) (c : Came) (sub : ℕ) → asked_in c ≡ Some sub → TellsNotes told c → (number_in c ≡ told.notes.number) × (resync_in c ≡ told.notes.resync)
+pub numbers_told : (told : ToldEvent) (c : Came) (sub : ℕ) → asked_in c ≡ Some sub → TellsNotes told c → (number_in c ≡ told.notes.number) × (resync_in c ≡ told.notes.resync)
 numbers_told told (Ok note) sub e tells = (ap (λ (n : Notes). n.number) (sym tells), ap (λ (n : Notes). n.resync) (sym tells))
 numbers_told told (Err why) sub e tells = absurd (none sub e)
   where
     none : (s : ℕ) → ◌≡◌ {A = Option ℕ} None (Some s) → ⊥
     none s e = cc
 
-pub usim_told : (told : Told) (c : Came) (sub : ℕ) → device_in c ≡ Some sub → TellsNotes told c → usim_in c ≡ told.notes.usim
+pub usim_told : (told : ToldEvent) (c : Came) (sub : ℕ) → device_in c ≡ Some sub → TellsNotes told c → usim_in c ≡ told.notes.usim
 usim_told told (Ok note) sub e tells = ap (λ (n : Notes). n.usim) (sym tells)
 usim_told told (Err why) sub e tells = absurd (none sub e)
   where
@@ -374,8 +374,8 @@ module _ {S : Type 0} (goes : S → ℕ → List Entry → List (ℕ × Stop) �
     told = λ i. subst (λ (k : Option ℕ). IsTold i k (before ++ Happening r ∷ [])) (sym (same i)) (told_event i (kept old i) before r None (of_none i r (rw asks refl)).0 (told i));
   }
 
-  pub says_event : (old new : S) (a : Option Asking) (told : Told) (before : List LineRecord) (r : EventRecord) → asked_in r.result ≡ asked_sub a → TellsNotes told r.result
-      → Asked goes kept top a told.notes old new → AreTold (kept old) before → Says (λ i es ws. goes old i es ws new) (kept new) before (Happening r)
+  pub says_event : (old new : S) (a : Option Asking) (told : ToldEvent) (before : List LineRecord) (r : EventRecord) → asked_in r.result ≡ asked_sub a → TellsNotes told r.result
+      → AskedCentre goes kept top a told.notes old new → AreTold (kept old) before → Says (λ i es ws. goes old i es ws new) (kept new) before (Happening r)
   says_event old new None told before r asks tells asked are = says_unasked old new before r asks asked.0 asked.1 are
   says_event old new (Some request) told before r asks tells asked are =
       says_asked old new request told.notes before r asks (numbers_told told r.result request.sub asks tells) asked are

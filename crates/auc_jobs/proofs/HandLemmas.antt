@@ -12,7 +12,7 @@ use Rattle.auc_peer.specs.Attributes.{checkcode, differs}
 use Rattle.auc_peer.specs.Rows.{peer_row}
 use Rattle.auc_peer.specs.Subscription.{Subscription}
 use Rattle.auc_peer.specs.Table.{accepted as accepted_turn, accepting, by_answer, client, genuine, keys_at, master_at, opened, own_code, peer_does}
-use Rattle.auc_peer.specs.Turn.{Asked as AsksDevice, asked}
+use Rattle.auc_peer.specs.Turn.{AskedUsim as AsksDevice, asked}
 use Rattle.auc_peer.specs.declared.decrypted.Decrypted.{Decrypted}
 use Rattle.auc_peer.specs.declared.decrypted.Decrypted.TheVariants as decrypted
 use Rattle.auc_peer.specs.declared.peer.Challenge.{Challenge}
@@ -36,7 +36,7 @@ use Rattle.auc_world.proofs.Facts.{accepted-append}
 use Rattle.auc_record.specs.Event.{Came, device_in, sqn_accepted, usim_in}
 use Rattle.auc_world.specs.Came.{Presented}
 use Rattle.auc_world.specs.Given.{AsksUsim, Before, UsimNotes, past_before, past_by, past_of}
-use Rattle.auc_world.specs.Happened.{Told, peer_turn}
+use Rattle.auc_world.specs.Happened.{ToldEvent, peer_turn}
 use Rattle.auc_record.specs.Lines.{accepted, accepted_by}
 use Rattle.auc_world.specs.Net.{device_place, keeps_at}
 use Rattle.auc_subs.specs.Setting.{Setting}
@@ -95,7 +95,7 @@ turn_note key s keeps p seen r c n inner is =
     ap (λ (x : PeerRow). (peer_does key s keeps p seen x (Some n) inner).1.notes.usim) is ∙ noted_is p seen c (answer_noted s.secret c n) inner
 
 -- so the told note is the one of its answer
-told_note : (set : Setting) (told : Told) (keeps : Keeps) (p : Presented) (c : Challenge) (n : UsimNote) → told.notes.usim ≡ Some n → p.challenge ≡ Some c → p.challenge ≡ asked (peer_row p.delivery.session.peer told.seen)
+told_note : (set : Setting) (told : ToldEvent) (keeps : Keeps) (p : Presented) (c : Challenge) (n : UsimNote) → told.notes.usim ≡ Some n → p.challenge ≡ Some c → p.challenge ≡ asked (peer_row p.delivery.session.peer told.seen)
     → told.notes.usim ≡ (peer_turn set p.device keeps p.delivery.session told).1.notes.usim → told.notes.usim ≡ Some (note_of (answer_noted p.device.secret c n))
 told_note set told keeps p c n is handed row_is turn =
     turn ∙ ap (λ (o : Option UsimNote). (peer_does set.key p.device keeps p.delivery.session.peer told.seen (peer_row p.delivery.session.peer told.seen) o told.inner).1.notes.usim) is
@@ -111,7 +111,7 @@ past_noted bits opening sqns (answer.Accepted res ck ik ak amf sqn) = fold_push 
 -- ---- the USIMs
 
 -- what an event that reaches a device says of its USIM
-pub record Hands (rows : List Row) (w new : WorldState) (told : Told) (c : Came) (p : Presented) : Type 0 where
+pub record Hands (rows : List Row) (w new : WorldState) (told : ToldEvent) (c : Came) (p : Presented) : Type 0 where
   pub set : Setting
   pub at : device_place rows w.net.devices p.delivery.session.sub ≡ Some p.delivery.session.device
   pub same : new.net.devices ≡ w.net.devices
@@ -123,7 +123,7 @@ pub record Hands (rows : List Row) (w new : WorldState) (told : Told) (c : Came)
   pub turn : told.notes.usim ≡ (peer_turn set p.device (keeps_at w.net p.delivery.session.device) p.delivery.session told).1.notes.usim
   pub hands : p.challenge ≡ asked (peer_row p.delivery.session.peer told.seen)
 
-module _ (rows : List Row) (w new : WorldState) (told : Told) (c : Came) (p : Presented) (h : Hands rows w new told c p) where
+module _ (rows : List Row) (w new : WorldState) (told : ToldEvent) (c : Came) (p : Presented) (h : Hands rows w new told c p) where
   -- the other places stay
   pub elsewhere : (i : ℕ) → i ≢ p.delivery.session.sub → (o : Option ℕ) → device_place rows w.net.devices i ≡ o → usim_at new.devices o ≡ usim_at w.devices o
   elsewhere i other None is = refl

@@ -12,7 +12,7 @@ use Rattle.auc_peer.specs.declared.device.Device.{Device}
 use Rattle.auc_subs.specs.Subscriber.{AreSubscribers, top_at}
 use Rattle.auc_subs.specs.declared.row.Row.{Row}
 use Rattle.auc_usim.specs.Usim.{Memory}
-use Rattle.auc_vector.specs.Notes.{AnswersNumber, Asked, Asking}
+use Rattle.auc_vector.specs.Notes.{AnswersNumber, AskedCentre, Asking}
 use Rattle.auc_world.proofs.Facts.{IsPresentedAt, OpensAt, places_stay, presented_is_at}
 use Rattle.auc_world.specs.Came.{AsksWhatItNeeds, Presented, TellsNotes, asked_sub, asking_of, came, presented_by}
 use Rattle.auc_record.specs.Event.{Came, asked_in, device_in, number_in}
@@ -27,7 +27,7 @@ use Rattle.auc_record.specs.declared.event.Event.{Event}
 use Rattle.auc_record.specs.declared.event.Event.TheVariants as event
 use Rattle.auc_record.specs.declared.record.LineRecord.{LineRecord}
 use Rattle.auc_record.specs.declared.record.LineRecord.TheVariants.{Event as Happening}
-use Rattle.auc_jobs.specs.InnerServing.{AreTold, Happens, Says, Serves, Stands, before_at}
+use Rattle.auc_jobs.specs.InnerServing.{AreTold, Happens, Says, ServesLine, JobStands, before_at}
 use Rattle.auc_jobs.specs.InnerUsims.{has_usim}
 use Rattle.auc_jobs.specs.InnerWorker.{AreAtDevices, AreForRows}
 use Rattle.auc_jobs.specs.Usims.{AreBehind, HaveSecrets}
@@ -140,7 +140,7 @@ module _ {S : Type 0} (goes : S → ℕ → List Entry → List (ℕ × Stop) �
       by : (o : Option Asking) → asking_of set w.net e a.applies.told ≡ o → IsCentreAsked set o a.applies.told.notes
       by None is = tt
       by (Some request) is =
-          let asked = subst (λ (o : Option Asking). Asked goes kept top o a.applies.told.notes old next) is a.applies.centre in
+          let asked = subst (λ (o : Option Asking). AskedCentre goes kept top o a.applies.told.notes old next) is a.applies.centre in
           let (r, asks, needs) = (agreed a).needs a.applies.drawn request is in
           let here : request.sub < length set.rows =
           subst (λ (o : Option ℕ). IfSome o (λ sub. sub < length set.rows)) (ap asked_in a.applies.is ∙ (agreed a).asks ∙ ap asked_sub is) known in
@@ -160,8 +160,8 @@ module _ {S : Type 0} (goes : S → ℕ → List Entry → List (ℕ × Stop) �
 
   -- what it gives, and what stands then
   pub event_serves : (early beside own lines : List LineRecord) (released : Released) → Applied → ((i : ℕ) → i < length set.rows → top old i ≡ top_at set.rows i) → IfSome (asked_in c) (λ sub. sub < length set.rows)
-      → Stands set.rows (before_at early beside own) (kept old) released (usim_of set.rows w) → lines ≡ own ++ Happening (record { event = e; result = c }) ∷ []
-      → Serves (λ i es ws. goes old i es ws next) set.rows (before_at early beside own) (kept next) released (usim_of set.rows new)
+      → JobStands set.rows (before_at early beside own) (kept old) released (usim_of set.rows w) → lines ≡ own ++ Happening (record { event = e; result = c }) ∷ []
+      → ServesLine (λ i es ws. goes old i es ws next) set.rows (before_at early beside own) (kept next) released (usim_of set.rows new)
       (λ added. Happens set (before_at early beside own) w.net e (packet_in c) added new.net) lines
   event_serves early beside own lines released a most known stands is = record {
     lines = line ∷ [];

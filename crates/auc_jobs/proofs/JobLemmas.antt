@@ -24,7 +24,7 @@ use Rattle.auc_record.specs.Released.{Released, has, AreReleased}
 use Rattle.auc_jobs.specs.InnerUsims.{Presents}
 use Rattle.auc_jobs.specs.Numbers.{AreNumbers}
 use Rattle.auc_jobs.specs.Usims.{AreBehind}
-use Rattle.auc_jobs.specs.InnerServing.{AreTold, IsTold, Stands, Adds, Serves, ServesLines, IsAnswered, AddsGive, GivesVerdict, before_at}
+use Rattle.auc_jobs.specs.InnerServing.{AreTold, IsTold, JobStands, AddsLines, ServesLine, ServesLines, IsAnswered, AddsGive, GivesVerdict, before_at}
 use Rattle.auc_jobs.proofs.LineLemmas.{held_of-append, entries_of_lines-append, numbers_of-append}
 use Rattle.auc_world.proofs.Facts.{accepted-append}
 use Rattle.auc_jobs.proofs.SayingLemmas.{told_quiet}
@@ -113,8 +113,8 @@ no_numbers rows line none sub =
 -- lines that were drawn, after a resynchronisation too
 pub serves_adds : (goes : ℕ → List Entry → List (ℕ × Stop) → Type 0) (rows : List Row) (early beside own new : List LineRecord) (old kept : ℕ → Option ℕ)
     (released : Released) (usims : ℕ → Option Memory) (Gives : List LineRecord → Type 0)
-    → Stands rows (before_at early beside own) old released usims → Adds goes rows kept beside own new Gives
-    → Serves goes rows (before_at early beside own) kept released usims Gives new
+    → JobStands rows (before_at early beside own) old released usims → AddsLines goes rows kept beside own new Gives
+    → ServesLine goes rows (before_at early beside own) kept released usims Gives new
 serves_adds goes rows early beside own new old kept released usims Gives s a = record {
   lines = a.lines;
   added = a.added;
@@ -134,10 +134,10 @@ serves_adds goes rows early beside own new old kept released usims Gives s a = r
 pub serves_more : (goes more whole : ℕ → List Entry → List (ℕ × Stop) → Type 0) (rows : List Row) (early beside own between new : List LineRecord) (mid kept : ℕ → Option ℕ)
     (released : Released) (first_usims usims : ℕ → Option Memory) (First Second Whole : List LineRecord → Type 0)
     → ((i : ℕ) (es fs : List Entry) (ws vs : List (ℕ × Stop)) → goes i es ws → more i fs vs → whole i (es ++ fs) (ws ++ vs))
-    → Serves goes rows (before_at early beside own) mid released first_usims First between
-    → (Stands rows (before_at early beside between) mid released first_usims → Serves more rows (before_at early beside between) kept released usims Second new)
+    → ServesLine goes rows (before_at early beside own) mid released first_usims First between
+    → (JobStands rows (before_at early beside between) mid released first_usims → ServesLine more rows (before_at early beside between) kept released usims Second new)
     → ((front rest : List LineRecord) → First front → Second rest → Whole (front ++ rest))
-    → Serves whole rows (before_at early beside own) kept released usims Whole new
+    → ServesLine whole rows (before_at early beside own) kept released usims Whole new
 serves_more goes more whole rows early beside own between new mid kept released first_usims usims First Second Whole joins first then_more both = record {
   lines = first.lines ++ second.lines;
   added = second.added ∙ ap (λ (lines : List LineRecord). lines ++ second.lines) first.added ∙ append_assoc own first.lines second.lines;
@@ -148,7 +148,7 @@ serves_more goes more whole rows early beside own between new mid kept released 
   stands = second.stands;
 }
   where
-    second : Serves more rows (before_at early beside between) kept released usims Second new
+    second : ServesLine more rows (before_at early beside between) kept released usims Second new
     second = then_more first.stands
 
     here : beside ++ between ≡ (beside ++ own) ++ first.lines
@@ -157,8 +157,8 @@ serves_more goes more whole rows early beside own between new mid kept released 
 -- a presented vector
 pub serves_give : (goes : ℕ → List Entry → List (ℕ × Stop) → Type 0) (set : Setting) (early beside own new : List LineRecord) (kept : ℕ → Option ℕ)
     (released : Released) (old usims : ℕ → Option Memory) (sub n : ℕ) (answer : GiveVerdict) → ((i : ℕ) → goes i [] [])
-    → Stands set.rows (before_at early beside own) kept released old → AddsGive set (before_at early beside own) sub n answer usims new
-    → Serves goes set.rows (before_at early beside own) kept released usims (GivesVerdict set (before_at early beside own) sub n answer) new
+    → JobStands set.rows (before_at early beside own) kept released old → AddsGive set (before_at early beside own) sub n answer usims new
+    → ServesLine goes set.rows (before_at early beside own) kept released usims (GivesVerdict set (before_at early beside own) sub n answer) new
 serves_give goes set early beside own new kept released old usims sub n answer stays s a = record {
   lines = Give sub n answer ∷ [];
   added = a.added;
@@ -186,10 +186,10 @@ pub record ServingLines (goes : ℕ → List Entry → List (ℕ × Stop) → Ty
     (start : Net) (left job : List Line) (lines : List LineRecord) (net : Net) : Type 0 where
   pub goes_on : JobGoesOn set early beside start left job lines net
   pub made : (sub : ℕ) → goes sub (entries_of_lines sub beside lines) (held_of sub lines)
-  pub stands : Stands set.rows (before_at early beside lines) kept released usims
+  pub stands : JobStands set.rows (before_at early beside lines) kept released usims
 
 pub job_none : (goes : ℕ → List Entry → List (ℕ × Stop) → Type 0) (set : Setting) (early beside : List LineRecord) (kept : ℕ → Option ℕ) (released : Released) (usims : ℕ → Option Memory)
-    (net : Net) (left job : List Line) → left ≡ job → ((i : ℕ) → goes i [] []) → Stands set.rows (before_at early beside []) kept released usims
+    (net : Net) (left job : List Line) → left ≡ job → ((i : ℕ) → goes i [] []) → JobStands set.rows (before_at early beside []) kept released usims
     → ServingLines goes set early beside kept released usims net left job [] net
 job_none goes set early beside kept released usims net left job is stays s = record {
   goes_on = λ rest last given. subst (λ (lines : List Line). JobGives set (before_at early beside []) net lines rest last) is given;
@@ -201,8 +201,8 @@ pub job_line : (goes more whole : ℕ → List Entry → List (ℕ × Stop) → 
     (start net moved : Net) (line : Line) (left next job : List Line) (front after : List LineRecord)
     → ((i : ℕ) (es fs : List Entry) (ws vs : List (ℕ × Stop)) → goes i es ws → more i fs vs → whole i (es ++ fs) (ws ++ vs))
     → left ≡ line ∷ next → ServingLines goes set early beside mid released old start left job front net
-    → (Stands set.rows (before_at early beside front) mid released old
-    → Serves more set.rows (before_at early beside front) kept released usims (λ lines. LineGives set (before_at early beside front) net line lines moved) after)
+    → (JobStands set.rows (before_at early beside front) mid released old
+    → ServesLine more set.rows (before_at early beside front) kept released usims (λ lines. LineGives set (before_at early beside front) net line lines moved) after)
     → ServingLines whole set early beside kept released usims start next job after moved
 job_line goes more whole set early beside mid kept released old usims start net moved line left next job front after joins cut serving serves = record {
   goes_on = λ rest last given.
@@ -217,7 +217,7 @@ job_line goes more whole set early beside mid kept released old usims start net 
   stands = line_is.stands;
 }
   where
-    line_is : Serves more set.rows (before_at early beside front) kept released usims (λ lines. LineGives set (before_at early beside front) net line lines moved) after
+    line_is : ServesLine more set.rows (before_at early beside front) kept released usims (λ lines. LineGives set (before_at early beside front) net line lines moved) after
     line_is = serves serving.stands
 
 pub job_all : (goes : ℕ → List Entry → List (ℕ × Stop) → Type 0) (set : Setting) (early beside : List LineRecord) (kept : ℕ → Option ℕ) (released : Released) (usims : ℕ → Option Memory)
@@ -237,12 +237,12 @@ job_all goes set early beside kept released usims start left job lines net none 
 -- ---- lines of which another thing is known
 
 pub serves_as : (goes : ℕ → List Entry → List (ℕ × Stop) → Type 0) (rows : List Row) (before : Before) (kept : ℕ → Option ℕ) (released : Released) (usims : ℕ → Option Memory)
-    (Gives Also : List LineRecord → Type 0) (new : List LineRecord) → ((lines : List LineRecord) → Gives lines → Also lines) → Serves goes rows before kept released usims Gives new
-    → Serves goes rows before kept released usims Also new
+    (Gives Also : List LineRecord → Type 0) (new : List LineRecord) → ((lines : List LineRecord) → Gives lines → Also lines) → ServesLine goes rows before kept released usims Gives new
+    → ServesLine goes rows before kept released usims Also new
 serves_as goes rows before kept released usims Gives Also new also s = record { lines = s.lines; added = s.added; given = also s.lines s.given; made = s.made; stands = s.stands }
 
 -- that they are the added ones
 pub serves_marked : (goes : ℕ → List Entry → List (ℕ × Stop) → Type 0) (rows : List Row) (before : Before) (kept : ℕ → Option ℕ) (released : Released) (usims : ℕ → Option Memory)
-    (Gives : List LineRecord → Type 0) (new : List LineRecord) → Serves goes rows before kept released usims Gives new
-    → Serves goes rows before kept released usims (λ lines. (new ≡ before.own ++ lines) × Gives lines) new
+    (Gives : List LineRecord → Type 0) (new : List LineRecord) → ServesLine goes rows before kept released usims Gives new
+    → ServesLine goes rows before kept released usims (λ lines. (new ≡ before.own ++ lines) × Gives lines) new
 serves_marked goes rows before kept released usims Gives new s = record { lines = s.lines; added = s.added; given = (s.added, s.given); made = s.made; stands = s.stands }

@@ -34,7 +34,7 @@ use Rattle.auc_jobs.specs.InnerClaims.{HaveWorked, IsDone}
 use Rattle.auc_jobs.specs.InnerKeeping.{CanKeep, StaysNear, TellsStop, told_stop}
 use Rattle.auc_jobs.specs.InnerRound.{GoesByLimits, LeadsOn}
 use Rattle.auc_jobs.specs.InnerSharing.{IsServable, IsShared, Shared}
-use Rattle.auc_jobs.specs.Round.{DrewFull, IsJournalOf, LeavesMore, Serves}
+use Rattle.auc_jobs.specs.Round.{DrewFull, IsJournalOf, LeavesMore, ServesRound}
 use Rattle.auc_jobs.specs.State.{Standing, StandsAt}
 use Rattle.auc_jobs.proofs.LineLemmas.{some_at}
 use Rattle.auc_jobs.proofs.StoppingLemmas.{fault_told, full_told, jobs_drawn, number_held}
@@ -208,7 +208,7 @@ pub served_round : {D : Type 0} (seen : D → Option (List ℕ)) (may_leave : D 
     (done : RoundPieces) (result : Result Ran NoMemory) → IfOk result (λ ran. (early : List LineRecord) → StandsAt set early state → LeadsOn set done.stop early state jobs ran.round done.words next)
     → IfOk result (λ ran. (ran.round.jobs ≡ done.jobs.records) × (ran.vectors ≡ done.jobs.vectors) × (ran.stop ≡ done.stop))
     → after.imsis ≡ map (λ row. row.imsi) set.rows → GoesByLimits set done.stop done.jobs.records (limits_of journal) done.words (limits_of after) → StaysNear seen may_leave moment left_since journal done.words after
-    → IfOk result (λ ran. (early : List LineRecord) → StandsAt set early state → Serves seen may_leave moment left_since set early state jobs ran.round ran.stop journal next after)
+    → IfOk result (λ ran. (early : List LineRecord) → StandsAt set early state → ServesRound seen may_leave moment left_since set early state jobs ran.round ran.stop journal next after)
 served_round seen may_leave moment left_since set state next jobs journal after done (Ok ran) lawful parts subscribers limits near = λ early stands.
     let leads : LeadsOn set ran.stop early state jobs ran.round done.words next =
     subst (λ (stop : Option Stop). LeadsOn set stop early state jobs ran.round done.words next) (sym parts.2) (lawful early stands) in

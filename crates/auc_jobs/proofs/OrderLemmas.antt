@@ -9,7 +9,7 @@ use Rattle.auc_history.specs.declared.entry.Entry.{Entry}
 use Rattle.auc_history.specs.Split.{times}
 use Rattle.auc_history.proofs.Facts.{times-cons, times-append, AllPairs-head, AllPairs-tail}
 use Rattle.auc_jobs.specs.declared.claiming.ClaimedJob.{ClaimedJob}
-use Rattle.auc_jobs.specs.InnerClaims.{Turn}
+use Rattle.auc_jobs.specs.InnerClaims.{ServedTurn}
 
 -- so many numbers from one on
 abbrev pub up : ℕ → ℕ → List ℕ
@@ -20,18 +20,18 @@ up_push : (from count : ℕ) → up from (suc count) ≡ up from count ++ (from 
 up_push from zero = ap (λ (k : ℕ). k ∷ []) (let same : from ≡ from + 0 = omega arith in same)
 up_push from (suc count) = ap (λ (ks : List ℕ). from ∷ ks) (up_push (from + 1) count ∙ ap (λ (k : ℕ). up (from + 1) count ++ k ∷ []) (let same : from + 1 + count ≡ from + suc count = omega arith in same))
 
-abbrev pub places_of : List Turn → List ℕ
+abbrev pub places_of : List ServedTurn → List ℕ
 places_of ts = map (λ t. t.claimed.job) ts
 
 -- a turn taken out
-record Cut (n : ℕ) (ts : List Turn) : Type 0 where
-  pub front : List Turn
-  pub turn : Turn
-  pub back : List Turn
+record Cut (n : ℕ) (ts : List ServedTurn) : Type 0 where
+  pub front : List ServedTurn
+  pub turn : ServedTurn
+  pub back : List ServedTurn
   pub is : ts ≡ front ++ turn ∷ back
   pub key : turn.claimed.job ≡ n
 
-cut : (n : ℕ) (ts : List Turn) → 1 ≤ times n (places_of ts) → Cut n ts
+cut : (n : ℕ) (ts : List ServedTurn) → 1 ≤ times n (places_of ts) → Cut n ts
 cut n [] some = absurd (omega (arith, some))
 cut n (t ∷ ts) some = by (λ k. cut n ts k) (t.claimed.job == n) refl
   where
@@ -39,16 +39,16 @@ cut n (t ∷ ts) some = by (λ k. cut n ts k) (t.claimed.job == n) refl
     by go true same = record { front = []; turn = t; back = ts; is = refl; key = eqb-true t.claimed.job n same }
     by go false other =
         let rest : Cut n ts = go (omega (arith, some, times-cons n t.claimed.job (places_of ts), ap {B = ℕ} (λ b. cond b 1 0) other)) in
-        record { front = t ∷ rest.front; turn = rest.turn; back = rest.back; is = ap (λ (us : List Turn). t ∷ us) rest.is; key = rest.key }
+        record { front = t ∷ rest.front; turn = rest.turn; back = rest.back; is = ap (λ (us : List ServedTurn). t ∷ us) rest.is; key = rest.key }
 
 -- tasks of the first jobs, each once, in the jobs' order
-pub record Placed (n : ℕ) (ts : List Turn) : Type 0 where
-  pub ordered : List Turn
+pub record Placed (n : ℕ) (ts : List ServedTurn) : Type 0 where
+  pub ordered : List ServedTurn
   pub same : IsPermutation ts ordered
-  pub flat : (f : Turn → List Entry) → IsPermutation (flat_map f ts) (flat_map f ordered)
+  pub flat : (f : ServedTurn → List Entry) → IsPermutation (flat_map f ts) (flat_map f ordered)
   pub keyed : places_of ordered ≡ up 0 n
 
-none_there : (n : ℕ) (ts : List Turn) → times n (places_of ts) ≡ 0 → All (λ t. t.claimed.job ≢ n) ts
+none_there : (n : ℕ) (ts : List ServedTurn) → times n (places_of ts) ≡ 0 → All (λ t. t.claimed.job ≢ n) ts
 none_there n [] none = All-nil (λ t. t.claimed.job ≢ n)
 none_there n (t ∷ ts) none =
     All-cons (λ u. u.claimed.job ≢ n) t ts (λ same. omega (arith, none, times-cons n t.claimed.job (places_of ts), ap {B = ℕ} (λ b. cond b 1 0) (eq-eqb t.claimed.job n same)))
@@ -71,33 +71,33 @@ moved_last a es b =
     subst (λ xs. IsPermutation (a ++ (es ++ b)) xs) (sym (append_assoc a b es)) (IsPermutation-append_right a (es ++ b) (b ++ es) (IsPermutation-append_comm es b))
 
 -- what is left behind one that was taken out
-record Fewer (n : ℕ) (ts : List Turn) (c : Cut n ts) : Type 0 where
+record Fewer (n : ℕ) (ts : List ServedTurn) (c : Cut n ts) : Type 0 where
   pub once : (j : ℕ) → j < n → times j (places_of (c.front ++ c.back)) ≡ 1
   pub below : All (λ t. t.claimed.job < n) (c.front ++ c.back)
 
-fewer : (n : ℕ) (ts : List Turn) (c : Cut n ts) → ((j : ℕ) → j < suc n → times j (places_of ts) ≡ 1) → All (λ t. t.claimed.job < suc n) ts → Fewer n ts c
+fewer : (n : ℕ) (ts : List ServedTurn) (c : Cut n ts) → ((j : ℕ) → j < suc n → times j (places_of ts) ≡ 1) → All (λ t. t.claimed.job < suc n) ts → Fewer n ts c
 fewer n ts c once below = record {
   once = λ j low. omega (arith, split j, once j (omega (arith, low)), differs j low);
   below = all_join (λ u. u.claimed.job < suc n) (λ u. u.claimed.job ≢ n) (λ u. u.claimed.job < n) (a ++ b) (λ u low apart. omega (arith, low, apart)) rest (none_there n (a ++ b) gone);
 }
   where
-    a : List Turn
+    a : List ServedTurn
     a = c.front
 
-    t : Turn
+    t : ServedTurn
     t = c.turn
 
-    b : List Turn
+    b : List ServedTurn
     b = c.back
 
     split : (j : ℕ) → times j (places_of ts) ≡ times j (places_of (a ++ b)) + cond (t.claimed.job == j) 1 0
     split j =
-        let whole = ap (λ (us : List Turn). times j (places_of us)) c.is ∙ ap (times j) (map-append (λ u. u.claimed.job) a (t ∷ b)) ∙ times-append j (places_of a) (t.claimed.job ∷ places_of b) in
+        let whole = ap (λ (us : List ServedTurn). times j (places_of us)) c.is ∙ ap (times j) (map-append (λ u. u.claimed.job) a (t ∷ b)) ∙ times-append j (places_of a) (t.claimed.job ∷ places_of b) in
         let part = ap (times j) (map-append (λ u. u.claimed.job) a b) ∙ times-append j (places_of a) (places_of b) in
         omega (arith, whole, part, times-cons j t.claimed.job (places_of b))
 
     parts : All (λ u. u.claimed.job < suc n) (a ++ t ∷ b)
-    parts = subst (λ (us : List Turn). All (λ u. u.claimed.job < suc n) us) c.is below
+    parts = subst (λ (us : List ServedTurn). All (λ u. u.claimed.job < suc n) us) c.is below
 
     rest : All (λ u. u.claimed.job < suc n) (a ++ b)
     rest = All-append (λ u. u.claimed.job < suc n) a b (all_front (λ u. u.claimed.job < suc n) a (t ∷ b) parts) (All-tail (λ u. u.claimed.job < suc n) t b (all_back (λ u. u.claimed.job < suc n) a (t ∷ b) parts))
@@ -112,12 +112,12 @@ fewer n ts c once below = record {
         apart true same = absurd (omega (arith, low, c.key, eqb-true t.claimed.job j same))
         apart false other = refl
 
-put_last : (n : ℕ) (ts : List Turn) (c : Cut n ts) → Placed n (c.front ++ c.back) → Placed (suc n) ts
+put_last : (n : ℕ) (ts : List ServedTurn) (c : Cut n ts) → Placed n (c.front ++ c.back) → Placed (suc n) ts
 put_last n ts c rest = record {
   ordered = rest.ordered ++ t ∷ [];
-  same = subst (λ (us : List Turn). IsPermutation us (rest.ordered ++ t ∷ [])) (sym c.is)
+  same = subst (λ (us : List ServedTurn). IsPermutation us (rest.ordered ++ t ∷ [])) (sym c.is)
       (IsPermutation-trans (a ++ t ∷ b) ((a ++ b) ++ t ∷ []) (rest.ordered ++ t ∷ []) (moved_last a (t ∷ []) b) (IsPermutation-append_left (t ∷ []) (a ++ b) rest.ordered rest.same));
-  flat = λ f. subst (λ (us : List Turn). IsPermutation (flat_map f us) (flat_map f (rest.ordered ++ t ∷ []))) (sym c.is)
+  flat = λ f. subst (λ (us : List ServedTurn). IsPermutation (flat_map f us) (flat_map f (rest.ordered ++ t ∷ []))) (sym c.is)
       (subst (λ (es : List Entry). IsPermutation es (flat_map f (rest.ordered ++ t ∷ []))) (sym (flat_map-append f a (t ∷ b)))
       (subst (λ (es : List Entry). IsPermutation (flat_map f a ++ (f t ++ flat_map f b)) es) (sym (flat_map-append f rest.ordered (t ∷ []) ∙ ap (λ es. flat_map f rest.ordered ++ es) (append-nil (f t))))
       (IsPermutation-trans (flat_map f a ++ (f t ++ flat_map f b)) ((flat_map f a ++ flat_map f b) ++ f t) (flat_map f rest.ordered ++ f t) (moved_last (flat_map f a) (f t) (flat_map f b))
@@ -126,16 +126,16 @@ put_last n ts c rest = record {
   keyed = map-append (λ u. u.claimed.job) rest.ordered (t ∷ []) ∙ ap (λ (ks : List ℕ). ks ++ t.claimed.job ∷ []) rest.keyed ∙ ap (λ (k : ℕ). up 0 n ++ k ∷ []) (c.key ∙ (let same : n ≡ 0 + n = omega arith in same)) ∙ sym (up_push 0 n);
 }
   where
-    a : List Turn
+    a : List ServedTurn
     a = c.front
 
-    t : Turn
+    t : ServedTurn
     t = c.turn
 
-    b : List Turn
+    b : List ServedTurn
     b = c.back
 
-pub placed : (n : ℕ) (ts : List Turn) → ((j : ℕ) → j < n → times j (places_of ts) ≡ 1) → All (λ t. t.claimed.job < n) ts → Placed n ts
+pub placed : (n : ℕ) (ts : List ServedTurn) → ((j : ℕ) → j < n → times j (places_of ts) ≡ 1) → All (λ t. t.claimed.job < n) ts → Placed n ts
 placed zero [] once below = record { ordered = []; same = IsPermutation-refl []; flat = λ f. IsPermutation-refl []; keyed = refl }
 placed zero (t ∷ ts) once below = absurd (omega (arith, All-head (λ u. u.claimed.job < 0) t ts below))
 placed (suc n) ts once below =

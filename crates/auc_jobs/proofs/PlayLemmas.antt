@@ -14,7 +14,7 @@ use Rattle.auc_subs.specs.Setting.{Setting}
 use Rattle.auc_record.specs.declared.event.Event.TheVariants as event
 use Rattle.auc_record.specs.declared.record.LineRecord.{LineRecord}
 use Rattle.auc_jobs.specs.InnerPlaying.{Leads}
-use Rattle.auc_jobs.specs.InnerServing.{Happens, Serves, Stands, before_at}
+use Rattle.auc_jobs.specs.InnerServing.{Happens, ServesLine, JobStands, before_at}
 use Rattle.auc_jobs.proofs.JobLemmas.{serves_marked, serves_more}
 
 -- the events so far and what the packet at an end gives are what the session gives
@@ -56,10 +56,10 @@ plays_all set before start net session at' made front none on =
 pub play_more : (goes more whole : ℕ → List Entry → List (ℕ × Stop) → Type 0) (set : Setting) (early beside own between new : List LineRecord) (mid kept : ℕ → Option ℕ)
     (released : Released) (first_usims usims : ℕ → Option Memory) (start net next : Net) (session packet : ℕ) (at' : End) (was made : Option ℕ) → was ≡ Some packet
     → ((i : ℕ) (es fs : List Entry) (ws vs : List (ℕ × Stop)) → goes i es ws → more i fs vs → whole i (es ++ fs) (ws ++ vs))
-    → Serves goes set.rows (before_at early beside own) mid released first_usims (PlaysOn set (before_at early beside own) start session net at' was) between
-    → (Stands set.rows (before_at early beside between) mid released first_usims
-    → Serves more set.rows (before_at early beside between) kept released usims (λ lines. Happens set (before_at early beside between) net (event.Deliver session at' packet) made lines next) new)
-    → Serves whole set.rows (before_at early beside own) kept released usims (PlaysOn set (before_at early beside own) start session next (other at') made) new
+    → ServesLine goes set.rows (before_at early beside own) mid released first_usims (PlaysOn set (before_at early beside own) start session net at' was) between
+    → (JobStands set.rows (before_at early beside between) mid released first_usims
+    → ServesLine more set.rows (before_at early beside between) kept released usims (λ lines. Happens set (before_at early beside between) net (event.Deliver session at' packet) made lines next) new)
+    → ServesLine whole set.rows (before_at early beside own) kept released usims (PlaysOn set (before_at early beside own) start session next (other at') made) new
 play_more goes more whole set early beside own between new mid kept released first_usims usims start net next session packet at' was made is joins first then_more =
     serves_more goes more whole set.rows early beside own between new mid kept released first_usims usims
     (λ lines. (between ≡ own ++ lines) × PlaysOn set (before_at early beside own) start session net at' was lines)

@@ -14,7 +14,7 @@ use Rattle.auc_lines.specs.declared.part.Report.{Report}
 use Rattle.auc_random.specs.Random.{rand_of}
 use Rattle.auc_request.specs.Request.{is_separated}
 use Rattle.auc_vector.specs.declared.sim_note.SimNote.{SimNote}
-use Rattle.auc_sites.specs.Network.{Network, Turn, after_event}
+use Rattle.auc_sites.specs.Network.{Network, SitesTurn, after_event}
 use Rattle.auc_sites.specs.Run.{judgement_in}
 use Rattle.auc_sites.specs.declared.master.Judged.{Judged}
 use Rattle.auc_sites.specs.declared.master.Judged.TheVariants as judged
@@ -129,7 +129,7 @@ module _ (set : Setting) (line : SitesValue) (P : LineRecord → Type 0) (are : 
   lease_lines (Some (judged.Old last)) lines gives = none set line.sub P are lines gives
   lease_lines (Some judged.New) lines gives = draw_lines set line.sub P are line.size lines gives
 
-  go_lines : (w : Network) (events : List SiteEvent) (lines : List LineRecord) (turns : List Turn) → SitesGo set line.sub line.size w events lines turns → All P lines
+  go_lines : (w : Network) (events : List SiteEvent) (lines : List LineRecord) (turns : List SitesTurn) → SitesGo set line.sub line.size w events lines turns → All P lines
   go_lines w [] lines turns (is, ends) = none set line.sub P are lines is
   go_lines w (e ∷ events) lines [] gives = absurd gives
   go_lines w (e ∷ events) lines (turn ∷ turns) (front, rest, is, here, more) =

@@ -31,7 +31,7 @@ use Rattle.auc_record.specs.Vectors.{IsReleasableLine, IsReleasableNumber}
 use Rattle.auc_jobs.specs.Serving.{IsKnownLine}
 use Rattle.auc_jobs.specs.Usims.{HaveSecrets, AreOfRows}
 use Rattle.auc_jobs.specs.InnerRound.{JobBegins, ServesJob, left_in, left_on}
-use Rattle.auc_jobs.specs.InnerServing.{before_at, Stands, ServesLines}
+use Rattle.auc_jobs.specs.InnerServing.{before_at, JobStands, ServesLines}
 use Rattle.auc_jobs.specs.InnerUsims.{OwnDevices, has_usim, usim_in, AreCopies}
 use Rattle.auc_jobs.proofs.EventLemmas.{IsOwnEvent, IsOwnNumber, event_lines, plain_lines}
 use Rattle.auc_jobs.proofs.CopyLemmas.{copies_found, copies_keyed}
@@ -50,7 +50,7 @@ quiet_before bits sub early beside quiet =
 
 -- so its copies remember what all lines before it say
 pub begins_stands : (rows : List Row) (early beside : List LineRecord) (kept : ℕ → Option ℕ) (released : Released) (usims : List Memory) (job : List Line) (own : ℕ → Option Memory)
-    → AreCopies usims job own → JobBegins rows early beside kept released usims job → Stands rows (before_at early beside []) kept released own
+    → AreCopies usims job own → JobBegins rows early beside kept released usims job → JobStands rows (before_at early beside []) kept released own
 begins_stands rows early beside kept released usims job own copies begins = record {
   told = λ sub. rw (append-nil beside) (begins.told sub);
   earlier = begins.earlier;

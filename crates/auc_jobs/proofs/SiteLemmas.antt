@@ -10,7 +10,7 @@ use Rattle.auc_lines.specs.declared.sites.SiteEvent.{SiteEvent}
 use Rattle.auc_lines.specs.declared.sites.SiteEvent.TheVariants as asked
 use Rattle.auc_sites.proofs.Facts.{state_after, state_after_delivery}
 use Rattle.auc_sites.specs.Master.{judgement, last_grant, place_of}
-use Rattle.auc_sites.specs.Network.{Network, Turn, after_delivery, after_event, after_reply, start, with_last}
+use Rattle.auc_sites.specs.Network.{Network, SitesTurn, after_delivery, after_event, after_reply, start, with_last}
 use Rattle.auc_sites.specs.Reply.{reply_by, reply_to_new}
 use Rattle.auc_sites.specs.Run.{judgement_in, judgement_on}
 use Rattle.auc_sites.specs.Site.{SiteState, answer_to}
@@ -347,7 +347,7 @@ grant_granted set line r v lease count sent drawn some counted number is = recor
 
 -- with these events left, the lines so far and what the rest gives are what the line gives
 abbrev pub SitesGoOn : Setting → SitesValue → List SiteEvent → Network → List LineRecord → Type 0
-SitesGoOn set line left w front = (rest : List LineRecord) (more : List Turn) → SitesGo set line.sub line.size w left rest more → SitesGives set line (front ++ rest)
+SitesGoOn set line left w front = (rest : List LineRecord) (more : List SitesTurn) → SitesGo set line.sub line.size w left rest more → SitesGives set line (front ++ rest)
 
 pub sites_begin : (set : Setting) (line : SitesValue) (left : List SiteEvent) (w : Network) (front : List LineRecord) → w ≡ sites_start line → left ≡ line.schedule → front ≡ []
     → SitesGoOn set line left w front
@@ -355,7 +355,7 @@ sites_begin set line left w front first all none = rw (first, all, none) (λ res
 
 -- what an event gives with what is said of it
 pub record TurnGives (set : Setting) (line : SitesValue) (w : Network) (e : SiteEvent) (next : Network) (lines : List LineRecord) : Type 0 where
-  pub turn : Turn
+  pub turn : SitesTurn
   pub gives : SiteEventGives set line.sub line.size w e lines turn
   pub leads : next ≡ after_event w turn.event turn.numbers turn.end
 

@@ -30,7 +30,7 @@ use Rattle.auc_record.specs.declared.record.LineRecord.TheVariants.{Vector, Furt
 use Rattle.auc_jobs.specs.declared.giving.UsimAnswer.{UsimAnswer}
 use Rattle.auc_jobs.specs.declared.giving.UsimAnswer.TheVariants as answered
 use Rattle.auc_jobs.specs.declared.giving.UsimKeys.{UsimKeys}
-use Rattle.auc_jobs.specs.InnerServing.{Adds, AreTold, GivesVerdict, IsNext}
+use Rattle.auc_jobs.specs.InnerServing.{AddsLines, AreTold, GivesVerdict, IsNext}
 use Rattle.auc_jobs.specs.InnerUsims.{usim_keys, verdict_by}
 use Rattle.auc_jobs.proofs.DrawingLemmas.{next_ends, next_then}
 use Rattle.auc_jobs.proofs.JobLemmas.{no_numbers}
@@ -40,7 +40,7 @@ use Rattle.auc_jobs.proofs.SayingLemmas.{say_one, told_quiet}
 
 -- its line asks nothing of the centre
 pub further_adds : (goes : ℕ → List Entry → List (ℕ × Stop) → Type 0) (rows : List Row) (kept : ℕ → Option ℕ) (beside old new : List LineRecord) (said : Said) → ((i : ℕ) → goes i [] [])
-    → AreTold kept (beside ++ old) → new ≡ old ++ Further said ∷ [] → Adds goes rows kept beside old new (λ lines. lines ≡ Further said ∷ [])
+    → AreTold kept (beside ++ old) → new ≡ old ++ Further said ∷ [] → AddsLines goes rows kept beside old new (λ lines. lines ≡ Further said ∷ [])
 further_adds goes rows kept beside old new said stays told pushed = record {
   lines = Further said ∷ [];
   added = pushed;

@@ -5,7 +5,7 @@ use Rattle.std.proofs.lemmas.List.{length-append, map-append}
 use Rattle.std.proofs.lemmas.List.Elements.{All-cons, All-head, All-nil, All-push, All-tail}
 use Rattle.std.proofs.lemmas.List.Quantifiers.{all_pairs_push}
 use Rattle.std.proofs.lemmas.Option.{get_or_from_slice_get}
-use Rattle.auc_centre.specs.Adds.{Adds, IsTold as IsNumberTold, kept_by}
+use Rattle.auc_centre.specs.Adds.{AddsAtDesk, IsTold as IsNumberTold, kept_by}
 use Rattle.auc_draw.specs.declared.rule.Deed.{Deed}
 use Rattle.auc_draw.specs.declared.rule.Deed.TheVariants.{Claimed}
 use Rattle.auc_draw.specs.Deeds.{entries_of, claims_of, kept_word, kept_of, released_in, released_of, held_by as pass_held_by, held_of as pass_held}
@@ -24,10 +24,10 @@ use Rattle.auc_record.specs.Lines.{accepted, held_of, numbers_of}
 use Rattle.auc_world.specs.Start.{start_of}
 use Rattle.auc_world.proofs.Facts.{accepted-append, job_quiet}
 use Rattle.auc_jobs.specs.declared.claiming.ClaimedJob.{ClaimedJob}
-use Rattle.auc_jobs.specs.InnerClaims.{Turn, turns, lines_done, entries_of_turn, IsGiven, IsSettledAt, IsPrinted, ClaimsAre, HasServed, IsBetween, IsLast, TakesTurn, HasFinished}
+use Rattle.auc_jobs.specs.InnerClaims.{ServedTurn, turns, lines_done, entries_of_turn, IsGiven, IsSettledAt, IsPrinted, ClaimsAre, HasServed, IsBetween, IsLast, TakesTurn, HasFinished}
 use Rattle.auc_jobs.specs.InnerRound.{ServesJob}
 use Rattle.auc_jobs.specs.InnerServing.{before_at, IsTold, AreTold}
-use Rattle.auc_jobs.specs.InnerSharing.{Shared, Begins, IsServable, BeginsAt, ServesAt}
+use Rattle.auc_jobs.specs.InnerSharing.{Shared, IsAfter, IsServable, BeginsAt, ServesAt}
 use Rattle.auc_jobs.specs.Serving.{AreAllKnown, AreKnown}
 use Rattle.auc_jobs.proofs.LineLemmas.{all_at}
 use Rattle.auc_jobs.proofs.PieceLemmas.{not_given}
@@ -39,7 +39,7 @@ use Rattle.auc_jobs.proofs.TellingLemmas.{all_last, job_own, job_released, jobs_
 pub turns_push : (earlier : List LineRecord) (done : List ClaimedJob) (c : ClaimedJob) → turns earlier (done ++ c ∷ []) ≡ turns earlier done ++ (record { earlier = earlier ++ lines_done done; claimed = c }) ∷ []
 turns_push earlier [] c = ap (λ (ls : List LineRecord). (record { earlier = ls; claimed = c }) ∷ []) (sym (append-nil earlier))
 turns_push earlier (b ∷ done) c =
-    ap (λ (ts : List Turn). (record { earlier = earlier; claimed = b }) ∷ ts) (turns_push (earlier ++ b.served.lines) done c
+    ap (λ (ts : List ServedTurn). (record { earlier = earlier; claimed = b }) ∷ ts) (turns_push (earlier ++ b.served.lines) done c
     ∙ ap (λ (ls : List LineRecord). turns (earlier ++ b.served.lines) done ++ (record { earlier = ls; claimed = c }) ∷ []) (append_assoc earlier b.served.lines (lines_done done)))
 
 -- their lines
@@ -80,7 +80,7 @@ told_none : (sub : ℕ) (kept : Option ℕ) → kept ≡ None → IsTold sub kep
 told_none sub None is = λ word. refl
 told_none sub (Some word) is = let no : ⊥ = cc in absurd no
 
-pub between_first : (shared : Shared) (early : List LineRecord) (pass : PassValue) (done : List ClaimedJob) → pass.deeds ≡ [] → pass.ended ≡ None → done ≡ [] → Begins shared early → IsBetween shared early pass done
+pub between_first : (shared : Shared) (early : List LineRecord) (pass : PassValue) (done : List ClaimedJob) → pass.deeds ≡ [] → pass.ended ≡ None → done ≡ [] → IsAfter shared early → IsBetween shared early pass done
 between_first shared early pass done deeds ended none begins =
     subst (λ (cs : List ClaimedJob). IsBetween shared early pass cs) (sym none) (record {
       served = record {
@@ -88,7 +88,7 @@ between_first shared early pass done deeds ended none begins =
         below = All-nil (λ (c : ClaimedJob). c.job < length shared.jobs);
         rising = λ i j d below within. absurd (omega arith);
         made = λ sub. ap (entries_of sub) deeds;
-        ordered = λ sub. All-nil (λ (t : Turn). IsInOrder (entries_of_turn sub t));
+        ordered = λ sub. All-nil (λ (t : ServedTurn). IsInOrder (entries_of_turn sub t));
         given = All-nil (IsGiven shared early);
         released = λ sub. All-nil (λ (c : ClaimedJob). All (Contains (released_of sub pass.deeds)) (numbers_of sub c.served.lines));
         withheld = λ sub. All-nil (λ (c : ClaimedJob). All (Contains (pass_held sub pass.deeds)) (held_of sub c.served.lines));
@@ -111,7 +111,7 @@ quiet_turns : (shared : Shared) (early earlier : List LineRecord) (done : List C
     → slice_get shared.jobs job ≡ Some asked → holds sub asked ≡ true → All (λ c. c.job < job) done → All (IsGiven shared early) (turns earlier done) → accepted bits sub (lines_done done) ≡ []
 quiet_turns shared early earlier [] job bits sub asked apart within at gives below given = refl
 quiet_turns shared early earlier (c ∷ done) job bits sub asked apart within at gives below given =
-    let t : Turn = record { earlier = earlier; claimed = c } in
+    let t : ServedTurn = record { earlier = earlier; claimed = c } in
     let here = All-head (IsGiven shared early) t (turns (earlier ++ c.served.lines) done) given in
     accepted-append bits sub c.served.lines (lines_done done)
     ∙ ap (λ (ns : List (List ℕ)). ns ++ accepted bits sub (lines_done done)) (job_quiet shared.set (before_at early earlier []) shared.state.kept here.asked bits sub c.served.lines here.net here.given
@@ -162,11 +162,11 @@ pub record Serves (shared : Shared) (old mid new : PassValue) (done : List Claim
   pub claim : ClaimsJob (length shared.jobs) old mid (Some c.job)
   pub tops : mid.tops ≡ old.tops
   pub greatest : mid.tops ≡ tops_of shared.set.rows
-  pub serves : ServesAt (λ i es ws. Adds mid i es ws new) (kept_by mid) (kept_by new) shared c.job c.served
+  pub serves : ServesAt (λ i es ws. AddsAtDesk mid i es ws new) (kept_by mid) (kept_by new) shared c.job c.served
 
 -- the job that was served in it
 turn_served : (shared : Shared) (early : List LineRecord) (old mid new : PassValue) (done : List ClaimedJob) (c : ClaimedJob) → (s : Serves shared old mid new done c) → IsBetween shared early old done
-    → ServesJob (λ i es ws. Adds mid i es ws new) shared.set early (lines_done done) (kept_by new) shared.state.kept s.serves.asked c.served.lines c.served.devices c.served.sessions
+    → ServesJob (λ i es ws. AddsAtDesk mid i es ws new) shared.set early (lines_done done) (kept_by new) shared.state.kept s.serves.asked c.served.lines c.served.devices c.served.sessions
 turn_served shared early old mid new done c s between =
     s.serves.serves early (lines_done done) ((claimed_begins shared early old mid done c.job s.apart s.claim s.tops between).begins s.serves.asked s.serves.there)
 
@@ -182,9 +182,9 @@ between_more shared early old mid new done c s between = record {
     made = λ sub. (served.made sub).made ∙ ap (λ (es : List Entry). es ++ entries_of_turn sub turn) (ap (entries_of sub) s.claim.2 ∙ entries_claimed sub c.job old.deeds ∙ was.made sub)
         ∙ ap (λ (es : List Entry). flat_map (entries_of_turn sub) (turns [] done) ++ es) (sym (append-nil (entries_of_turn sub turn)))
         ∙ sym (flat_map-append (entries_of_turn sub) (turns [] done) (turn ∷ [])) ∙ ap (flat_map (entries_of_turn sub)) (sym pushed);
-    ordered = λ sub. subst (λ (ts : List Turn). All (λ t. IsInOrder (entries_of_turn sub t)) ts) (sym pushed)
-        (All-push (λ (t : Turn). IsInOrder (entries_of_turn sub t)) (turns [] done) turn (was.ordered sub) (served.made sub).ordered);
-    given = subst (λ (ts : List Turn). All (IsGiven shared early) ts) (sym pushed)
+    ordered = λ sub. subst (λ (ts : List ServedTurn). All (λ t. IsInOrder (entries_of_turn sub t)) ts) (sym pushed)
+        (All-push (λ (t : ServedTurn). IsInOrder (entries_of_turn sub t)) (turns [] done) turn (was.ordered sub) (served.made sub).ordered);
+    given = subst (λ (ts : List ServedTurn). All (IsGiven shared early) ts) (sym pushed)
         (All-push (IsGiven shared early) (turns [] done) turn was.given (record { asked = s.serves.asked; there = s.serves.there; net = served.net; given = served.given; ends = served.ends; left = served.left }));
     released = λ sub. All-push (λ (b : ClaimedJob). All (Contains (released_of sub new.deeds)) (numbers_of sub b.served.lines)) done c
         (jobs_grown (released_in sub) (λ (b : ClaimedJob). numbers_of sub b.served.lines) old.deeds more new.deeds done grows (was.released sub))
@@ -202,13 +202,13 @@ between_more shared early old mid new done c s between = record {
   earlier = between.earlier;
 }
   where
-    turn : Turn
+    turn : ServedTurn
     turn = record { earlier = lines_done done; claimed = c }
 
     was : HasServed shared early old done
     was = between.served
 
-    served : ServesJob (λ i es ws. Adds mid i es ws new) shared.set early (lines_done done) (kept_by new) shared.state.kept s.serves.asked c.served.lines c.served.devices c.served.sessions
+    served : ServesJob (λ i es ws. AddsAtDesk mid i es ws new) shared.set early (lines_done done) (kept_by new) shared.state.kept s.serves.asked c.served.lines c.served.devices c.served.sessions
     served = turn_served shared early old mid new done c s between
 
     more : List Deed
@@ -312,14 +312,14 @@ all_served shared early pass done unended many served = by (length shared.jobs) 
 -- ---- what a worker owes
 
 pub finished_then : (shared : Shared) (old new : PassValue) (done now : List ClaimedJob) (more : Bool) → more ≡ false → TakesTurn shared more old done new now
-    → ((early : List LineRecord) → Begins shared early → IsBetween shared early old done) → HasFinished shared new now
+    → ((early : List LineRecord) → IsAfter shared early → IsBetween shared early old done) → HasFinished shared new now
 finished_then shared old new done now more over turn between = record {
   served = λ early begins. (turn.stands early (between early begins)).served;
   last = turn.none over;
 }
 
 pub finished_last : (shared : Shared) (pass : PassValue) (done : List ClaimedJob) → pass.ended ≡ None → length done ≡ length shared.jobs → IsServable shared
-    → ((early : List LineRecord) → Begins shared early → IsBetween shared early pass done) → HasFinished shared pass done
+    → ((early : List LineRecord) → IsAfter shared early → IsBetween shared early pass done) → HasFinished shared pass done
 finished_last shared pass done unended many servable between = record {
   served = λ early begins. (between early begins).served;
   last =

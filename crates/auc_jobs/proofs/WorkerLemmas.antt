@@ -28,7 +28,7 @@ use Rattle.auc_world.specs.World.{WorldState, usim_at, usim_of}
 use Rattle.auc_record.specs.declared.record.JobSessions.{JobSessions}
 use Rattle.auc_record.specs.declared.record.LineRecord.{LineRecord}
 use Rattle.auc_jobs.specs.InnerRound.{JobBegins, ServesJob}
-use Rattle.auc_jobs.specs.InnerServing.{before_at, Stands, Serves, ServesLines}
+use Rattle.auc_jobs.specs.InnerServing.{before_at, JobStands, ServesLine, ServesLines}
 use Rattle.auc_jobs.specs.InnerUsims.{AreCopies, has_usim}
 use Rattle.auc_jobs.specs.InnerWorker.{AreForRows, GoesOnBeside, GoesOnWith, IsCentreOf, WorkerState, WorkerStands, WorkerServes, WorkerServesLines, start_world}
 use Rattle.auc_jobs.specs.Serving.{IsKnownLine}
@@ -185,15 +185,15 @@ module _ {C : Type 0} where
   -- what a worker serves is served with the setting and the released numbers that it began with
   pub same_serves : (kept : C → ℕ → Option ℕ) (goes : C → ℕ → List Entry → List (ℕ × Stop) → C → Type 0) (old new : WorkerState C) (G : Setting → Before → List LineRecord → Type 0)
       (set : Setting) (released : Released) → old.set ≡ set → old.released ≡ released → WorkerServes kept goes old new (G old.set) → (early beside : List LineRecord)
-      → Stands set.rows (before_at early beside old.lines) (kept old.centre) released (usim_of set.rows old.world)
-      → Serves (λ i es ws. goes old.centre i es ws new.centre) set.rows (before_at early beside old.lines) (kept new.centre) released (usim_of set.rows new.world)
+      → JobStands set.rows (before_at early beside old.lines) (kept old.centre) released (usim_of set.rows old.world)
+      → ServesLine (λ i es ws. goes old.centre i es ws new.centre) set.rows (before_at early beside old.lines) (kept new.centre) released (usim_of set.rows new.world)
       (G set (before_at early beside old.lines)) new.lines
   same_serves kept goes old new G set released same_set same_released serves early beside =
-      subst (λ (s : Setting). Stands s.rows (before_at early beside old.lines) (kept old.centre) released (usim_of s.rows old.world)
-      → Serves (λ i es ws. goes old.centre i es ws new.centre) s.rows (before_at early beside old.lines) (kept new.centre) released (usim_of s.rows new.world)
+      subst (λ (s : Setting). JobStands s.rows (before_at early beside old.lines) (kept old.centre) released (usim_of s.rows old.world)
+      → ServesLine (λ i es ws. goes old.centre i es ws new.centre) s.rows (before_at early beside old.lines) (kept new.centre) released (usim_of s.rows new.world)
       (G s (before_at early beside old.lines)) new.lines) same_set
-      (subst (λ (rs : Released). Stands old.set.rows (before_at early beside old.lines) (kept old.centre) rs (usim_of old.set.rows old.world)
-      → Serves (λ i es ws. goes old.centre i es ws new.centre) old.set.rows (before_at early beside old.lines) (kept new.centre) rs (usim_of old.set.rows new.world)
+      (subst (λ (rs : Released). JobStands old.set.rows (before_at early beside old.lines) (kept old.centre) rs (usim_of old.set.rows old.world)
+      → ServesLine (λ i es ws. goes old.centre i es ws new.centre) old.set.rows (before_at early beside old.lines) (kept new.centre) rs (usim_of old.set.rows new.world)
       (G old.set (before_at early beside old.lines)) new.lines) same_released (serves early beside))
 
   -- if the network stays, it also gives that
@@ -264,7 +264,7 @@ module _ {C : Type 0} where
   job_begins kept goes w left job none is stays early beside stands =
       subst (λ (own : List LineRecord). ServingLines (λ i es ws. goes w.centre i es ws w.centre) w.set early beside (kept w.centre) w.released (usim_of w.set.rows w.world) w.world.net left job own w.world.net) (sym none)
       (job_none (λ i es ws. goes w.centre i es ws w.centre) w.set early beside (kept w.centre) w.released (usim_of w.set.rows w.world) w.world.net left job is stays
-      (subst (λ (own : List LineRecord). Stands w.set.rows (before_at early beside own) (kept w.centre) w.released (usim_of w.set.rows w.world)) none stands))
+      (subst (λ (own : List LineRecord). JobStands w.set.rows (before_at early beside own) (kept w.centre) w.released (usim_of w.set.rows w.world)) none stands))
 
   -- what a worker did for a job: it began with the job's network, and served the lines
   pub record Does (kept : C → ℕ → Option ℕ) (goes : C → ℕ → List Entry → List (ℕ × Stop) → C → Type 0) (name next : ℕ) (old after : WorkerState C) (usims : List Memory) (stores : List Kept) (job : List Line) : Type 0 where
@@ -290,7 +290,7 @@ module _ {C : Type 0} where
       subst (λ (n : Net). ServesLines (λ i es ws. goes old.centre i es ws after.centre) old.set early beside (kept after.centre) old.released (usim_of old.set.rows after.world) n job after.lines after.world.net)
       (ap (λ (w : WorldState). w.net) d.begins)
       (d.serves early beside
-      (subst (λ (lines : List LineRecord). Stands old.set.rows (before_at early beside lines) (kept old.centre) old.released (usim_of old.set.rows old.world)) (sym d.none)
+      (subst (λ (lines : List LineRecord). JobStands old.set.rows (before_at early beside lines) (kept old.centre) old.released (usim_of old.set.rows old.world)) (sym d.none)
       (begins_stands old.set.rows early beside (kept old.centre) old.released usims job (usim_of old.set.rows old.world) (does_copies kept goes name next old after usims stores job d) begins)))
 
   -- they release vectors that can be made

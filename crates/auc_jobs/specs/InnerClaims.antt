@@ -27,18 +27,18 @@ use Rattle.auc_jobs.specs.declared.workers.RoundPieces.{RoundPieces}
 use Rattle.auc_jobs.specs.InnerKeeping.{told_stop}
 use Rattle.auc_jobs.specs.InnerRound.{AreServed, GoesByLimits, IsSettled, left_in, left_on}
 use Rattle.auc_jobs.specs.InnerServing.{before_at, AreTold}
-use Rattle.auc_jobs.specs.InnerSharing.{Shared, Begins}
+use Rattle.auc_jobs.specs.InnerSharing.{Shared, IsAfter}
 use Rattle.auc_jobs.specs.InnerUsims.{usim_in}
 
 -- ---- one worker
 
 -- a job that was served, and the lines of its worker's earlier jobs
-pub record Turn : Type 0 where
+pub record ServedTurn : Type 0 where
   pub earlier : List LineRecord
   pub claimed : ClaimedJob
 
 -- the jobs of a worker, each after the earlier ones
-abbrev pub turns : List LineRecord → List ClaimedJob → List Turn
+abbrev pub turns : List LineRecord → List ClaimedJob → List ServedTurn
 turns earlier [] = []
 turns earlier (c ∷ done) = (record { earlier = earlier; claimed = c }) ∷ turns (earlier ++ c.served.lines) done
 
@@ -47,12 +47,12 @@ abbrev pub lines_done : List ClaimedJob → List LineRecord
 lines_done done = flat_map (λ c. c.served.lines) done
 
 -- the entries of a subscriber that its calls for a job made
-abbrev pub entries_of_turn : ℕ → Turn → List Entry
+abbrev pub entries_of_turn : ℕ → ServedTurn → List Entry
 entries_of_turn sub t = entries_of_lines sub t.earlier t.claimed.served.lines
 
 -- a job's lines are what it gives after its worker's earlier ones, its sessions came to what its network tells, and its homes
 -- and devices keep what its network has
-pub record IsGiven (shared : Shared) (early : List LineRecord) (t : Turn) : Type 0 where
+pub record IsGiven (shared : Shared) (early : List LineRecord) (t : ServedTurn) : Type 0 where
   pub asked : List Line
   pub there : slice_get shared.jobs t.claimed.job ≡ Some asked
   pub net : Net
@@ -93,7 +93,7 @@ pub record HasServed (shared : Shared) (early : List LineRecord) (pass : PassVal
 pub record IsBetween (shared : Shared) (early : List LineRecord) (pass : PassValue) (done : List ClaimedJob) : Type 0 where
   pub served : HasServed shared early pass done
   pub told : AreTold (kept_by pass) (lines_done done)
-  pub earlier : Begins shared early
+  pub earlier : IsAfter shared early
 
 -- a claim took the last job, or a number behind it
 abbrev pub IsLast : ℕ → List ℕ → Type 0
@@ -107,7 +107,7 @@ pub record TakesTurn (shared : Shared) (more : Bool) (old : PassValue) (done : L
 
 -- a worker found no further job
 pub record HasFinished (shared : Shared) (pass : PassValue) (done : List ClaimedJob) : Type 0 where
-  pub served : (early : List LineRecord) → Begins shared early → HasServed shared early pass done
+  pub served : (early : List LineRecord) → IsAfter shared early → HasServed shared early pass done
   pub last : IsLast (length shared.jobs) (claims_of pass.deeds)
 
 -- what a worker comes to: its pass is the book's, and it served all jobs that it claimed, if it had the memory
@@ -134,7 +134,7 @@ pub record HaveWorked (shared : Shared) (book : BookValue) (all : List WorkerJob
 
 -- what the closing of a round's book gives: pieces that go by the openings and the limits of the book, and by the keeper's pass
 pub record ClosesAs (shared : Shared) (book : BookValue) (keeper : KeeperValue) (done : RoundPieces) : Type 0 where
-  pub served : (early : List LineRecord) → Begins shared early
+  pub served : (early : List LineRecord) → IsAfter shared early
       → AreServed shared.set early shared.state.kept book.openings shared.jobs done.jobs.records done.jobs.devices done.jobs.sessions done.words
   pub limits : GoesByLimits shared.set done.stop done.jobs.records book.limits done.words keeper.limits
   pub looked : (i : ℕ) → i < length book.openings → slice_index keeper.seen i ≤ slice_index done.words i

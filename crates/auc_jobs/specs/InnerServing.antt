@@ -100,14 +100,14 @@ is_accepted_next verdict.WrongMac = false
 -- what holds after the lines before a line: the words that the centre keeps are reported, the released numbers are those of
 -- the earlier rounds, each is at most its subscriber's greatest number, as is each that the job released, and each USIM
 -- remembers what all lines say that it accepted
-pub record Stands (rows : List Row) (before : Before) (kept : ℕ → Option ℕ) (released : Released) (usims : ℕ → Option Memory) : Type 0 where
+pub record JobStands (rows : List Row) (before : Before) (kept : ℕ → Option ℕ) (released : Released) (usims : ℕ → Option Memory) : Type 0 where
   pub told : AreTold kept (before.beside ++ before.own)
   pub earlier : AreReleased released before.early
   pub numbers : AreNumbers rows before.early × AreNumbers rows before.own
   pub pasts : AreBehind rows (before.early ++ before.beside ++ before.own) usims
 
 -- a request added lines that it gives to those of a job
-pub record Adds (goes : ℕ → List Entry → List (ℕ × Stop) → Type 0) (rows : List Row) (kept : ℕ → Option ℕ) (beside old new : List LineRecord) (Gives : List LineRecord → Type 0) : Type 0 where
+pub record AddsLines (goes : ℕ → List Entry → List (ℕ × Stop) → Type 0) (rows : List Row) (kept : ℕ → Option ℕ) (beside old new : List LineRecord) (Gives : List LineRecord → Type 0) : Type 0 where
   pub lines : List LineRecord
   pub added : new ≡ old ++ lines
   pub given : Gives lines
@@ -120,20 +120,20 @@ abbrev pub before_at : List LineRecord → List LineRecord → List LineRecord �
 before_at early beside own = record { early = early; beside = beside; own = own }
 
 -- what a line of a job added, and what holds after it
-pub record Serves (goes : ℕ → List Entry → List (ℕ × Stop) → Type 0) (rows : List Row) (before : Before) (kept : ℕ → Option ℕ) (released : Released) (usims : ℕ → Option Memory)
+pub record ServesLine (goes : ℕ → List Entry → List (ℕ × Stop) → Type 0) (rows : List Row) (before : Before) (kept : ℕ → Option ℕ) (released : Released) (usims : ℕ → Option Memory)
     (Gives : List LineRecord → Type 0) (new : List LineRecord) : Type 0 where
   pub lines : List LineRecord
   pub added : new ≡ before.own ++ lines
   pub given : Gives lines
   pub made : (sub : ℕ) → goes sub (entries_of_lines sub (before.beside ++ before.own) lines) (held_of sub lines)
-  pub stands : Stands rows (before_at before.early before.beside new) kept released usims
+  pub stands : JobStands rows (before_at before.early before.beside new) kept released usims
 
 -- what the lines of a job gave in its network, after earlier rounds and the worker's earlier lines
 pub record ServesLines (goes : ℕ → List Entry → List (ℕ × Stop) → Type 0) (set : Setting) (early beside : List LineRecord) (kept : ℕ → Option ℕ) (released : Released) (usims : ℕ → Option Memory)
     (net : Net) (job : List Line) (lines : List LineRecord) (last : Net) : Type 0 where
   pub given : JobGives set (before_at early beside []) net job lines last
   pub made : (sub : ℕ) → goes sub (entries_of_lines sub beside lines) (held_of sub lines)
-  pub stands : Stands set.rows (before_at early beside lines) kept released usims
+  pub stands : JobStands set.rows (before_at early beside lines) kept released usims
 
 -- ---- an event
 

@@ -26,13 +26,13 @@ pub record Shared : Type 0 where
   pub state : Standing
 
 -- the state is the one after the lines of the earlier rounds
-abbrev pub Begins : Shared → List LineRecord → Type 0
-Begins shared early = StandsAt shared.set early shared.state
+abbrev pub IsAfter : Shared → List LineRecord → Type 0
+IsAfter shared early = StandsAt shared.set early shared.state
 
 -- the round can be served from the state
 pub record IsServable (shared : Shared) : Type 0 where
   pub round : IsRound shared.set shared.jobs shared.workers
-  pub begins : (early : List LineRecord) × Begins shared early
+  pub begins : (early : List LineRecord) × IsAfter shared early
 
 -- a book of the rows' subscribers, with their greatest numbers, for as many of which the round's journal is
 pub record IsBookOf (id : TableId) (greatest : List ℕ) (subs : ℕ) (rows : List Row) (book : BookValue) : Type 0 where

@@ -15,7 +15,7 @@ use Rattle.auc_usim.specs.Usim.{Memory}
 use Rattle.auc_record.specs.declared.record.LineRecord.{LineRecord}
 use Rattle.auc_record.specs.Released.{Released}
 use Rattle.auc_jobs.specs.Usims.{HaveSecrets}
-use Rattle.auc_jobs.specs.InnerServing.{before_at, Stands, Serves, ServesLines}
+use Rattle.auc_jobs.specs.InnerServing.{before_at, JobStands, ServesLine, ServesLines}
 use Rattle.auc_jobs.specs.InnerUsims.{has_usim, usim_of}
 
 -- what a worker has while it serves a job: its centre, the name of the borrow of it, what the job is served with, the numbers that were released in
@@ -73,13 +73,13 @@ module _ {C : Type 0} where
 
   -- what stands after a worker's lines, with the lines of earlier rounds and of its earlier jobs before them
   abbrev pub WorkerStands : (C → ℕ → Option ℕ) → List LineRecord → List LineRecord → WorkerState C → Type 0
-  WorkerStands kept early beside w = Stands w.set.rows (before_at early beside w.lines) (kept w.centre) w.released (usim_of w.set.rows w.world)
+  WorkerStands kept early beside w = JobStands w.set.rows (before_at early beside w.lines) (kept w.centre) w.released (usim_of w.set.rows w.world)
 
   -- what a worker added for a request, by the lines before it, and what stands then
   abbrev pub WorkerServes : (C → ℕ → Option ℕ) → (C → ℕ → List Entry → List (ℕ × Stop) → C → Type 0) → WorkerState C → WorkerState C
       → (Before → List LineRecord → Type 0) → Type 0
   WorkerServes kept goes old new Gives = (early beside : List LineRecord) → WorkerStands kept early beside old
-      → Serves (λ i es ws. goes old.centre i es ws new.centre) old.set.rows (before_at early beside old.lines)
+      → ServesLine (λ i es ws. goes old.centre i es ws new.centre) old.set.rows (before_at early beside old.lines)
       (kept new.centre) old.released (usim_of old.set.rows new.world) (Gives (before_at early beside old.lines)) new.lines
 
   -- what it gave for the lines of a job, which had none

@@ -51,7 +51,7 @@ pub record DrewFull (rows : List Row) (round : RoundRecord) : Type 0 where
 
 -- a round was served after the lines of earlier rounds: from a state and a journal to the next ones. Reservations may have
 -- ended in it, for this cause
-pub record Serves {D : Type 0} (seen : D → Option (List ℕ)) (may_leave : D → List ℕ → Type 0) (moment : D → ℕ) (left_since : D → ℕ → List ℕ → Type 0) (set : Setting) (early : List LineRecord) (state : Standing) (jobs : List (List Line)) (round : RoundRecord) (stop : Option Stop) (journal : JournalState D) (next : Standing) (after : JournalState D) : Type 0 where
+pub record ServesRound {D : Type 0} (seen : D → Option (List ℕ)) (may_leave : D → List ℕ → Type 0) (moment : D → ℕ) (left_since : D → ℕ → List ℕ → Type 0) (set : Setting) (early : List LineRecord) (state : Standing) (jobs : List (List Line)) (round : RoundRecord) (stop : Option Stop) (journal : JournalState D) (next : Standing) (after : JournalState D) : Type 0 where
   -- the subscribers' words after it
   pub words : List ℕ
   pub lawful : IsLawfulRound set stop early state.kept state.words jobs round words

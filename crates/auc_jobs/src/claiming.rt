@@ -1,7 +1,7 @@
 //! What a worker does: it claims jobs and serves them, one after the other.
 
 ghost use Rattle.std.specs.Prelude.{◌≡◌, ◌<◌, ℕ, [], None, List, length, IfOk, OnOk};
-ghost use Rattle.auc_centre.specs.Adds.{Adds, kept_by};
+ghost use Rattle.auc_centre.specs.Adds.{AddsAtDesk, kept_by};
 ghost use Rattle.auc_centre.specs.Kept.{subs_of};
 ghost use Rattle.auc_draw.specs.Book.{IsNew, IsOf};
 ghost use Rattle.auc_record.specs.declared.record.LineRecord.{LineRecord};
@@ -10,7 +10,7 @@ ghost use Rattle.auc_jobs.specs.InnerSharing.{BeginsAt, IsShared, ServesAt};
 
 use crate::jobs::ServedJob;
 use crate::round_jobs::RoundJobs;
-use auc_centre::{Desk, Kept, Naming};
+use auc_centre::{Desk, Naming, RoundKeeper};
 use auc_disk::Disk;
 use auc_draw::{Book, Pass};
 use auc_edge::{Gate, NoMemory};
@@ -37,7 +37,7 @@ pub(crate) struct WorkerJobs {
 pub(crate) struct SharedRound<'a, L: Naming<D>, D: Disk + Drop, G: Gate> {
     pub(crate) round: &'a RoundJobs<'a>,
     pub(crate) book: &'a Book,
-    pub(crate) keeper: &'a Mutex<Kept<L, D>>,
+    pub(crate) keeper: &'a Mutex<RoundKeeper<L, D>>,
     pub(crate) gate: &'a G,
 }
 
@@ -56,7 +56,7 @@ impl<L: Naming<D>, D: Disk + Drop, G: Gate> SharedRound<'_, L, D, G> {
         requires begins { (early : List LineRecord) × (beside : List LineRecord)
             × BeginsAt self.now.round.now early beside (kept_by pass.old) job }
         ensures own { IsOf L.table L.tops pass.new }
-        ensures served { IfOk result (λ served. ServesAt (λ i es ws. Adds pass.old i es ws pass.new)
+        ensures served { IfOk result (λ served. ServesAt (λ i es ws. AddsAtDesk pass.old i es ws pass.new)
             (kept_by pass.old) (kept_by pass.new) self.now.round.now job served) }
     {
         let mut desk = Desk {

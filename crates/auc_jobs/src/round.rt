@@ -9,7 +9,7 @@ ghost use Rattle.auc_world.specs.Round.{Withholds};
 ghost use Rattle.auc_record.specs.Vectors.{vectors_in};
 ghost use Rattle.auc_record.specs.declared.record.LineRecord.{LineRecord};
 ghost use Rattle.auc_jobs.specs.InnerRound.{AreServed, LeadsOn};
-ghost use Rattle.auc_jobs.specs.Round.{IsJournalOf, IsRound, LeavesMore, Serves};
+ghost use Rattle.auc_jobs.specs.Round.{IsJournalOf, IsRound, LeavesMore, ServesRound};
 ghost use Rattle.auc_jobs.specs.State.{StandsAt};
 
 use crate::jobs::ServedJobs;
@@ -81,7 +81,7 @@ pub fn serve<D: Disk + Drop + Send, G: Gate + Sync, R: Threads + Wait + Sync>(
     requires state { (early : List LineRecord) × StandsAt round.now.set.now early state }
     requires journal { IsJournalOf round.now.set.now.rows journal }
     ensures served { IfOk result.result (λ ran. (early : List LineRecord) → StandsAt round.now.set.now early state
-        → Serves D.seen D.may_leave D.moment D.left_since round.now.set.now early state round.now.jobs.now
+        → ServesRound D.seen D.may_leave D.moment D.left_since round.now.set.now early state round.now.jobs.now
         ran.round ran.stop journal result.state result.journal) }
     ensures next { IfOk result.result (λ ran. (early : List LineRecord)
         → StandsAt round.now.set.now early state

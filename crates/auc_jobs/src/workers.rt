@@ -13,7 +13,7 @@ ghost use Rattle.auc_jobs.specs.InnerClaims.{AreCollected, ClosesAs, HaveWorked,
 ghost use Rattle.auc_jobs.specs.InnerKeeping.{CanKeep, StaysNear, TellsStop};
 ghost use Rattle.auc_jobs.specs.InnerPreparing.{AreReservable, needed_by};
 ghost use Rattle.auc_jobs.specs.InnerRound.{AreServed, GoesByLimits};
-ghost use Rattle.auc_jobs.specs.InnerSharing.{Begins, IsServable, IsShared};
+ghost use Rattle.auc_jobs.specs.InnerSharing.{IsAfter, IsServable, IsShared};
 ghost use Rattle.auc_jobs.specs.Round.{IsJournalOf, LeavesMore};
 
 use crate::claiming::{ClaimedJob, SharedRound, WorkerJobs, work};
@@ -21,7 +21,7 @@ use crate::jobs::ServedJobs;
 use crate::preparing::{needed, prepare_groups};
 use crate::round_jobs::RoundJobs;
 use crate::stopping::told_stop;
-use auc_centre::{Kept, Naming};
+use auc_centre::{Naming, RoundKeeper};
 use auc_disk::Disk;
 use auc_draw::{Book, Closed, KeeperPass, Pass};
 use auc_edge::{Gate, Items, NoMemory, Stop};
@@ -127,7 +127,7 @@ fn work_all<
     } = opened;
     let mut keeper = Keeper::new(journal, keeper);
     prepare_groups(&mut keeper, &book, needed.as_slice());
-    let lock = Mutex::new(Kept::<L, D>::new(keeper));
+    let lock = Mutex::new(RoundKeeper::<L, D>::new(keeper));
     let shared = SharedRound {
         round: &*round,
         book: &book,
@@ -345,7 +345,7 @@ pub(crate) fn serve_pieces<D: Disk + Drop + Send, G: Gate + Sync, R: Threads + W
 ) -> Pieces<D>
     requires round { IsServable round.now }
     requires journal { IsJournalOf round.now.set.rows journal }
-    ensures served { IfOk result.result (λ done. (early : List LineRecord) → Begins round.now early
+    ensures served { IfOk result.result (λ done. (early : List LineRecord) → IsAfter round.now early
         → AreServed round.now.set early round.now.state.kept round.now.state.words round.now.jobs
         done.jobs.records done.jobs.devices done.jobs.sessions done.words) }
     ensures limits { IfOk result.result (λ done. GoesByLimits round.now.set done.stop done.jobs.records

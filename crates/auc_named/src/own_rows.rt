@@ -17,7 +17,8 @@ pub(crate) fn own_rows(
     requires within { All (λ place. place < length subs.now) places.now }
     ensures { IfOk result (AreAt subs.now places.now) }
 {
-    let _count = subs.len();
+    // (its clauses say what holds of all lists of subscribers)
+    let _ = subs.len();
     let mut own = Subscribers::new(alloc);
     for place in places {
         own.push(*subs.row(*place))?;

@@ -9,7 +9,7 @@ use Rattle.auc_peer.specs.Subscription.{Subscription}
 use Rattle.auc_peer.specs.Laws.{Input, Bytes, GiveUp, after, Came, SuccessNeedsARightMac}
 use Rattle.auc_peer.specs.Rows.{peer_row}
 use Rattle.auc_peer.specs.Table.{accepted, accepting, by_answer, challenged, client, gave_up, genuine, keys_at, master_at, opened, own_code, peer_does, reauthenticated, succeeded, text_or_none}
-use Rattle.auc_peer.specs.Told.{Told}
+use Rattle.auc_peer.specs.Told.{ToldSession}
 use Rattle.auc_peer.specs.declared.decrypted.Decrypted.{Decrypted}
 use Rattle.auc_peer.specs.declared.decrypted.Decrypted.TheVariants as decrypted
 use Rattle.auc_reauth.specs.Device.{Keeps}
@@ -203,19 +203,19 @@ gave_none p (state.Answered k) keys f e = cc
 gave_none p (state.Refusing cause) keys f e = cc
 
 -- a peer after some inputs has the options that it began with
-after_options : (o : Told) (before : List Input) → (after o before).options ≡ o
+after_options : (o : ToldSession) (before : List Input) → (after o before).options ≡ o
 after_options o [] = refl
 after_options o (Bytes key s keeps seen n inner ∷ before) =
     row_options key s keeps (after o before) seen (peer_row (after o before) seen) n inner ∙ after_options o before
 after_options o (GiveUp ∷ before) = gave_options (after o before) (after o before).state ∙ after_options o before
 
 -- a peer in Answered has received a right AT_MAC
-came : (o : Told) (keys : KeySet) (before : List Input) → (after o before).state ≡ state.Answered keys → Came o.method keys before
+came : (o : ToldSession) (keys : KeySet) (before : List Input) → (after o before).state ≡ state.Answered keys → Came o.method keys before
 came o keys [] e = absurd cc
 came o keys (Bytes key s keeps seen n inner ∷ before) e =
     elim (row_right key s keeps (after o before) seen (peer_row (after o before) seen) n inner keys e) [
       | inl h ↦ inr (came o keys before h)
-      | inr h ↦ inl (subst (λ (x : Told). is_sealed x.method keys.k_aut [] seen ≡ true) (after_options o before) h)
+      | inr h ↦ inl (subst (λ (x : ToldSession). is_sealed x.method keys.k_aut [] seen ≡ true) (after_options o before) h)
     ]
 came o keys (GiveUp ∷ before) e = absurd (gave_none (after o before) (after o before).state keys refl e)
 

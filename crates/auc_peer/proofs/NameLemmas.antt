@@ -25,7 +25,7 @@ use Rattle.auc_peer.specs.Laws.{EachTurnIsNamed, Named}
 use Rattle.auc_peer.specs.Rows.{challenge_of, is_last, is_response, late, method_row, notified_or, of_kind, on_failure, on_sound, on_success, peer_row, repeats, requested, row_headed, row_in, waiting}
 use Rattle.auc_peer.specs.Subscription.{Subscription}
 use Rattle.auc_peer.specs.Table.{accepted, accepting, by_answer, challenged, client, genuine, keys_at, master_at, network_of, opened, own_code, peer_does, resuming, succeeded}
-use Rattle.auc_peer.specs.Told.{Told}
+use Rattle.auc_peer.specs.Told.{ToldSession}
 use Rattle.auc_peer.specs.declared.decrypted.Decrypted.{Decrypted}
 use Rattle.auc_peer.specs.declared.decrypted.Decrypted.TheVariants as decrypted
 use Rattle.auc_reauth.specs.Device.{Keeps}
@@ -50,7 +50,7 @@ use Rattle.auc_peer.proofs.ReauthLemmas.{on_reauth, opening}
 -- ---- which challenges are taken
 
 -- a challenge that is taken is of the network that a peer of EAP-AKA' means
-abbrev Tests : Told → List Attr → Row → Type 0
+abbrev Tests : ToldSession → List Attr → Row → Type 0
 Tests o list (row.Challenged c) = (name : List ℕ) → o.method ≡ method.Prime → o.name ≡ Some name → network_of o.method list ≡ name
 Tests o list other = Unit {0}
 
@@ -66,7 +66,7 @@ true_if false e = absurd cc
 right_is : (own name : List ℕ) → is_right_name (Some own) name ≡ true → name ≡ own
 right_is own name e = (bytes_eq-Decides name own).0 (and_parts (has_bytes name) (bytes_eq name own) e).1
 
-right_name : (o : Told) (list : List Attr) (own : List ℕ) → o.method ≡ method.Prime → o.name ≡ Some own → is_right_name o.name (name_in list) ≡ true → network_of o.method list ≡ own
+right_name : (o : ToldSession) (list : List Attr) (own : List ℕ) → o.method ≡ method.Prime → o.name ≡ Some own → is_right_name o.name (name_in list) ≡ true → network_of o.method list ≡ own
 right_name o list own m n e =
     ap (λ (x : Method). network_of x list) m
     ∙ right_is own (name_in list) (ap (λ (x : Option (List ℕ)). is_right_name x (name_in list)) (sym n) ∙ e)
@@ -74,7 +74,7 @@ right_name o list own m n e =
 not_prime : ◌≡◌ {A = Method} method.Aka method.Prime → ⊥
 not_prime e = cc
 
-method_tests : (o : Told) (m : Method) (list : List Attr) (c : Challenge) → o.method ≡ m → Tests o list (method_row m o list c)
+method_tests : (o : ToldSession) (m : Method) (list : List Attr) (c : Challenge) → o.method ≡ m → Tests o list (method_row m o list c)
 method_tests o method.Aka list c e =
     picked (Tests o list) (o.has_prime && bids list) (row.Reject why.Downgrade) (row.Challenged c) tt
     (λ g name m n. absurd (not_prime (sym e ∙ m)))
@@ -86,18 +86,18 @@ method_tests o method.Prime list c e =
     (λ g. picked (Tests o list) (not (is_separated c.autn)) (row.Reject why.NoSeparation) (row.Challenged c) tt
     (λ h name m n. right_name o list name m n (true_if (is_right_name o.name (name_in list)) g))))
 
-challenge_tests : (o : Told) (list : List Attr) (rand autn : Option (List ℕ)) → Tests o list (challenge_of o list rand autn)
+challenge_tests : (o : ToldSession) (list : List Attr) (rand autn : Option (List ℕ)) → Tests o list (challenge_of o list rand autn)
 challenge_tests o list (Some rand) (Some autn) = method_tests o o.method list (record { rand = rand; autn = autn }) refl
 challenge_tests o list (Some rand) None = tt
 challenge_tests o list None (Some autn) = tt
 challenge_tests o list None None = tt
 
 -- a code's row takes no challenge
-code_tests : (o : Told) (list : List Attr) (other : Row) (code : Option ℕ) → Tests o list other → Tests o list (notified_or other code)
+code_tests : (o : ToldSession) (list : List Attr) (other : Row) (code : Option ℕ) → Tests o list other → Tests o list (notified_or other code)
 code_tests o list other None t = t
 code_tests o list other (Some code) t = picked (Tests o list) (nat_le 16384 code && nat_lt code 32768) (row.Notified code) (row.Ignore reason.Unexpected) tt (λ e. tt)
 
-sound_tests : (o : Told) (s : Subtype) (list : List Attr) → Tests o list (on_sound o s list)
+sound_tests : (o : ToldSession) (s : Subtype) (list : List Attr) → Tests o list (on_sound o s list)
 sound_tests o subtype.Challenge list =
     picked (Tests o list) (is_missing subtype.Challenge true list) (row.Client why.Missing) (challenge_of o list (first_value rand_of list) (first_value autn_of list)) tt
     (λ e. challenge_tests o list (first_value rand_of list) (first_value autn_of list))
@@ -109,7 +109,7 @@ sound_tests o subtype.Identity list =
     picked (Tests o list) (is_missing subtype.Identity true list) (row.Client why.Missing) (row.Identity (request_in list)) tt (λ e. tt)
 sound_tests o subtype.ClientError list = tt
 
-waiting_tests : (o : Told) (r : Reading) → Tests o (attrs_in r) (waiting o r)
+waiting_tests : (o : ToldSession) (r : Reading) → Tests o (attrs_in r) (waiting o r)
 waiting_tests o (reading.Fault fault) = tt
 waiting_tests o (reading.Read (packet.Identity request id text)) = tt
 waiting_tests o (reading.Read (packet.Success id)) = tt
@@ -117,7 +117,7 @@ waiting_tests o (reading.Read (packet.Failure id)) = tt
 waiting_tests o (reading.Read (packet.Aka request id m s list)) =
     picked (Tests o list) (is_response s || is_malformed s true o.method list) (row.Client why.Malformed) (on_sound o s list) tt (λ e. sound_tests o s list)
 
-late_tests : (o : Told) (own : Method) (list : List Attr) (r : Reading) → Tests o list (late own r)
+late_tests : (o : ToldSession) (own : Method) (list : List Attr) (r : Reading) → Tests o list (late own r)
 late_tests o own list (reading.Read (packet.Aka request id m subtype.Notification attrs)) =
     picked (Tests o list) (is_malformed subtype.Notification true own attrs) (row.Ignore reason.Unexpected) (notified_or (row.Ignore reason.Unexpected) (first_code attrs)) tt
     (λ e. code_tests o list (row.Ignore reason.Unexpected) (first_code attrs) tt)
@@ -132,25 +132,25 @@ late_tests o own list (reading.Read (packet.Success id)) = tt
 late_tests o own list (reading.Read (packet.Failure id)) = tt
 late_tests o own list (reading.Fault fault) = tt
 
-requested_tests : (o : Told) (s : PeerState) (r : Reading) → Tests o (attrs_in r) (requested o s r)
+requested_tests : (o : ToldSession) (s : PeerState) (r : Reading) → Tests o (attrs_in r) (requested o s r)
 requested_tests o state.Waiting r = waiting_tests o r
 requested_tests o (state.Answered keys) r = late_tests o o.method (attrs_in r) r
 requested_tests o (state.Refusing cause) r = tt
 requested_tests o state.Ended r = tt
 
-success_tests : (o : Told) (list : List Attr) (s : PeerState) → Tests o list (on_success s)
+success_tests : (o : ToldSession) (list : List Attr) (s : PeerState) → Tests o list (on_success s)
 success_tests o list (state.Answered keys) = tt
 success_tests o list state.Waiting = tt
 success_tests o list (state.Refusing cause) = tt
 success_tests o list state.Ended = tt
 
-failure_tests : (o : Told) (list : List Attr) (s : PeerState) → Tests o list (on_failure s)
+failure_tests : (o : ToldSession) (list : List Attr) (s : PeerState) → Tests o list (on_failure s)
 failure_tests o list (state.Answered keys) = tt
 failure_tests o list state.Waiting = tt
 failure_tests o list (state.Refusing cause) = tt
 failure_tests o list state.Ended = tt
 
-kind_tests : (o : Told) (s : PeerState) (last : Option Last) (seen : Seen) (head : Head) (kind : Option ℕ) → Tests o (attrs_in seen.reading) (of_kind o s last seen head kind)
+kind_tests : (o : ToldSession) (s : PeerState) (last : Option Last) (seen : Seen) (head : Head) (kind : Option ℕ) → Tests o (attrs_in seen.reading) (of_kind o s last seen head kind)
 kind_tests o s last seen head None =
     picked (Tests o (attrs_in seen.reading)) (not (is_last last head.id)) (row.Ignore reason.Unexpected) (cond (head.code == 3) (on_success s) (on_failure s)) tt
     (λ e. picked (Tests o (attrs_in seen.reading)) (head.code == 3) (on_success s) (on_failure s) (success_tests o (attrs_in seen.reading) s) (λ f. failure_tests o (attrs_in seen.reading) s))
@@ -158,13 +158,13 @@ kind_tests o s last seen head (Some kind) =
     picked (Tests o (attrs_in seen.reading)) (not (kind == 1 || kind == method_type o.method)) (row.Ignore reason.OtherType) (requested o s seen.reading) tt
     (λ e. requested_tests o s seen.reading)
 
-headed_tests : (o : Told) (s : PeerState) (last : Option Last) (seen : Seen) (head : Option Head) → Tests o (attrs_in seen.reading) (row_headed o s last seen head)
+headed_tests : (o : ToldSession) (s : PeerState) (last : Option Last) (seen : Seen) (head : Option Head) → Tests o (attrs_in seen.reading) (row_headed o s last seen head)
 headed_tests o s last seen None = tt
 headed_tests o s last seen (Some head) =
     picked (Tests o (attrs_in seen.reading)) (head.code == 2) (row.Ignore reason.NotForMe) (cond (repeats last seen.bytes) row.Again (of_kind o s last seen head head.kind)) tt
     (λ e. picked (Tests o (attrs_in seen.reading)) (repeats last seen.bytes) row.Again (of_kind o s last seen head head.kind) tt (λ f. kind_tests o s last seen head head.kind))
 
-in_tests : (o : Told) (s : PeerState) (last : Option Last) (seen : Seen) → Tests o (attrs_in seen.reading) (row_in o s last seen)
+in_tests : (o : ToldSession) (s : PeerState) (last : Option Last) (seen : Seen) → Tests o (attrs_in seen.reading) (row_in o s last seen)
 in_tests o state.Ended last seen = tt
 in_tests o state.Waiting last seen = headed_tests o state.Waiting last seen (head_at seen.bytes)
 in_tests o (state.Answered keys) last seen = headed_tests o (state.Answered keys) last seen (head_at seen.bytes)

@@ -27,7 +27,7 @@ use Rattle.auc_peer.specs.declared.rows.Row.TheVariants as row
 use Rattle.auc_vector.specs.declared.why.PeerWhy.{PeerWhy}
 use Rattle.auc_vector.specs.declared.why.PeerWhy.TheVariants as why
 use Rattle.auc_reauth.specs.Device.{Keeps, accepting as accepting_counter, is_open, with_accepted, with_context}
-use Rattle.auc_reauth.specs.Machine.{Accept, Adopt, Challenge as Challenges, Home, Lose, Move, Places, Win, renamed as renamed_at, with_place}
+use Rattle.auc_reauth.specs.Machine.{Accept, Adopt, Challenge as Challenges, HomePast, Lose, Move, Places, Win, renamed as renamed_at, with_place}
 use Rattle.auc_reauth.specs.Store.{ByMethod, entry, method_of, with_entry}
 use Rattle.auc_reauth.specs.declared.context.Context.{Context}
 use Rattle.auc_usim.specs.declared.answer.Answer.{Answer}
@@ -103,7 +103,7 @@ small_taken k counter e = cc
 taken_is : (k counter : ℕ) → ◌≡◌ {A = Option CounterNote} (Some (counts.Taken k)) (Some (counts.Taken counter)) → ◌≡◌ {A = Option Move} (Some (Accept k)) (Some (Accept counter))
 taken_is k counter e = cc
 
-module _ (t : ℕ) (w : Home) (p : PeerEnd) (keeps : Keeps) (shown : Shows w p.options.method t keeps p) where
+module _ (t : ℕ) (w : HomePast) (p : PeerEnd) (keeps : Keeps) (shown : Shows w p.options.method t keeps p) where
   abbrev Once : Keeps → PeerEnd × Turn PeerWhy → Type 0
   Once kept x = MovesOnce t w p x.0 x.1.notes keeps kept
 

@@ -5,10 +5,10 @@ use Rattle.auc_packet.specs.Received.{Seen, IsReceived}
 use Rattle.auc_peer.specs.Rows.{peer_row, row_headed, row_in}
 use Rattle.auc_peer.specs.Subscription.{Subscription}
 use Rattle.auc_peer.specs.Table.{challenged, context_of, counted_up, kept_by, peer_does, peer_step, reauthenticated, succeeded, taken_up}
-use Rattle.auc_peer.specs.Turn.{Asked, Decryption, Decrypts, SendsLast, Steps, asked, decryption_made, decryption_noted, decryption_resumed, inner_of}
+use Rattle.auc_peer.specs.Turn.{AskedUsim, Decryption, Decrypts, SendsLast, Steps, asked, decryption_made, decryption_noted, decryption_resumed, inner_of}
 use Rattle.auc_peer.specs.declared.decrypted.Decrypted.{Decrypted}
 use Rattle.auc_peer.specs.declared.decrypted.Decrypted.TheVariants as decrypted
-use Rattle.auc_peer.specs.Told.{Told}
+use Rattle.auc_peer.specs.Told.{ToldSession}
 use Rattle.auc_peer.specs.declared.peer.Challenge.{Challenge}
 use Rattle.auc_peer.specs.declared.peer.Last.{Last}
 use Rattle.auc_peer.specs.declared.peer.PeerState.{PeerState}
@@ -38,7 +38,7 @@ reauth_steps key s keeps p seen bytes before new turn kept is of e step decrypts
       received = is;
       of = of;
       same = λ past remembers. subst (λ (r : Row). ◌≡◌ {A = PeerEnd × Turn PeerWhy} (new, turn) (peer_does key s keeps p seen r turn.notes.usim (inner_of new))) e step;
-      usim = subst (λ (r : Row). Asked s (asked r) turn.notes.usim before before) e (silent, refl);
+      usim = subst (λ (r : Row). AskedUsim s (asked r) turn.notes.usim before before) e (silent, refl);
       decrypts = λ past remembers. subst (λ (r : Row). Decrypts (decryption_made s keeps p seen r turn.notes.usim) (inner_of new)) e decrypts;
       sent = subst Sends (sym step) (reauth_sends key keeps p seen new.inner);
       stored = subst (λ (r : Row). kept ≡ kept_by r p turn.notes.counter keeps) e stored;
@@ -59,7 +59,7 @@ reauth_returns key s keeps p seen bytes before after new kept (Err other) is of 
 pub row_steps : (key : List ℕ) (s : Subscription) (keeps : Keeps) (p : PeerEnd) (seen : Seen) (r : Row) (bytes : List ℕ) (before : ArrayValue) (new : PeerEnd) (turn : Turn PeerWhy) (kept : Keeps) (after : ArrayValue)
     → IsReceived seen → seen.bytes ≡ bytes → r ≡ peer_row p seen
     → ((past : Past) → Remembers before past → ◌≡◌ {A = PeerEnd × Turn PeerWhy} (new, turn) (peer_step key s keeps p seen turn.notes.usim (inner_of new)))
-    → Asked s (asked r) turn.notes.usim before after
+    → AskedUsim s (asked r) turn.notes.usim before after
     → ((past : Past) → Remembers before past → Decrypts (decryption_made s keeps p seen r turn.notes.usim) (inner_of new))
     → SendsLast new.last turn.step
     → kept ≡ kept_by r p turn.notes.counter keeps
@@ -69,7 +69,7 @@ row_steps key s keeps p seen r bytes before new turn kept after is of e step usi
   received = is;
   of = of;
   same = step;
-  usim = subst (λ (x : Row). Asked s (asked x) turn.notes.usim before after) e usim;
+  usim = subst (λ (x : Row). AskedUsim s (asked x) turn.notes.usim before after) e usim;
   decrypts = λ past remembers. subst (λ (x : Row). Decrypts (decryption_made s keeps p seen x turn.notes.usim) (inner_of new)) e (decrypts past remembers);
   sent = sent;
   stored = subst (λ (x : Row). kept ≡ kept_by x p turn.notes.counter keeps) e stored;
@@ -121,7 +121,7 @@ quiet_steps key s keeps p seen r before new turn q is e step =
     let silent : turn.notes.usim ≡ None = ap (λ (t : PeerEnd × Turn PeerWhy). t.1.notes.usim) step ∙ facts.4 in
     row_steps key s keeps p seen r seen.bytes before new turn keeps before is refl e
     (λ past remembers. subst (λ (x : Row). ◌≡◌ {A = PeerEnd × Turn PeerWhy} (new, turn) (peer_does key s keeps p seen x turn.notes.usim (inner_of new))) e (step ∙ facts.0))
-    (subst (λ (o : Option Challenge). Asked s o turn.notes.usim before before) (sym facts.1) (silent, refl))
+    (subst (λ (o : Option Challenge). AskedUsim s o turn.notes.usim before before) (sym facts.1) (silent, refl))
     (λ past remembers. subst (λ (o : Option Decryption). Decrypts o (inner_of new)) (sym facts.2) tt)
     (subst Sends (sym step) (quiet_sends key s keeps p seen r q)) (sym facts.3)
 
@@ -145,7 +145,7 @@ success_steps key s keeps p seen before after new turn kept is e same step silen
 pub challenged_returns : {E : Type 0} (key : List ℕ) (s : Subscription) (keeps : Keeps) (p : PeerEnd) (seen : Seen) (c : Challenge) (before after : ArrayValue) (new : PeerEnd) (kept : Keeps) (result : Result (Turn PeerWhy) E)
     → IsReceived seen → row.Challenged c ≡ peer_row p seen → kept ≡ keeps
     → IfOk result (λ turn. (past : Past) → Remembers before past → ◌≡◌ {A = PeerEnd × Turn PeerWhy} (new, turn) (challenged s p seen c turn.notes.usim (inner_of new)))
-    → IfOk result (λ turn. Asked s (Some c) turn.notes.usim before after)
+    → IfOk result (λ turn. AskedUsim s (Some c) turn.notes.usim before after)
     → IfOk result (λ turn. (past : Past) → Remembers before past → Decrypts (decryption_noted s p seen (Some c) turn.notes.usim) (inner_of new))
     → IfOk result (λ turn. SendsLast new.last turn.step)
     → IfOk result (λ turn. Steps key s keeps p seen.bytes before new turn kept after)
@@ -156,7 +156,7 @@ challenged_returns key s keeps p seen c before after new kept (Ok turn) is e sam
 challenged_returns key s keeps p seen c before after new kept (Err other) is e same step usim decrypts sent = tt
 
 -- the row of a session that hasn't ended
-pub not_ended : (o : Told) (s : PeerState) (last : Option Last) (seen : Seen) → (s ≡ state.Ended → ⊥) → row_in o s last seen ≡ row_headed o s last seen (head_at seen.bytes)
+pub not_ended : (o : ToldSession) (s : PeerState) (last : Option Last) (seen : Seen) → (s ≡ state.Ended → ⊥) → row_in o s last seen ≡ row_headed o s last seen (head_at seen.bytes)
 not_ended o state.Waiting last seen going = refl
 not_ended o (state.Answered keys) last seen going = refl
 not_ended o (state.Refusing cause) last seen going = refl

@@ -10,7 +10,7 @@ use Rattle.auc_peer.specs.Identities.{adopted}
 use Rattle.auc_peer.specs.Rows.{peer_row}
 use Rattle.auc_peer.specs.Table.{gave_up, kept_by, keys_for, new_peer, peer_step, pseudonym_given, text_or_none}
 use Rattle.auc_peer.specs.Turn.{Steps}
-use Rattle.auc_peer.specs.Told.{Told}
+use Rattle.auc_peer.specs.Told.{ToldSession}
 use Rattle.auc_peer.specs.declared.peer.Challenge.{Challenge}
 use Rattle.auc_peer.specs.Peer.{PeerEnd, accepted_in, network_named, resumed_from}
 use Rattle.auc_peer.specs.declared.peer.PeerState.TheVariants as state
@@ -43,7 +43,7 @@ happened p (Bytes key s keeps seen n inner) = (peer_step key s keeps p seen n in
 happened p GiveUp = (gave_up p p.state).0
 
 -- a peer with some options after some inputs, the last of which stands first
-abbrev pub after : Told → List Input → PeerEnd
+abbrev pub after : ToldSession → List Input → PeerEnd
 after o [] = new_peer o
 after o (input ∷ before) = happened (after o before) input
 
@@ -60,7 +60,7 @@ Came m keys (input ∷ before) = IsRightUnder m keys input ⊎ Came m keys befor
 -- a peer that ends in Success with some keys has received bytes with a right AT_MAC under them before
 abbrev pub SuccessNeedsARightMac : Type 0
 SuccessNeedsARightMac =
-    (o : Told) (before : List Input) (key : List ℕ) (s : Subscription) (keeps : Keeps) (seen : Seen) (n : Option UsimNote) (inner : Decrypted) (keys : KeySet) (bytes : List ℕ)
+    (o : ToldSession) (before : List Input) (key : List ℕ) (s : Subscription) (keeps : Keeps) (seen : Seen) (n : Option UsimNote) (inner : Decrypted) (keys : KeySet) (bytes : List ℕ)
     → (peer_step key s keeps (after o before) seen n inner).1.step ≡ step.Ended (outcome.Success keys) bytes
     → Came o.method keys before
 

@@ -1,6 +1,6 @@
 -- What an EAP peer knows of its session (RFC 4187 §3).
 use Rattle.std.specs.Prelude.{ℕ, List, [], Option, Some, None}
-use Rattle.auc_peer.specs.Told.{Told}
+use Rattle.auc_peer.specs.Told.{ToldSession}
 use Rattle.auc_peer.specs.declared.decrypted.Decrypted.{Decrypted}
 use Rattle.auc_peer.specs.declared.next.NextContext.{NextContext}
 use Rattle.auc_peer.specs.declared.peer.Challenge.{Challenge}
@@ -12,7 +12,7 @@ use Rattle.auc_reauth.specs.declared.context.Context.{Context}
 
 pub record PeerEnd : Type 0 where
   -- what it was told before its session
-  pub options : Told
+  pub options : ToldSession
   -- where it stands
   pub state : PeerState
   -- the request that it answered last, if it has answered one

@@ -13,7 +13,7 @@ use Rattle.auc_peer.specs.Peer.{PeerEnd}
 use Rattle.auc_peer.specs.declared.peer.PeerState.{PeerState}
 use Rattle.auc_peer.specs.declared.peer.PeerState.TheVariants as state
 use Rattle.auc_reauth.specs.Device.{Keeps, is_open}
-use Rattle.auc_reauth.specs.Machine.{Accept, Adopt, Challenge, Home, Lose, Move, Resume, Win, moved}
+use Rattle.auc_reauth.specs.Machine.{Accept, Adopt, Challenge, HomePast, Lose, Move, Resume, Win, moved}
 use Rattle.auc_reauth.specs.Store.{entry, method_of}
 use Rattle.auc_reauth.specs.declared.context.Context.{Context}
 use Rattle.auc_vector.specs.declared.notes.CounterNote.TheVariants as counts
@@ -31,7 +31,7 @@ abbrev pub place_of : PeerEnd → Option Context
 place_of p = place_in p.state p.next
 
 -- the places show a device's context of a method, and at session t that of a peer
-pub record Shows (w : Home) (m : Method) (t : ℕ) (keeps : Keeps) (p : PeerEnd) : Type 0 where
+pub record Shows (w : HomePast) (m : Method) (t : ℕ) (keeps : Keeps) (p : PeerEnd) : Type 0 where
   pub store : w.place zero ≡ entry m keeps.contexts
   pub place : w.place (suc t) ≡ place_of p
 
@@ -57,12 +57,12 @@ IsMoveOf t store notes (Some (Adopt identity)) = Unit {0}
 IsMoveOf t store notes (Some (Resume other identity)) = ⊥
 
 -- the places after a move, if there is one
-abbrev pub moved_by : Option Move → Home → Home
+abbrev pub moved_by : Option Move → HomePast → HomePast
 moved_by None w = w
 moved_by (Some move) w = moved move w
 
 -- a turn makes at most one move
-pub record MovesOnce (t : ℕ) (w : Home) (p new : PeerEnd) (notes : Notes) (keeps kept : Keeps) : Type 0 where
+pub record MovesOnce (t : ℕ) (w : HomePast) (p new : PeerEnd) (notes : Notes) (keeps kept : Keeps) : Type 0 where
   pub move : Option Move
   pub own : IsMoveOf t (entry p.options.method keeps.contexts) notes move
   pub counted : (counter : ℕ) → notes.counter ≡ Some (counts.Taken counter) → move ≡ Some (Accept counter)
@@ -71,7 +71,7 @@ pub record MovesOnce (t : ℕ) (w : Home) (p new : PeerEnd) (notes : Notes) (kee
 
 abbrev pub EachTurnMovesOnce : Type 0
 EachTurnMovesOnce =
-    (key : List ℕ) (s : Subscription) (keeps : Keeps) (p : PeerEnd) (seen : Seen) (n : Option UsimNote) (inner : Decrypted) (t : ℕ) (w : Home)
+    (key : List ℕ) (s : Subscription) (keeps : Keeps) (p : PeerEnd) (seen : Seen) (n : Option UsimNote) (inner : Decrypted) (t : ℕ) (w : HomePast)
     → IsOfMethod p → Shows w p.options.method t keeps p
     → MovesOnce t w p (peer_step key s keeps p seen n inner).0 (peer_step key s keeps p seen n inner).1.notes keeps (kept_after key s keeps p seen n inner)
 

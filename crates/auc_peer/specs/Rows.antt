@@ -16,7 +16,7 @@ use Rattle.auc_packet.specs.declared.received.Reading.TheVariants as reading
 use Rattle.auc_packet.specs.declared.subtype.Subtype.{Subtype}
 use Rattle.auc_packet.specs.declared.subtype.Subtype.TheVariants as subtype
 use Rattle.auc_request.specs.Request.{rand_of, autn_of, bids, first_code, first_kdf, first_value, is_known_kdf, is_right_name, is_separated, name_in, request_in}
-use Rattle.auc_peer.specs.Told.{Told}
+use Rattle.auc_peer.specs.Told.{ToldSession}
 use Rattle.auc_peer.specs.declared.peer.Challenge.{Challenge}
 use Rattle.auc_peer.specs.declared.peer.Last.{Last}
 use Rattle.auc_peer.specs.Peer.{PeerEnd}
@@ -53,16 +53,16 @@ prime_row own list c =
 abbrev pub aka_row : Bool → List Attr → Challenge → Row
 aka_row has_prime list c = if has_prime && bids list then row.Reject why.Downgrade else row.Challenged c
 
-abbrev pub method_row : Method → Told → List Attr → Challenge → Row
+abbrev pub method_row : Method → ToldSession → List Attr → Challenge → Row
 method_row method.Aka o list c = aka_row o.has_prime list c
 method_row method.Prime o list c = prime_row o.name list c
 
-abbrev pub challenge_of : Told → List Attr → Option (List ℕ) → Option (List ℕ) → Row
+abbrev pub challenge_of : ToldSession → List Attr → Option (List ℕ) → Option (List ℕ) → Row
 challenge_of o list (Some rand) (Some autn) = method_row o.method o list (record { rand = rand; autn = autn })
 challenge_of o list _ _ = row.Client why.Missing
 
 -- a Challenge has AT_RAND, AT_AUTN and AT_MAC (RFC 4187 §9.3)
-abbrev pub on_challenge : Told → List Attr → Row
+abbrev pub on_challenge : ToldSession → List Attr → Row
 on_challenge o list =
     if is_missing subtype.Challenge true list then row.Client why.Missing
     else challenge_of o list (first_value rand_of list) (first_value autn_of list)
@@ -87,7 +87,7 @@ abbrev pub on_identity : List Attr → Row
 on_identity list = if is_missing subtype.Identity true list then row.Client why.Missing else row.Identity (request_in list)
 
 -- the tests of a fast re-authentication need the device's context, so they are part of what is done
-abbrev pub on_sound : Told → Subtype → List Attr → Row
+abbrev pub on_sound : ToldSession → Subtype → List Attr → Row
 on_sound o subtype.Challenge list = on_challenge o list
 on_sound o subtype.Reauthentication list = row.Reauthentication
 on_sound o subtype.Notification list = on_notification list
@@ -101,11 +101,11 @@ is_response subtype.SynchronizationFailure = true
 is_response subtype.ClientError = true
 is_response other = false
 
-abbrev pub on_message : Told → Subtype → List Attr → Row
+abbrev pub on_message : ToldSession → Subtype → List Attr → Row
 on_message o s list =
     if is_response s || is_malformed s true o.method list then row.Client why.Malformed else on_sound o s list
 
-abbrev pub waiting : Told → Reading → Row
+abbrev pub waiting : ToldSession → Reading → Row
 waiting o (reading.Fault fault) = row.Client why.Malformed
 waiting o (reading.Read (packet.Identity request id text)) = row.First
 waiting o (reading.Read (packet.Aka request id m s list)) = on_message o s list
@@ -140,26 +140,26 @@ ended_by s last head =
 
 -- ---- the tests for every state
 
-abbrev pub requested : Told → PeerState → Reading → Row
+abbrev pub requested : ToldSession → PeerState → Reading → Row
 requested o state.Waiting r = waiting o r
 requested o (state.Answered keys) r = late o.method r
 requested o other r = row.Ignore reason.Unexpected
 
 -- type 1 is Identity, and each method has a type of its own
-abbrev pub of_kind : Told → PeerState → Option Last → Seen → Head → Option ℕ → Row
+abbrev pub of_kind : ToldSession → PeerState → Option Last → Seen → Head → Option ℕ → Row
 of_kind o s last seen head None = ended_by s last head
 of_kind o s last seen head (Some kind) =
     if not (kind == 1 || kind == method_type o.method) then row.Ignore reason.OtherType else requested o s seen.reading
 
 -- code 2 is Response
-abbrev pub row_headed : Told → PeerState → Option Last → Seen → Option Head → Row
+abbrev pub row_headed : ToldSession → PeerState → Option Last → Seen → Option Head → Row
 row_headed o s last seen None = row.Ignore reason.NotForMe
 row_headed o s last seen (Some head) =
     if head.code == 2 then row.Ignore reason.NotForMe
     else if repeats last seen.bytes then row.Again
     else of_kind o s last seen head head.kind
 
-abbrev pub row_in : Told → PeerState → Option Last → Seen → Row
+abbrev pub row_in : ToldSession → PeerState → Option Last → Seen → Row
 row_in o state.Ended last seen = row.Ignore reason.Closed
 row_in o s last seen = row_headed o s last seen (head_at seen.bytes)
 

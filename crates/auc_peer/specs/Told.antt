@@ -5,7 +5,7 @@ use Rattle.auc_peer.specs.declared.identity.FirstIdentity.{FirstIdentity}
 
 -- the session's number, the method, the network's name that the peer means, whether the device has EAP-AKA', and the first
 -- identity
-pub record Told : Type 0 where
+pub record ToldSession : Type 0 where
   pub session : ℕ
   pub method : Method
   pub name : Option (List ℕ)

@@ -41,10 +41,10 @@ asked other = None
 
 -- the USIM answered what it was asked by all that it had accepted, as the note tells, and accepted nothing else; it was
 -- asked nothing else
-abbrev pub Asked : Subscription → Option Challenge → Option UsimNote → ArrayValue → ArrayValue → Type 0
-Asked s None n old new = (n ≡ None) × (new ≡ old)
-Asked s (Some c) None old new = ⊥
-Asked s (Some c) (Some n) old new = (past : Past) → Remembers old past
+abbrev pub AskedUsim : Subscription → Option Challenge → Option UsimNote → ArrayValue → ArrayValue → Type 0
+AskedUsim s None n old new = (n ≡ None) × (new ≡ old)
+AskedUsim s (Some c) None old new = ⊥
+AskedUsim s (Some c) (Some n) old new = (past : Past) → Remembers old past
     → IsAnswer s.secret old.bits old.age past c.rand c.autn (answer_noted s.secret c n)
     × Remembers new (past_after_answer old.bits past (answer_noted s.secret c n))
 
@@ -117,7 +117,7 @@ pub record Steps (key : List ℕ) (s : Subscription) (keeps : Keeps) (old : Peer
   pub received : IsReceived seen
   pub of : seen.bytes ≡ bytes
   pub same : (past : Past) → Remembers before past → (new, turn) ≡ peer_step key s keeps old seen turn.notes.usim (inner_of new)
-  pub usim : Asked s (asked (peer_row old seen)) turn.notes.usim before after
+  pub usim : AskedUsim s (asked (peer_row old seen)) turn.notes.usim before after
   pub decrypts : (past : Past) → Remembers before past
       → Decrypts (decryption_made s keeps old seen (peer_row old seen) turn.notes.usim) (inner_of new)
   pub sent : SendsLast new.last turn.step

@@ -12,7 +12,7 @@ ghost use Rattle.auc_peer.specs.Messages.{response_bytes};
 ghost use Rattle.auc_peer.specs.Subscription.{subscription_of};
 ghost use Rattle.auc_peer.specs.Table.{accepted, answered, by_answer, challenged, context_from, keys_for, network_in, opened, origin_of, own_code, text_or_none, with_next};
 ghost use Rattle.auc_vector.specs.Keys.{ck_by, ik_by, master_of as master_by_method};
-ghost use Rattle.auc_peer.specs.Turn.{Asked, Decrypts, IsInner, SendsLast, decryption_by, decryption_noted, decryption_under, inner_of};
+ghost use Rattle.auc_peer.specs.Turn.{AskedUsim, Decrypts, IsInner, SendsLast, decryption_by, decryption_noted, decryption_under, inner_of};
 
 use crate::decrypted::Decrypted;
 use crate::device::Device;
@@ -101,7 +101,7 @@ impl Peer {
         ensures step { IfOk result (λ turn. (past : Past) → Remembers device.old.usim.array past
             → (self.new, turn) ≡ challenged (subscription_of device.old) self.old (seen_of received.now)
             challenge turn.notes.usim (inner_of self.new)) }
-        ensures usim { IfOk result (λ turn. Asked (subscription_of device.old) (Some challenge) turn.notes.usim
+        ensures usim { IfOk result (λ turn. AskedUsim (subscription_of device.old) (Some challenge) turn.notes.usim
             device.old.usim.array device.new.usim.array) }
         ensures decrypts { IfOk result (λ turn. (past : Past) → Remembers device.old.usim.array past
             → Decrypts (decryption_noted (subscription_of device.old) self.old (seen_of received.now) (Some challenge)

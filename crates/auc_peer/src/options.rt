@@ -22,9 +22,9 @@ pub struct PeerOptions {
 
 impl Model for PeerOptions {
     ghost use Rattle.auc_peer.specs.Identities.{IsShortFirst};
-    ghost use Rattle.auc_peer.specs.Told.{Told};
+    ghost use Rattle.auc_peer.specs.Told.{ToldSession};
 
-    ghost Value = { Told };
+    ghost Value = { ToldSession };
 
     ghost view = { λ o. record { session = o.session; method = o.method; name = o.name; has_prime = o.has_prime; first = o.first } };
 

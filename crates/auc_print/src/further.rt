@@ -1,5 +1,4 @@
-//! The lines of what follows from a released vector: keys of EPS, and a 5G authentication; and of what happens at sites and in
-//! sessions of EAP-SIM.
+//! The lines of keys of EPS, of 5G authentications, and of what happens at sites and in sessions of EAP-SIM.
 
 ghost use Rattle.std.specs.Prelude.{◌≡◌, ◌++◌, length, OnOk};
 ghost use Rattle.auc_record.specs.Record.{IsBelow, further_subscriber};

@@ -37,8 +37,7 @@ pub fn print_round(
     out: &mut Octets,
 ) -> Result<(), NoMemory>
     requires named { NamesBelow (length set.now.rows) round.now }
-    requires vectors { vectors.now
-        ≡ (if full then map (vectors_in set.now) round.now.jobs else []) }
+    requires vectors { vectors.now ≡ (if full then map (vectors_in set.now) round.now.jobs else []) }
 
     ensures printed { OnOk result (out.new ≡ out.old ++ round_text set.now full round.now) }
     ensures fits { OnOk result (RoundFits round.now) }
@@ -63,8 +62,7 @@ fn print_lines(
     out: &mut Octets,
 ) -> Result<(), NoMemory>
     requires named { NamesBelow (length set.now.rows) round.now }
-    requires vectors { vectors.now
-        ≡ (if full then map (vectors_in set.now) round.now.jobs else []) }
+    requires vectors { vectors.now ≡ (if full then map (vectors_in set.now) round.now.jobs else []) }
 
     ensures text { Prints result out.old out.new (round_text set.now full round.now) }
     ensures fits { OnOk result (RoundFits round.now) }

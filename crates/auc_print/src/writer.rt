@@ -120,8 +120,7 @@ fn print_hex(bytes: &[u8], out: &mut Octets) -> Result<(), NoMemory>
     append_hex_digits(rest, out)
 }
 
-/// Appends up to 16 bytes in lower-case hexadecimal digits, two for each. If memory runs out, `out` stays
-/// as it was.
+/// Appends up to 16 bytes in lower-case hexadecimal digits, two for each. If memory runs out, `out` stays as it was.
 pub fn append_hex_digits(bytes: &[u8], out: &mut Octets) -> Result<(), NoMemory>
     requires { length bytes.now ≤ 16 }
 

@@ -3,7 +3,7 @@ use Rattle.std.proofs.Common.{◌≡◌, ◌≢◌, ℕ, zero, suc, ◌+◌, ◌
 use Rattle.std.proofs.lemmas.Bool.{leb-true}
 use Rattle.std.proofs.lemmas.List.Elements.{All-cons, All-head, All-weaker}
 use Rattle.auc_reauth.specs.Device.{accepting, advanced, is_open}
-use Rattle.auc_reauth.specs.Machine.{Accept, Adopt, AreDifferent, Challenge, EachCounterOnce, EachIsFresh, Home, IsFresh, IsNew, Lose, Move, Places, Resume, Used, Win, accepted_in, after, empty_home, moved, next_in, renamed, used_by, used_in, with_place}
+use Rattle.auc_reauth.specs.Machine.{Accept, Adopt, AreDifferent, Challenge, EachCounterOnce, EachIsFresh, HomePast, IsFresh, IsNew, Lose, Move, Places, Resume, Used, Win, accepted_in, after, empty_home, moved, next_in, renamed, used_by, used_in, with_place}
 use Rattle.auc_reauth.specs.declared.context.Context.{Context}
 use Rattle.auc_reauth.proofs.PlaceLemmas.{Holds, again, holds_alike, holds_cleared, holds_empty, holds_put, holds_seen, holds_used, no_other}
 
@@ -129,10 +129,10 @@ adopted (Some identity) (Some c) places used seen there h =
 
 -- ---- all moves
 
-abbrev IsFine : Home → Type 0
+abbrev IsFine : HomePast → Type 0
 IsFine w = Fine w.place w.used w.origins
 
-stays_fine : (m : Move) (w : Home) → IsFresh m w → IsFine w → IsFine (moved m w)
+stays_fine : (m : Move) (w : HomePast) → IsFresh m w → IsFine w → IsFine (moved m w)
 stays_fine (Challenge t c) w fresh h = challenged t c w.place w.used w.origins fresh h
 stays_fine (Resume t identity) w fresh h = resumed t identity (w.place zero) w.place w.used w.origins refl h
 stays_fine (Accept counter) w fresh h = accepted counter (w.place zero) w.place w.used w.origins refl fresh h
@@ -140,7 +140,7 @@ stays_fine (Win t) w fresh h = won t (w.place (suc t)) w.place w.used w.origins 
 stays_fine (Lose t) w fresh h = cleared (suc t) w.place w.used w.origins h
 stays_fine (Adopt identity) w fresh h = adopted identity (w.place zero) w.place w.used w.origins refl h
 
-all_fine : (ms : List Move) (w : Home) → EachIsFresh ms w → IsFine w → IsFine (after ms w)
+all_fine : (ms : List Move) (w : HomePast) → EachIsFresh ms w → IsFine w → IsFine (after ms w)
 all_fine [] w fresh h = h
 all_fine (m ∷ ms) w fresh h = all_fine ms (moved m w) fresh.1 (stays_fine m w fresh.0 h)
 

@@ -2,7 +2,7 @@
 use Rattle.std.proofs.Common.{◌≡◌, ◌≢◌, ℕ, zero, suc, ◌+◌, List, [], ◌∷◌, ◌++◌, Option, None, Some, refl, sym}
 use Rattle.std.specs.Option.{option_to_list}
 use Rattle.std.proofs.lemmas.List.Elements.{All-head, All-weaker}
-use Rattle.auc_reauth.specs.Machine.{Accept, Adopt, Challenge, EachGivesNew, EachIdentityOnce, GivesNew, HaveOwnNames, Home, IsNew, Lose, Move, Places, Resume, Used, Win, after, empty_home, moved, next_in, used_by, used_in, with_place}
+use Rattle.auc_reauth.specs.Machine.{Accept, Adopt, Challenge, EachGivesNew, EachIdentityOnce, GivesNew, HaveOwnNames, HomePast, IsNew, Lose, Move, Places, Resume, Used, Win, after, empty_home, moved, next_in, used_by, used_in, with_place}
 use Rattle.auc_reauth.specs.declared.context.Context.{Context}
 use Rattle.auc_reauth.proofs.PlaceLemmas.{Holds, holds_cleared, holds_empty, holds_put, holds_seen, holds_used, no_other}
 
@@ -46,7 +46,7 @@ used_up c places used seen there h =
     holds_used name_of name_used IsOther HaveOwnNames others_are_other zero c (used_by c.counter c) places used seen there refl
     (All-weaker (λ u. IsOther u c) (HaveOwnNames (used_by c.counter c)) (λ u other e. other (sym e)) used (h.before zero c there)) h
 
-resumed : (t : ℕ) (identity : Option (List ℕ)) (c : Option Context) (w : Home) → GivesNew (Resume t identity) w → w.place zero ≡ c → Named w.place w.used w.given
+resumed : (t : ℕ) (identity : Option (List ℕ)) (c : Option Context) (w : HomePast) → GivesNew (Resume t identity) w → w.place zero ≡ c → Named w.place w.used w.given
     → Named (with_place (suc t) (next_in identity c) (with_place zero None w.place)) (used_in c ++ w.used) (option_to_list identity ++ w.given)
 resumed t None None w new there h = cleared (suc t) (with_place zero None w.place) w.used w.given (cleared zero w.place w.used w.given h)
 resumed t None (Some c) w new there h =
@@ -71,10 +71,10 @@ won t (Some c) places used seen there h =
 
 -- ---- all moves
 
-abbrev IsNamed : Home → Type 0
+abbrev IsNamed : HomePast → Type 0
 IsNamed w = Named w.place w.used w.given
 
-stays_named : (m : Move) (w : Home) → GivesNew m w → IsNamed w → IsNamed (moved m w)
+stays_named : (m : Move) (w : HomePast) → GivesNew m w → IsNamed w → IsNamed (moved m w)
 stays_named (Challenge t c) w new h = new_comes (suc t) c w.place w.used w.given new h
 stays_named (Resume t identity) w new h = resumed t identity (w.place zero) w new refl h
 stays_named (Accept counter) w new h = absurd new
@@ -82,7 +82,7 @@ stays_named (Win t) w new h = won t (w.place (suc t)) w.place w.used w.given ref
 stays_named (Lose t) w new h = cleared (suc t) w.place w.used w.given h
 stays_named (Adopt identity) w new h = absurd new
 
-all_named : (ms : List Move) (w : Home) → EachGivesNew ms w → IsNamed w → IsNamed (after ms w)
+all_named : (ms : List Move) (w : HomePast) → EachGivesNew ms w → IsNamed w → IsNamed (after ms w)
 all_named [] w new h = h
 all_named (m ∷ ms) w new h = all_named ms (moved m w) new.1 (stays_named m w new.0 h)
 

@@ -23,13 +23,13 @@ pub record Used : Type 0 where
 
 -- the places, and what was there so far: the origins of full authentications, the identities that were given, and the
 -- counters that were used
-pub record Home : Type 0 where
+pub record HomePast : Type 0 where
   pub place : Places
   pub origins : List ℕ
   pub given : List (List ℕ)
   pub used : List Used
 
-abbrev pub empty_home : Home
+abbrev pub empty_home : HomePast
 empty_home = record { place = λ i. None; origins = []; given = []; used = [] }
 
 -- ---- moves
@@ -77,7 +77,7 @@ abbrev pub accepted_in : ℕ → Option Context → List Used
 accepted_in counter None = []
 accepted_in counter (Some c) = used_by counter c ∷ []
 
-abbrev pub moved : Move → Home → Home
+abbrev pub moved : Move → HomePast → HomePast
 moved (Challenge t c) w = record w {
   place = with_place (suc t) (Some c) w.place;
   origins = c.origin ∷ w.origins;
@@ -97,7 +97,7 @@ moved (Lose t) w = record w { place = with_place (suc t) None w.place }
 moved (Adopt identity) w = record w { place = with_place zero (renamed identity (w.place zero)) w.place }
 
 -- the home after moves
-abbrev pub after : List Move → Home → Home
+abbrev pub after : List Move → HomePast → HomePast
 after [] w = w
 after (m ∷ ms) w = after ms (moved m w)
 
@@ -108,17 +108,17 @@ abbrev pub IsNew : {X : Type 0} → X → List X → Type 0
 IsNew x xs = All (λ y. y ≢ x) xs
 
 -- a full authentication has an origin of its own, and only an open counter is accepted
-abbrev pub IsFresh : Move → Home → Type 0
+abbrev pub IsFresh : Move → HomePast → Type 0
 IsFresh (Challenge t c) w = IsNew c.origin w.origins
 IsFresh (Accept counter) w = is_open counter (w.place zero) ≡ true
 IsFresh other w = Unit {0}
 
-abbrev pub EachIsFresh : List Move → Home → Type 0
+abbrev pub EachIsFresh : List Move → HomePast → Type 0
 EachIsFresh [] w = Unit {0}
 EachIsFresh (m ∷ ms) w = IsFresh m w × EachIsFresh ms (moved m w)
 
 -- a server's move: each identity that is given is new, and no counter is accepted
-abbrev pub GivesNew : Move → Home → Type 0
+abbrev pub GivesNew : Move → HomePast → Type 0
 GivesNew (Challenge t c) w = IsNew c.identity w.given
 GivesNew (Resume t None) w = Unit {0}
 GivesNew (Resume t (Some identity)) w = IsNew identity w.given
@@ -126,7 +126,7 @@ GivesNew (Accept counter) w = ⊥
 GivesNew (Adopt identity) w = ⊥
 GivesNew other w = Unit {0}
 
-abbrev pub EachGivesNew : List Move → Home → Type 0
+abbrev pub EachGivesNew : List Move → HomePast → Type 0
 EachGivesNew [] w = Unit {0}
 EachGivesNew (m ∷ ms) w = GivesNew m w × EachGivesNew ms (moved m w)
 

@@ -15,7 +15,7 @@ use Rattle.auc_history.specs.History.{drawn, drawn_by, skipped, skipped_by}
 use Rattle.auc_history.specs.Split.{all_entries}
 use Rattle.auc_history.specs.declared.entry.Entry.TheVariants.{Drawn}
 use Rattle.auc_history.proofs.Facts.{split_counts_its_numbers}
-use Rattle.auc_jobs.specs.Round.{Serves}
+use Rattle.auc_jobs.specs.Round.{ServesRound}
 use Rattle.auc_jobs.specs.Serving.{AreAllKnown, AreKnown, IsKnownLine}
 use Rattle.auc_jobs.specs.State.{Standing}
 use Rattle.auc_journal.specs.Journal.{JournalState}
@@ -493,7 +493,7 @@ load_round_closes load set kept round words is same_rows lawful =
 
 -- a round that was served is lawful from the state's words, which are the numbers of the rows
 pub served_lawful : {D : Type 0} (seen : D → Option (List ℕ)) (may_leave : D → List ℕ → Type 0) (moment : D → ℕ) (left_since : D → ℕ → List ℕ → Type 0) (set : Setting) (state next : Standing) (jobs : List (List Line)) (round : RoundRecord) (stop : Option Stop)
-    (journal after : JournalState D) → state.words ≡ map (λ (row : Row). row.seq) set.rows → Serves seen may_leave moment left_since set [] state jobs round stop journal next after
+    (journal after : JournalState D) → state.words ≡ map (λ (row : Row). row.seq) set.rows → ServesRound seen may_leave moment left_since set [] state jobs round stop journal next after
     → (kept : List Kept) × (words : List ℕ) × IsLawfulRound set stop [] kept (map (λ (row : Row). row.seq) set.rows) jobs round words
 served_lawful seen may_leave moment left_since set state next jobs round stop journal after same serves =
     (state.kept, serves.words, subst (λ (os : List ℕ). IsLawfulRound set stop [] state.kept os jobs round serves.words) same serves.lawful)

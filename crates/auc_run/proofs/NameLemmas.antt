@@ -16,7 +16,7 @@ use Rattle.auc_lines.specs.declared.sites.SiteEvent.{SiteEvent}
 use Rattle.auc_lines.specs.declared.part.Report.{Report}
 use Rattle.auc_random.specs.Random.{rand_of}
 use Rattle.auc_request.specs.Request.{is_separated}
-use Rattle.auc_sites.specs.Network.{Network, Turn, after_event}
+use Rattle.auc_sites.specs.Network.{Network, SitesTurn, after_event}
 use Rattle.auc_sites.specs.Run.{judgement_in}
 use Rattle.auc_sites.specs.declared.master.Judged.{Judged}
 use Rattle.auc_sites.specs.declared.master.Judged.TheVariants as judged
@@ -36,7 +36,7 @@ use Rattle.auc_record.specs.declared.record.GiveVerdict.{GiveVerdict}
 use Rattle.auc_record.specs.declared.record.GiveVerdict.TheVariants as given
 use Rattle.auc_world.specs.Given.{AuthenticatesIf, Before, EventGives, FivegFollows, GiveGives, device_of_row, hxres_lines, judged_lines, kasme_line, outcome_of, turned, IsCentreAsked, JobGives, JobsGive, LineGives, PlainGives, RelayGives, SyncGives, VectorsFollow, behind, packet_of}
 use Rattle.auc_record.specs.Draws.{DrawGives, OneGives}
-use Rattle.auc_world.specs.Happened.{Delivery, Told, changed_in, delivery_in}
+use Rattle.auc_world.specs.Happened.{Delivery, ToldEvent, changed_in, delivery_in}
 use Rattle.auc_record.specs.Lines.{numbers_of}
 use Rattle.auc_world.specs.Net.{Net, device_place, other, packet_at, session_place}
 use Rattle.auc_record.specs.Record.{IsBelow, subscriber_of}
@@ -160,7 +160,7 @@ lease_named set sub size (Some (judged.Old last)) lines inside none = none_named
 lease_named set sub size (Some judged.New) lines inside gives = draw_named set sub size lines inside gives
 
 -- an event of sites names their subscriber
-site_event_named : (set : Setting) (sub size : ℕ) (w : Network) (e : SiteEvent) (lines : List LineRecord) (turn : Turn) → sub < length set.rows
+site_event_named : (set : Setting) (sub size : ℕ) (w : Network) (e : SiteEvent) (lines : List LineRecord) (turn : SitesTurn) → sub < length set.rows
     → SiteEventGives set sub size w e lines turn → All (IsNamed (length set.rows)) lines
 site_event_named set sub size w e lines turn inside gives =
     let said = record_of.Further (further.Sites sub (note_of w e turn)) in
@@ -170,7 +170,7 @@ site_event_named set sub size w e lines turn inside gives =
     (All-cons (IsNamed (length set.rows)) said [] inside (All-nil (IsNamed (length set.rows)))))
 
 -- their events, one after the other
-sites_named : (set : Setting) (sub size : ℕ) (w : Network) (events : List SiteEvent) (lines : List LineRecord) (turns : List Turn) → sub < length set.rows
+sites_named : (set : Setting) (sub size : ℕ) (w : Network) (events : List SiteEvent) (lines : List LineRecord) (turns : List SitesTurn) → sub < length set.rows
     → SitesGo set sub size w events lines turns → All (IsNamed (length set.rows)) lines
 sites_named set sub size w [] lines turns inside (none, same) = none_named (length set.rows) lines none
 sites_named set sub size w (e ∷ events) lines [] inside go = absurd go
@@ -210,16 +210,16 @@ asked_below : (set : Setting) (asking : Option Asking) (notes : Notes) → IsCen
 asked_below set None notes asks = tt
 asked_below set (Some asking) notes asks = asks.known
 
-server_below : (set : Setting) (w : Net) (told : Told) (server : Option ServerEnd) → IsCentreAsked set (asking_at set w told server) told.notes
+server_below : (set : Setting) (w : Net) (told : ToldEvent) (server : Option ServerEnd) → IsCentreAsked set (asking_at set w told server) told.notes
     → IsBelow (length set.rows) (asked_in (came_at_server set w told server))
 server_below set w told None asks = tt
 server_below set w told (Some s) asks = asked_below set (asking_at set w told (Some s)) told.notes asks
 
-peer_below : (set : Setting) (w : Net) (d : Delivery) (told : Told) (device : Option Subscription) → IsBelow (length set.rows) (asked_in (came_at_peer set w d told device))
+peer_below : (set : Setting) (w : Net) (d : Delivery) (told : ToldEvent) (device : Option Subscription) → IsBelow (length set.rows) (asked_in (came_at_peer set w d told device))
 peer_below set w d told None = tt
 peer_below set w d told (Some device) = tt
 
-delivered_below : (set : Setting) (w : Net) (at' : End) (told : Told) (packet : Option SentPacket) (d : Option Delivery)
+delivered_below : (set : Setting) (w : Net) (at' : End) (told : ToldEvent) (packet : Option SentPacket) (d : Option Delivery)
     → IsCentreAsked set (asking_in set w at' told d) told.notes → IsBelow (length set.rows) (asked_in (came_delivered set w at' told packet d))
 delivered_below set w at' told None d asks = tt
 delivered_below set w at' told (Some sent) None asks = tt
@@ -261,7 +261,7 @@ changed_below count packets None copy = tt
 changed_below count packets (Some sent) None = tt
 changed_below count packets (Some sent) (Some bytes) = tt
 
-came_below : (set : Setting) (w : Net) (e : Event) (told : Told) → IsCentreAsked set (asking_of set w e told) told.notes
+came_below : (set : Setting) (w : Net) (e : Event) (told : ToldEvent) → IsCentreAsked set (asking_of set w e told) told.notes
     → IsBelow (length set.rows) (asked_in (came set w e told))
 came_below set w (event.Open line) told asks = opened_below (length set.rows) (session_place w.sessions line.session) (device_place set.rows w.devices line.sub)
 came_below set w (event.Start session) told asks = start_below (length set.rows) w (session_of w session)

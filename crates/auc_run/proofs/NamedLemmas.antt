@@ -9,7 +9,7 @@ use Rattle.auc_edge.specs.Identity.{Identity}
 use Rattle.auc_edge.specs.declared.no_memory.NoMemory.{NoMemory}
 use Rattle.auc_edge.specs.declared.stop.Stop.{Stop}
 use Rattle.auc_edge.specs.declared.stop.Stop.TheVariants.{Fault, Full}
-use Rattle.auc_jobs.specs.Round.{DrewFull, LeavesMore, Serves}
+use Rattle.auc_jobs.specs.Round.{DrewFull, LeavesMore, ServesRound}
 use Rattle.auc_jobs.specs.Serving.{AreAllKnown}
 use Rattle.auc_jobs.specs.State.{Standing, StandsAt}
 use Rattle.auc_jobs.specs.Usims.{AreOfRows}
@@ -282,7 +282,7 @@ module _ {D : Type 0} (seen : D → Option (List ℕ)) (may_leave : D → List �
   -- a round of all subscribers was served
   module _ (state next own_state own_next : Standing) (round : RoundRecord) (stop : Option Stop) (early : List LineRecord) (opening : own_state.words ≡ map (λ place. slice_index state.words place) places)
       (stands : StandsAt set early state)
-      (serves : Serves seen may_leave moment left_since (record set { rows = own }) [] own_state lines round stop (record before { imsis = ids }) own_next (record after { imsis = ids })) where
+      (serves : ServesRound seen may_leave moment left_since (record set { rows = own }) [] own_state lines round stop (record before { imsis = ids }) own_next (record after { imsis = ids })) where
     plain : ArePlainRecords (length places) round.jobs
     plain = round_is_plain set own stop [] own_state.kept own_state.words jobs lines places round serves.words named serves.lawful
 
@@ -316,7 +316,7 @@ module _ {D : Type 0} (seen : D → Option (List ℕ)) (may_leave : D → List �
         (λ sub none row there. subst (All (λ n. reserved_in after.limits row.imsi < n)) (sym (withheld_unnamed places round.jobs sub plain none)) (All-nil (λ n. reserved_in after.limits row.imsi < n)))
 
     pub serves_named : ((sub : ℕ) → sub < length set.rows → slice_index (limits_of before) sub ≤ max_seq) → next.words ≡ put_words state.words places own_next.words → next.kept ≡ state.kept
-        → Serves seen may_leave moment left_since set early state jobs (round_of places round) stop before next after
+        → ServesRound seen may_leave moment left_since set early state jobs (round_of places round) stop before next after
     serves_named within words kept = record {
       words = put_words state.words places serves.words;
       lawful = of_all.lawful;
@@ -417,7 +417,7 @@ module _ {D : Type 0} (seen : D → Option (List ℕ)) (may_leave : D → List �
   -- and said of all if it sufficed
   pub all_served : (faults : D → ℕ) (printed : Bool) (first : ℕ) (state next own_state own_next : Standing) (ran : Ran) (result : Result Ran NoMemory) → ((sub : ℕ) → sub < length set.rows → slice_index (limits_of before) sub ≤ max_seq)
       → own_state.words ≡ map (λ place. slice_index state.words place) places
-      → Serves seen may_leave moment left_since (record set { rows = own }) [] own_state lines ran.round ran.stop (record before { imsis = ids }) own_next (record after { imsis = ids })
+      → ServesRound seen may_leave moment left_since (record set { rows = own }) [] own_state lines ran.round ran.stop (record before { imsis = ids }) own_next (record after { imsis = ids })
       → StandsAt (record set { rows = own }) (all_lines ran.round.jobs) own_next → ran.round.number ≡ first → after.all ≡ before.all → ((after.failed ≡ true) ↔ (ran.stop ≡ Some Fault))
       → (ran.stop ≡ Some Fault → Rose (faults before.disk) (faults after.disk)) → (ran.stop ≢ Some Fault → faults after.disk ≡ faults before.disk) → (ran.stop ≡ Some Full → 2 ^ 30 < after.place + 20)
       → LeavesMore seen may_leave moment left_since (record before { imsis = ids }) (record after { imsis = ids })
@@ -425,11 +425,11 @@ module _ {D : Type 0} (seen : D → Option (List ℕ)) (may_leave : D → List �
       → OnOk result (IsLed places own_next.words (records_of places ran.round.jobs) state next) → IsServed seen may_leave faults moment left_since set printed jobs first state before result next after
   all_served faults printed first state next own_state own_next ran (Ok said) within opening serves own_stands numbered same_all ready fault quiet full leaves is vectors led = record {
     served = λ early stands.
-        let wide : Serves seen may_leave moment left_since set early state jobs (round_of places ran.round) ran.stop before next after =
+        let wide : ServesRound seen may_leave moment left_since set early state jobs (round_of places ran.round) ran.stop before next after =
         serves_named state next own_state own_next ran.round ran.stop early opening stands serves within led.words led.kept in
-        let by_round : Serves seen may_leave moment left_since set early state jobs said.round ran.stop before next after =
-        subst (λ (r : RoundRecord). Serves seen may_leave moment left_since set early state jobs r ran.stop before next after) (sym is.0) wide in
-        subst (λ (why : Option Stop). Serves seen may_leave moment left_since set early state jobs said.round why before next after) (sym is.1) by_round;
+        let by_round : ServesRound seen may_leave moment left_since set early state jobs said.round ran.stop before next after =
+        subst (λ (r : RoundRecord). ServesRound seen may_leave moment left_since set early state jobs r ran.stop before next after) (sym is.0) wide in
+        subst (λ (why : Option Stop). ServesRound seen may_leave moment left_since set early state jobs said.round why before next after) (sym is.1) by_round;
     next = λ early stands.
         subst (λ (r : RoundRecord). StandsAt set (early ++ all_lines r.jobs) next) (sym is.0)
         (stands_named state next own_state own_next ran.round ran.stop early opening stands serves own_stands led.words led.kept led.usims led.noted);
@@ -526,11 +526,11 @@ jobs_releasable set early kept beside (job ∷ jobs) (lines ∷ records) (net �
 -- what was served with equal parts
 pub served_by : {D : Type 0} (seen : D → Option (List ℕ)) (may_leave : D → List ℕ → Type 0) (moment : D → ℕ) (left_since : D → ℕ → List ℕ → Type 0) (set own : Setting) (state next : Standing) (jobs lines : List (List Line)) (round : RoundRecord) (stop : Option Stop)
     (journal before served after : JournalState D) → set ≡ own → jobs ≡ lines → journal ≡ before → served ≡ after
-    → ((early : List LineRecord) → StandsAt set early state → Serves seen may_leave moment left_since set early state jobs round stop journal next served) → StandsAt set [] state
-    → Serves seen may_leave moment left_since own [] state lines round stop before next after
+    → ((early : List LineRecord) → StandsAt set early state → ServesRound seen may_leave moment left_since set early state jobs round stop journal next served) → StandsAt set [] state
+    → ServesRound seen may_leave moment left_since own [] state lines round stop before next after
 served_by {D} seen may_leave moment left_since set own state next jobs lines round stop journal before served after set_is jobs_are before_is after_is serves stands =
-    both (λ (s : Setting) (js : List (List Line)). Serves seen may_leave moment left_since s [] state js round stop before next after) set own jobs lines set_is jobs_are
-    (both (λ (b a : JournalState D). Serves seen may_leave moment left_since set [] state jobs round stop b next a) journal before served after before_is after_is (serves [] stands))
+    both (λ (s : Setting) (js : List (List Line)). ServesRound seen may_leave moment left_since s [] state js round stop before next after) set own jobs lines set_is jobs_are
+    (both (λ (b a : JournalState D). ServesRound seen may_leave moment left_since set [] state jobs round stop b next a) journal before served after before_is after_is (serves [] stands))
 
 -- its record names its subscribers alone
 pub own_names : (set : Setting) (own : List Row) (places : List ℕ) (stop : Option Stop) (state : Standing) (lines : List (List Line)) (round : RoundRecord) (words : List ℕ) → length own ≡ length places → StandsAt (record set { rows = own }) [] state

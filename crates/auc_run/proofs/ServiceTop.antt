@@ -26,7 +26,7 @@ use Rattle.auc_input.specs.Header.{HearsHeader, IsEarly, TookHeader, IsEarlyCaus
 use Rattle.auc_run.specs.InnerService.{EndsReady, EndsServing, IsServing, RunsBlocks, ServesOr}
 use Rattle.auc_run.specs.Output.{setting_of, text_of}
 use Rattle.auc_refusal.specs.Replies.{ready_reply}
-use Rattle.auc_run.specs.Service.{EndsUnserved, IsAnswer, IsSaid, IsServiceStop, Serves, parts_in, records_in, replies_in}
+use Rattle.auc_run.specs.Service.{EndsUnserved, IsAnswer, IsSaid, IsServiceStop, ServesBlocks, parts_in, records_in, replies_in}
 use Rattle.auc_input.specs.Turns.{heard_in, said_in}
 use Rattle.auc_refusal.specs.declared.refusal.Refusal.{Refusal}
 use Rattle.auc_refusal.specs.declared.refusal.Refusal.TheVariants as refused
@@ -142,12 +142,12 @@ ready_fails {D} seen may_leave moment left_since faults rows header from first w
 serves_blocks : Laws → {D : Type 0} (seen : D → Option (List ℕ)) (may_leave : D → List ℕ → Type 0) (moment : D → ℕ) (left_since : D → ℕ → List ℕ → Type 0) (faults : D → ℕ) (told : Option (List File)) (subscribers : Option (List ℕ)) (rows : List Row) (header : Script) (waiting : List ℕ)
     (from disk : D) (journal : JournalState D) (ended : Status) (start old new : Option (List Turn)) (turns : List Turn) → Known rows header → Begins seen may_leave moment left_since faults rows from journal
     → (hears : HearsHeader told subscribers rows header waiting start old) → Turns start new turns → RunsBlocks seen may_leave moment left_since rows header from (limits_of journal) hears.hears.first ended disk turns
-    → Serves told subscribers (seen from) (MayLeave seen may_leave from disk) (MayHaveLeft seen may_leave moment left_since from disk) ended start new
+    → ServesBlocks told subscribers (seen from) (MayLeave seen may_leave from disk) (MayHaveLeft seen may_leave moment left_since from disk) ended start new
 serves_blocks laws {D} seen may_leave moment left_since faults told subscribers rows header waiting from disk journal ended start old new turns known begins hears took runs =
     with_limits (limits_in rows begins.found) (subst (λ (reserved : List ℕ). RunsBlocks seen may_leave moment left_since rows header from reserved hears.hears.first ended disk turns) begins.limits runs)
   where
     with_limits : (reserved : List ℕ) → RunsBlocks seen may_leave moment left_since rows header from (limits_in rows begins.found) hears.hears.first ended disk turns
-        → Serves told subscribers (seen from) (MayLeave seen may_leave from disk) (MayHaveLeft seen may_leave moment left_since from disk) ended start new
+        → ServesBlocks told subscribers (seen from) (MayLeave seen may_leave from disk) (MayHaveLeft seen may_leave moment left_since from disk) ended start new
     with_limits reserved runs = record {
       before = hears.before;
       begins = hears.begins;
@@ -233,13 +233,13 @@ remembers_blocks seen may_leave moment left_since rows header from reserved firs
 
 -- one that has no line
 still_serves : (told : Option (List File)) (subscribers seen : Option (List ℕ)) (leaves : List ℕ → Type 0) (ever : List ℕ → Type 0) (s ended : Status) (old mid new : Option (List Turn)) → ended ≡ s → new ≡ mid
-    → Serves told subscribers seen leaves ever s old mid → Serves told subscribers seen leaves ever ended old new
+    → ServesBlocks told subscribers seen leaves ever s old mid → ServesBlocks told subscribers seen leaves ever ended old new
 still_serves told subscribers seen leaves ever s ended old mid new is same serves =
-    subst (λ (e : Status). Serves told subscribers seen leaves ever e old new) (sym is) (subst (λ (o : Option (List Turn)). Serves told subscribers seen leaves ever s old o) (sym same) serves)
+    subst (λ (e : Status). ServesBlocks told subscribers seen leaves ever e old new) (sym is) (subst (λ (o : Option (List Turn)). ServesBlocks told subscribers seen leaves ever s old o) (sym same) serves)
 
 -- a service that served blocks has no line
 serves_told : (told : Option (List File)) (subscribers seen : Option (List ℕ)) (leaves : List ℕ → Type 0) (ever : List ℕ → Type 0) (refusal : Refusal) (ended : Status) (old mid new : Option (List Turn))
-    → Serves told subscribers seen leaves ever (status_of refusal) old mid → Tells refusal ended None None → (line_of refusal ≡ [] → new ≡ mid) → Serves told subscribers seen leaves ever ended old new
+    → ServesBlocks told subscribers seen leaves ever (status_of refusal) old mid → Tells refusal ended None None → (line_of refusal ≡ [] → new ≡ mid) → ServesBlocks told subscribers seen leaves ever ended old new
 serves_told told subscribers seen leaves ever refused.ReadFault ended old mid new serves (inl (is, line)) same = still_serves told subscribers seen leaves ever status.ReadFault ended old mid new is (same refl) serves
 serves_told told subscribers seen leaves ever refused.WriteFault ended old mid new serves (inl (is, line)) same = still_serves told subscribers seen leaves ever status.WriteFault ended old mid new is (same refl) serves
 serves_told told subscribers seen leaves ever refused.StoreFault ended old mid new serves (inl (is, line)) same = still_serves told subscribers seen leaves ever status.StoreFault ended old mid new is (same refl) serves
@@ -269,7 +269,7 @@ early_told told subscribers seen refusal ended old mid new early (said, says, is
 }
 
 pub service_told : (told : Option (List File)) (subscribers seen : Option (List ℕ)) (leaves : List ℕ → Type 0) (ever : List ℕ → Type 0) (refusal : Refusal) (ended : Status) (old mid new : Option (List Turn))
-    → Serves told subscribers seen leaves ever (status_of refusal) old mid ⊎ IsEarly told subscribers seen refusal old mid → Tells refusal ended None None → (line_of refusal ≡ [] → new ≡ mid) → SaysTold refusal ended mid new
-    → Serves told subscribers seen leaves ever ended old new ⊎ EndsUnserved told subscribers seen ended old new
+    → ServesBlocks told subscribers seen leaves ever (status_of refusal) old mid ⊎ IsEarly told subscribers seen refusal old mid → Tells refusal ended None None → (line_of refusal ≡ [] → new ≡ mid) → SaysTold refusal ended mid new
+    → ServesBlocks told subscribers seen leaves ever ended old new ⊎ EndsUnserved told subscribers seen ended old new
 service_told told subscribers seen leaves ever refusal ended old mid new (inl serves) tells same says = inl (serves_told told subscribers seen leaves ever refusal ended old mid new serves tells same)
 service_told told subscribers seen leaves ever refusal ended old mid new (inr early) tells same says = inr (early_told told subscribers seen refusal ended old mid new early says)

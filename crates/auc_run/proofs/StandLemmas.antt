@@ -11,7 +11,7 @@ use Rattle.auc_journal.specs.Image.{reserved_in}
 use Rattle.auc_journal.specs.Journal.{JournalState, imsi_at, limits_of, reserved_at}
 use Rattle.auc_journal.proofs.Facts.{limits_at}
 use Rattle.auc_keeper.specs.Keeper.{IsAbove}
-use Rattle.auc_jobs.specs.Round.{LeavesMore, Serves}
+use Rattle.auc_jobs.specs.Round.{LeavesMore, ServesRound}
 use Rattle.auc_jobs.specs.State.{Standing, StandsAt}
 use Rattle.auc_lines.specs.declared.part.Line.{Line}
 use Rattle.auc_sqn.specs.Number.{max_seq}
@@ -213,7 +213,7 @@ IsKeptBy set stop early kept openings jobs round words next =
 pub round_leads : {D : Type 0} (seen : D → Option (List ℕ)) (may_leave : D → List ℕ → Type 0) (moment : D → ℕ) (left_since : D → ℕ → List ℕ → Type 0) (set : Setting) (from : D) (reserved : List ℕ) (at : Course) (number : ℕ) (state next : Standing) (journal after : JournalState D)
     (jobs : List (List Line)) (round : RoundRecord) (stop : Option Stop) (known : List LineRecord)
     → StandsAfter seen may_leave moment left_since set from reserved at known number state journal → AreEnough jobs at.early known → round.number ≡ number → after.imsis ≡ journal.imsis → after.all ≡ journal.all → AreSubscribers set.rows
-    → Serves seen may_leave moment left_since set known state jobs round stop journal next after → RoundLeads seen may_leave moment left_since set from reserved at jobs round stop next after
+    → ServesRound seen may_leave moment left_since set known state jobs round stop journal next after → RoundLeads seen may_leave moment left_since set from reserved at jobs round stop next after
 round_leads seen may_leave moment left_since set from reserved at number state next journal after jobs round stop known on enough numbered same all subscribers serves =
     let words = serves.words in
     let begins : IsKeptBy set stop known state.kept at.openings jobs round words next.kept =

@@ -18,7 +18,7 @@ use Rattle.auc_input.specs.Opening.{IsFound, limits_in}
 use Rattle.auc_run.specs.Crash.{IsKept, MayHaveLeft, MayLeave, Remembers, RemembersAlways}
 use Rattle.auc_run.specs.Outcome.{IsWritten, RunsFiles}
 use Rattle.auc_run.specs.Output.{IsOutput}
-use Rattle.auc_run.specs.Service.{Serves}
+use Rattle.auc_run.specs.Service.{ServesBlocks}
 use Rattle.auc_input.specs.Words.{Files}
 use Rattle.auc_refusal.specs.declared.status.Status.{Status}
 
@@ -98,5 +98,5 @@ EachCutRunIsOfAChain {D} seen may_leave moment left_since = (from disk : D) (sta
 abbrev pub EachServiceIsOfAChain : {D : Type 0} → (D → Option (List ℕ)) → (D → List ℕ → Type 0) → (D → ℕ) → (D → ℕ → List ℕ → Type 0) → Type 0
 EachServiceIsOfAChain {D} seen may_leave moment left_since =
     (from disk : D) (shelf : Option (List File)) (subscribers : Option (List ℕ)) (status : Status) (old new : Option (List Turn)) (told : IsTold seen may_leave from) (image : List ℕ)
-    (serves : Serves shelf subscribers (seen from) (MayLeave seen may_leave from disk) (MayHaveLeft seen may_leave moment left_since from disk) status old new) → Remembers seen may_leave status from disk → may_leave disk image
+    (serves : ServesBlocks shelf subscribers (seen from) (MayLeave seen may_leave from disk) (MayHaveLeft seen may_leave moment left_since from disk) status old new) → Remembers seen may_leave status from disk → may_leave disk image
     → BeganOn told.0 (record { status = status; old = None; new = None; rows = serves.rows; lines = serves.service.end.early; image = image })

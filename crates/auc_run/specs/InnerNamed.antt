@@ -3,7 +3,7 @@ use Rattle.std.specs.Prelude.{◌≡◌, ◌≢◌, ◌↔◌, ℕ, ◌+◌, ◌
 use Rattle.auc_edge.specs.Faults.{Rose}
 use Rattle.auc_edge.specs.declared.no_memory.NoMemory.{NoMemory}
 use Rattle.auc_edge.specs.declared.stop.Stop.TheVariants.{Fault, Full}
-use Rattle.auc_jobs.specs.Round.{IsJournalOf, LeavesMore, Serves}
+use Rattle.auc_jobs.specs.Round.{IsJournalOf, LeavesMore, ServesRound}
 use Rattle.auc_jobs.specs.Serving.{AreAllKnown}
 use Rattle.auc_jobs.specs.State.{Standing, StandsAt}
 use Rattle.auc_jobs.specs.declared.round.Ran.{Ran}
@@ -37,7 +37,7 @@ pub record MayServe {D : Type 0} (set : Setting) (threads : ℕ) (jobs : List (L
 -- what came of it, with the vectors that a full print wants; the journal stays one of all subscribers
 pub record IsServed {D : Type 0} (seen : D → Option (List ℕ)) (may_leave : D → List ℕ → Type 0) (faults moment : D → ℕ) (left_since : D → ℕ → List ℕ → Type 0) (set : Setting) (printed : Bool) (jobs : List (List Line)) (first : ℕ) (state : Standing) (journal : JournalState D)
     (result : Result Ran NoMemory) (led : Standing) (after : JournalState D) : Type 0 where
-  pub served : IfOk result (λ ran. (early : List LineRecord) → StandsAt set early state → Serves seen may_leave moment left_since set early state jobs ran.round ran.stop journal led after)
+  pub served : IfOk result (λ ran. (early : List LineRecord) → StandsAt set early state → ServesRound seen may_leave moment left_since set early state jobs ran.round ran.stop journal led after)
   pub next : IfOk result (λ ran. (early : List LineRecord) → StandsAt set early state → StandsAt set (early ++ all_lines ran.round.jobs) led)
   pub number : IfOk result (λ ran. ran.round.number ≡ first)
   pub vectors : IfOk result (λ ran. ran.vectors ≡ (if printed then map (vectors_in set) ran.round.jobs else []))

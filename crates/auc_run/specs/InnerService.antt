@@ -19,7 +19,7 @@ use Rattle.auc_run.specs.Crash.{IsFull, IsKept, MayLeave}
 use Rattle.auc_run.specs.Inner.{IsKnownPart, IsLeftInRun, StandsAfter, stopped_by}
 use Rattle.auc_run.specs.Output.{setting_of}
 use Rattle.auc_refusal.specs.Refusal.{status_of}
-use Rattle.auc_run.specs.Service.{Answer, IsAnswer, IsLastReply, IsLate, IsSaid, IsServiceStop, LeavesNone, Serves, blocks_of, parts_in, records_in, replies_in}
+use Rattle.auc_run.specs.Service.{Answer, IsAnswer, IsLastReply, IsLate, IsSaid, IsServiceStop, LeavesNone, ServesBlocks, blocks_of, parts_in, records_in, replies_in}
 use Rattle.auc_input.specs.Turns.{heard_in, said_in}
 use Rattle.auc_refusal.specs.declared.refusal.Refusal.{Refusal}
 use Rattle.auc_refusal.specs.declared.refusal.Refusal.TheVariants as refused
@@ -123,5 +123,5 @@ EndsReady seen may_leave moment left_since rows header from reserved first statu
 
 -- blocks were served, or it was refused before
 abbrev pub ServesOr : (Refusal → Type 0) → Option (List File) → Option (List ℕ) → Option (List ℕ) → (List ℕ → Type 0) → (List ℕ → Type 0) → Result (Unit {0}) Refusal → Option (List Turn) → Option (List Turn) → Type 0
-ServesOr early told subscribers seen leaves ever (Ok done) old new = Serves told subscribers seen leaves ever Done old new
-ServesOr early told subscribers seen leaves ever (Err refusal) old new = Serves told subscribers seen leaves ever (status_of refusal) old new ⊎ early refusal
+ServesOr early told subscribers seen leaves ever (Ok done) old new = ServesBlocks told subscribers seen leaves ever Done old new
+ServesOr early told subscribers seen leaves ever (Err refusal) old new = ServesBlocks told subscribers seen leaves ever (status_of refusal) old new ⊎ early refusal

@@ -135,7 +135,7 @@ pub record IsService (rows : List Row) (header : Script) (reserved : List ℕ) (
   pub kept : (image : List ℕ) → leaves image → IsKept status rows reserved end image
 
 -- the subscribers were read, a header that is right was heard, the journal was opened, and blocks were served
-pub record Serves (told : Option (List File)) (subscribers : Option (List ℕ)) (seen : Option (List ℕ)) (leaves : List ℕ → Type 0) (ever : List ℕ → Type 0) (status : Status) (old new : Option (List Turn)) : Type 0 where
+pub record ServesBlocks (told : Option (List File)) (subscribers : Option (List ℕ)) (seen : Option (List ℕ)) (leaves : List ℕ → Type 0) (ever : List ℕ → Type 0) (status : Status) (old new : Option (List Turn)) : Type 0 where
   pub before : List Row
   pub begins : BeginsWith told subscribers before
   pub turns : List Turn

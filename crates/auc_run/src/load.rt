@@ -188,7 +188,8 @@ fn empty_journal(alloc: Global, subs: &Subscribers) -> Result<Journal<MemDisk>, 
     ensures journal { IfOk result (IsJournalOf subs.now) }
     ensures subscribers { AreSubscribers subs.now }
 {
-    let _count = subs.len();
+    // (its clauses say what holds of all lists of subscribers)
+    let _ = subs.len();
     let disk = MemDisk::new(alloc, Octets::new(alloc), FailList::new(alloc))?;
     match open_journal(alloc, disk, subs) {
         Ok(journal) => Ok(journal),

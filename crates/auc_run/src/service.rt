@@ -14,7 +14,7 @@ ghost use Rattle.auc_refusal.specs.Refusal.{status_in};
 ghost use Rattle.auc_refusal.specs.Faults.{RoseInService, RoseOnDisk, RoseOnWire, IsQuiet, HasQuietWire};
 ghost use Rattle.auc_input.specs.Header.{HearsHeader, IsEarly, TookHeader};
 ghost use Rattle.auc_run.specs.InnerService.{EndsReady, ServesOr, ServiceStops};
-ghost use Rattle.auc_run.specs.Service.{EndsUnnamed, EndsUnserved, IsBeforeOpening, Serves};
+ghost use Rattle.auc_run.specs.Service.{EndsUnnamed, EndsUnserved, IsBeforeOpening, ServesBlocks};
 ghost use Rattle.auc_input.specs.Words.{service_named};
 
 use crate::blocks::serve_blocks;
@@ -56,7 +56,7 @@ pub fn serve<R: Threads + Wait + Sync, H: Shelf, W: Wire, D: Disk + Drop + Send,
     // was heard, and a crash leaves a journal that reserves each number of their vectors; or nothing was served, and nothing was
     // said but a refusal's line or some first bytes of it.
     ensures ran { (subscribers : Option (List ℕ)) → service_named words.now ≡ Some subscribers
-        → Serves (H.files shelf.old) subscribers (D.seen disk) (MayLeave D.seen D.may_leave disk result.disk)
+        → ServesBlocks (H.files shelf.old) subscribers (D.seen disk) (MayLeave D.seen D.may_leave disk result.disk)
         (MayHaveLeft D.seen D.may_leave D.moment D.left_since disk result.disk)
         result.status (W.turns wire.old) (W.turns wire.new)
         ⊎ EndsUnserved (H.files shelf.old) subscribers (D.seen disk) result.status (W.turns wire.old) (W.turns wire.new) }
@@ -66,7 +66,7 @@ pub fn serve<R: Threads + Wait + Sync, H: Shelf, W: Wire, D: Disk + Drop + Send,
     // It is done only at the end of the input, after blocks were served.
     ensures done { result.status ≡ Status.Done → IsTrue (W.ended wire.new)
         × (subscribers : Option (List ℕ)) × (service_named words.now ≡ Some subscribers)
-        × Serves (H.files shelf.old) subscribers (D.seen disk) (MayLeave D.seen D.may_leave disk result.disk)
+        × ServesBlocks (H.files shelf.old) subscribers (D.seen disk) (MayLeave D.seen D.may_leave disk result.disk)
         (MayHaveLeft D.seen D.may_leave D.moment D.left_since disk result.disk)
         Status.Done (W.turns wire.old) (W.turns wire.new) }
     ensures store_full { result.status ≡ Status.StoreFull → IsTold D.seen D.may_leave disk

@@ -13,6 +13,8 @@ mod gates;
 #[cfg(test)]
 mod outside;
 #[cfg(test)]
+mod reading;
+#[cfg(test)]
 mod service;
 #[cfg(test)]
 mod tests;

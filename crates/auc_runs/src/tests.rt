@@ -4,14 +4,19 @@
 use crate::outside::{RUN, TWO_JOBS, disk_of, empty_disk, failing_disk, shelf_of, words_of};
 use auc_disk::{DiskCall, MemDisk};
 use auc_edge::{Gate, MemShelf, MemSink, Octets, OpenGate, TurnGate};
-use auc_run::{MAX_FILE, Status, run};
+use auc_run::{Status, run};
 use std::alloc::Global;
 use std::process::Abort;
 use std::sync::Wait;
 use std::thread::Threads;
 
 // A shelf with both files.
-fn shelf_of_both(rt: &impl Abort, alloc: Global, subscribers: &[u8], scenario: &[u8]) -> MemShelf {
+pub(crate) fn shelf_of_both(
+    rt: &impl Abort,
+    alloc: Global,
+    subscribers: &[u8],
+    scenario: &[u8],
+) -> MemShelf {
     let mut shelf = MemShelf::new(alloc);
     let Ok(()) = shelf.add(b"subscribers", subscribers) else {
         panic!(rt; "no memory")
@@ -21,7 +26,7 @@ fn shelf_of_both(rt: &impl Abort, alloc: Global, subscribers: &[u8], scenario: &
 }
 
 // A run's words, its status and its output.
-type Case<'a> = (&'a [&'a [u8]], Status, &'a [u8]);
+pub(crate) type Case<'a> = (&'a [&'a [u8]], Status, &'a [u8]);
 
 // Checks a run with a gate. It answers the disk.
 fn check_at<R: Abort + Threads + Wait + Sync, G: Gate + Sync>(
@@ -41,7 +46,7 @@ fn check_at<R: Abort + Threads + Wait + Sync, G: Gate + Sync>(
 }
 
 // Checks a run with a gate that holds no job. It answers the disk.
-fn check<R: Abort + Threads + Wait + Sync>(
+pub(crate) fn check<R: Abort + Threads + Wait + Sync>(
     rt: &R,
     alloc: Global,
     case: Case,
@@ -52,10 +57,10 @@ fn check<R: Abort + Threads + Wait + Sync>(
 }
 
 // The words of a run of a scenario with a file of subscribers.
-const RUN_BOTH: [&[u8]; 3] = [b"run", b"scenario", b"subscribers"];
+pub(crate) const RUN_BOTH: [&[u8]; 3] = [b"run", b"scenario", b"subscribers"];
 
 // Checks a run of a scenario with this text, over a disk. It answers the disk.
-fn check_text<R: Abort + Threads + Wait + Sync>(
+pub(crate) fn check_text<R: Abort + Threads + Wait + Sync>(
     rt: &R,
     alloc: Global,
     text: &[u8],
@@ -166,7 +171,7 @@ fn drawing_once_each(rt: &impl Abort, alloc: Global, count: u32) -> Octets {
 }
 
 // Runs a scenario over a shelf and an empty disk. It answers the status and the disk.
-fn run_scenario<R: Abort + Threads + Wait + Sync>(
+pub(crate) fn run_scenario<R: Abort + Threads + Wait + Sync>(
     rt: &R,
     alloc: Global,
     shelf: &mut MemShelf,
@@ -464,59 +469,4 @@ fn jobs_run_beside_each_other(rt: HostRuntime) {
         let found = leave_gate(&rt, rt.alloc(), words, output);
         assert!(rt; found == (2, false));
     }
-}
-
-// A shelf with both files. The third read fails, which is the first of the scenario.
-fn failing_shelf(rt: &impl Abort, alloc: Global) -> MemShelf {
-    let mut shelf = shelf_of_both(rt, alloc, b"imsi,k,kind,op,amf,seq,usim\n", b"hello\n");
-    shelf.fail(3).expect(rt, "memory");
-    shelf
-}
-
-#[test]
-fn file_that_cannot_be_read_is_a_read_fault(rt: HostRuntime) {
-    let alloc = rt.alloc();
-    let mut missing = shelf_of(&rt, alloc, b"scenario", b"hello\n");
-    let mut failing = failing_shelf(&rt, alloc);
-    let fault: Case = (&RUN_BOTH, Status::ReadFault, b"");
-    check(&rt, alloc, fault, &mut missing, empty_disk(&rt, alloc));
-    check(&rt, alloc, fault, &mut failing, empty_disk(&rt, alloc));
-}
-
-// A file of a byte more than 64 MiB.
-fn long_file(rt: &impl Abort, alloc: Global) -> Octets {
-    let mut text = Octets::new(alloc);
-    for _ in 0..16384u32 {
-        text.append(&[b'#'; 4096]).expect(rt, "memory");
-    }
-    text.append(b"#").expect(rt, "memory");
-    assert!(rt; text.len() == MAX_FILE + 1);
-    text
-}
-
-#[test]
-fn file_of_more_than_64_mib_is_too_long(rt: HostRuntime) {
-    let alloc = rt.alloc();
-    let text = long_file(&rt, alloc);
-    let disk = empty_disk(&rt, alloc);
-    check_text(&rt, alloc, text.as_slice(), disk, Status::TooLong, b"");
-}
-
-// How a run of three rounds ends if its second write fails, and whether this was written.
-fn three_rounds<R: Abort + Threads + Wait + Sync>(
-    rt: &R,
-    alloc: Global,
-    output: &[u8],
-) -> (Status, bool) {
-    let mut shelf = shelf_of(rt, alloc, b"scenario", b"round\nround\nround\n");
-    let mut out = MemSink::new(alloc);
-    out.fail(2).expect(rt, "memory");
-    let (status, _) = run_scenario(rt, alloc, &mut shelf, &mut out);
-    (status, out.as_slice() == output)
-}
-
-#[test]
-fn round_whose_write_fails_is_the_last(rt: HostRuntime) {
-    let found = three_rounds(&rt, rt.alloc(), b"round 1\n");
-    assert!(rt; found == (Status::WriteFault, true));
 }

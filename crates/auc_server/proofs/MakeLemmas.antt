@@ -12,7 +12,7 @@ use Rattle.auc_ident.specs.declared.names.NameKind.TheVariants as kinds
 use Rattle.auc_hmac.specs.declared.method.Method.{Method}
 use Rattle.auc_hmac.specs.declared.method.Method.TheVariants as method
 use Rattle.auc_packet.specs.Received.{Seen}
-use Rattle.auc_reauth.specs.Machine.{Challenge, Home, Lose, Resume, Win, next_in}
+use Rattle.auc_reauth.specs.Machine.{Challenge, HomePast, Lose, Resume, Win, next_in}
 use Rattle.auc_reauth.specs.Server.{Contexts, entry_named, if_named, no_contexts}
 use Rattle.auc_reauth.specs.Store.{entry, with_entry}
 use Rattle.auc_reauth.specs.declared.context.Context.{Context}
@@ -23,7 +23,7 @@ use Rattle.auc_vector.specs.declared.notes.ResyncNote.{ResyncNote}
 use Rattle.auc_vector.specs.declared.notes.ResyncNote.TheVariants as resync
 use Rattle.auc_vector.specs.declared.parts.Vector.{Vector}
 use Rattle.auc_server.specs.Contexts.{context_after, context_in, won_context, first_context, found_at, gives_next, homes_kept, homes_left, homes_resumed, homes_rewon, homes_won, later_context, with_context, with_context_at, without, without_at}
-use Rattle.auc_server.specs.Moves.{EachTurnMakesOneMove, IsNewName, IsNewOrNone, Makes, Stands, is_at, of_sub, waiting, waiting_at}
+use Rattle.auc_server.specs.Moves.{EachTurnMakesOneMove, IsNewName, IsNewOrNone, Makes, HomeStands, is_at, of_sub, waiting, waiting_at}
 use Rattle.auc_server.specs.Ordinals.{home_at, home_place, homes_given, homes_with, ordinal_after, ordinal_at, ordinal_given, with_next}
 use Rattle.auc_server.specs.Rows.{server_row, subscriber_in, text_in}
 use Rattle.auc_server.specs.Server.{ServerEnd}
@@ -87,9 +87,9 @@ waiting_stays place homes later (Some c) same = ap (λ (p : Option ℕ). cond (i
 -- ---- moves
 
 -- none, if the home and what the session would leave stay
-stay : (t place : ℕ) (set : Setting) (homes later : List HomeRow) (s new : ServerEnd) (notes : Notes) (w : Home) → new.options ≡ s.options
+stay : (t place : ℕ) (set : Setting) (homes later : List HomeRow) (s new : ServerEnd) (notes : Notes) (w : HomePast) → new.options ≡ s.options
     → (home_at later place).store ≡ (home_at homes place).store → map (λ (home : HomeRow). home.sub) later ≡ map (λ (home : HomeRow). home.sub) homes
-    → waiting new.state ≡ waiting s.state → Stands t place homes s w → Makes t place set homes later new notes w
+    → waiting new.state ≡ waiting s.state → HomeStands t place homes s w → Makes t place set homes later new notes w
 stay t place set homes later s new notes w options store subs left at = record {
   move = None;
   of = tt;
@@ -100,8 +100,8 @@ stay t place set homes later s new notes w options store subs left at = record {
 }
 
 -- the session loses what it would have left
-lose : (t place : ℕ) (set : Setting) (homes later : List HomeRow) (s new : ServerEnd) (notes : Notes) (w : Home) → new.options ≡ s.options
-    → (home_at later place).store ≡ (home_at homes place).store → waiting_at place later (waiting new.state) ≡ None → Stands t place homes s w → Makes t place set homes later new notes w
+lose : (t place : ℕ) (set : Setting) (homes later : List HomeRow) (s new : ServerEnd) (notes : Notes) (w : HomePast) → new.options ≡ s.options
+    → (home_at later place).store ≡ (home_at homes place).store → waiting_at place later (waiting new.state) ≡ None → HomeStands t place homes s w → Makes t place set homes later new notes w
 lose t place set homes later s new notes w options store left at = record {
   move = Some (Lose t);
   of = refl;
@@ -112,9 +112,9 @@ lose t place set homes later s new notes w options store left at = record {
 }
 
 -- a context comes from a Challenge
-comes : (t place : ℕ) (set : Setting) (homes later : List HomeRow) (s new : ServerEnd) (notes : Notes) (w : Home) (c : Context) → new.options ≡ s.options
+comes : (t place : ℕ) (set : Setting) (homes later : List HomeRow) (s new : ServerEnd) (notes : Notes) (w : HomePast) (c : Context) → new.options ≡ s.options
     → (home_at later place).store ≡ (home_at homes place).store → waiting_at place later (waiting new.state) ≡ Some c → notes.number ≡ Some (number.Drew c.origin)
-    → IsNewName set.names new.options.method (home_at homes place) (home_at later place) c.identity → Stands t place homes s w → Makes t place set homes later new notes w
+    → IsNewName set.names new.options.method (home_at homes place) (home_at later place) c.identity → HomeStands t place homes s w → Makes t place set homes later new notes w
 comes t place set homes later s new notes w c options store left drawn name at = record {
   move = Some (Challenge t c);
   of = (refl, drawn, name);
@@ -252,11 +252,11 @@ challenge_name set homes s old sub place identity options e f =
     (new_name set s s.options.reauth homes mid sub place identity e (place_stays homes mid sub (given_subs s.options.pseudonym homes sub) ∙ e)
     (near_least (home_at homes place) (home_at mid place) (given_near s.options.pseudonym homes sub place)) next)
 
-sent_makes : (t place : ℕ) (set : Setting) (homes later : List HomeRow) (s old : ServerEnd) (realm : List ℕ) (sub n : ℕ) (v : Vector) (given : Option GivenNames) (resynced : Option ResyncNote) (checked : Bool) (w : Home)
+sent_makes : (t place : ℕ) (set : Setting) (homes later : List HomeRow) (s old : ServerEnd) (realm : List ℕ) (sub n : ℕ) (v : Vector) (given : Option GivenNames) (resynced : Option ResyncNote) (checked : Bool) (w : HomePast)
     → s.options ≡ old.options → (home_at later place).store ≡ (home_at homes place).store → (left : Option Context)
     → waiting_at place later (of_sub sub (won_context (challenge_of s sub n v (next_given given)))) ≡ left
     → ((identity : List ℕ) → next_given given ≡ Some identity → home_place later sub ≡ Some place → IsNewName set.names s.options.method (home_at homes place) (home_at later place) identity)
-    → Stands t place homes old w
+    → HomeStands t place homes old w
     → Makes t place set homes later (challenged_with realm s sub n (Some v) given (noted resynced (Some (number.Drew n))) checked).0 (noted resynced (Some (number.Drew n))) w
 sent_makes t place set homes later s old realm sub n v given resynced checked w options store None left names at =
     lose t place set homes later old (challenged_with realm s sub n (Some v) given (noted resynced (Some (number.Drew n))) checked).0 (noted resynced (Some (number.Drew n))) w options store left at
@@ -266,11 +266,11 @@ sent_makes t place set homes later s old realm sub n v given resynced checked w 
     (name_is (λ (identity : List ℕ). IsNewName set.names s.options.method (home_at homes place) (home_at later place) identity) place later (challenge_of s sub n v (next_given given)) (next_given given) c left
     names) at
 
-with_makes : (t place : ℕ) (set : Setting) (homes later : List HomeRow) (s old : ServerEnd) (realm : List ℕ) (sub n : ℕ) (v : Option Vector) (given : Option GivenNames) (resynced : Option ResyncNote) (checked : Bool) (w : Home)
+with_makes : (t place : ℕ) (set : Setting) (homes later : List HomeRow) (s old : ServerEnd) (realm : List ℕ) (sub n : ℕ) (v : Option Vector) (given : Option GivenNames) (resynced : Option ResyncNote) (checked : Bool) (w : HomePast)
     → s.options ≡ old.options → waiting s.state ≡ waiting old.state → (home_at later place).store ≡ (home_at homes place).store
     → map (λ (home : HomeRow). home.sub) later ≡ map (λ (home : HomeRow). home.sub) homes
     → ((identity : List ℕ) → next_given given ≡ Some identity → home_place later sub ≡ Some place → IsNewName set.names s.options.method (home_at homes place) (home_at later place) identity)
-    → Stands t place homes old w
+    → HomeStands t place homes old w
     → Makes t place set homes later (challenged_with realm s sub n v given (noted resynced (Some (number.Drew n))) checked).0
     (challenged_with realm s sub n v given (noted resynced (Some (number.Drew n))) checked).1.notes w
 with_makes t place set homes later s old realm sub n None given resynced checked w options left store subs names at =
@@ -279,8 +279,8 @@ with_makes t place set homes later s old realm sub n (Some v) given resynced che
     sent_makes t place set homes later s old realm sub n v given resynced checked w options store
     (waiting_at place later (of_sub sub (won_context (challenge_of s sub n v (next_given given))))) refl names at
 
-challenged_makes : (t place : ℕ) (set : Setting) (homes : List HomeRow) (s old : ServerEnd) (sub : ℕ) (checked : Bool) (resynced : Option ResyncNote) (drawn : Option NumberNote) (w : Home)
-    → s.options ≡ old.options → waiting s.state ≡ waiting old.state → Stands t place homes old w
+challenged_makes : (t place : ℕ) (set : Setting) (homes : List HomeRow) (s old : ServerEnd) (sub : ℕ) (checked : Bool) (resynced : Option ResyncNote) (drawn : Option NumberNote) (w : HomePast)
+    → s.options ≡ old.options → waiting s.state ≡ waiting old.state → HomeStands t place homes old w
     → Makes t place set homes (homes_challenged old.options homes sub drawn) (challenged set homes s sub checked resynced drawn).0 (challenged set homes s sub checked resynced drawn).1.notes w
 challenged_makes t place set homes s old sub checked resynced None w options left at =
     stay t place set homes homes old s (challenged set homes s sub checked resynced None).1.notes w options refl refl left at
@@ -296,7 +296,7 @@ challenged_makes t place set homes s old sub checked resynced (Some (number.With
     lose t place set homes homes old (challenged set homes s sub checked resynced (Some (number.Withheld n stop))).0
     (challenged set homes s sub checked resynced (Some (number.Withheld n stop))).1.notes w options refl refl at
 
-resynchronised_makes : (t place : ℕ) (set : Setting) (homes : List HomeRow) (s : ServerEnd) (sub : ℕ) (resynced : Option ResyncNote) (drawn : Option NumberNote) (w : Home) → Stands t place homes s w
+resynchronised_makes : (t place : ℕ) (set : Setting) (homes : List HomeRow) (s : ServerEnd) (sub : ℕ) (resynced : Option ResyncNote) (drawn : Option NumberNote) (w : HomePast) → HomeStands t place homes s w
     → Makes t place set homes (homes_challenged s.options homes sub drawn) (resynchronised set homes s sub resynced drawn).0 (resynchronised set homes s sub resynced drawn).1.notes w
 resynchronised_makes t place set homes s sub None drawn w at =
     stay t place set homes (homes_challenged s.options homes sub drawn) s s (resynchronised set homes s sub None drawn).1.notes w refl
@@ -329,8 +329,8 @@ put_there by homes at' place c other =
     ap (λ (h : HomeRow). h.store) (get_or-set_other homes at' place (with_context by c (home_at homes at')) nobody (λ same. other_number at' place other (sym same)))
 
 -- at the home of the session what it would leave goes to the store; at another home nothing is done
-wins_by : (t place : ℕ) (set : Setting) (homes : List HomeRow) (s new : ServerEnd) (notes : Notes) (w : Home) (sub : ℕ) (c : Context) (at' : ℕ) (b : Bool) → (at' == place) ≡ b → home_place homes sub ≡ Some at'
-    → new.options ≡ s.options → waiting s.state ≡ Some (sub, c) → waiting new.state ≡ None → Stands t place homes s w
+wins_by : (t place : ℕ) (set : Setting) (homes : List HomeRow) (s new : ServerEnd) (notes : Notes) (w : HomePast) (sub : ℕ) (c : Context) (at' : ℕ) (b : Bool) → (at' == place) ≡ b → home_place homes sub ≡ Some at'
+    → new.options ≡ s.options → waiting s.state ≡ Some (sub, c) → waiting new.state ≡ None → HomeStands t place homes s w
     → Makes t place set homes (with_context_at s.options.method c homes (Some at')) new notes w
 wins_by t place set homes s new notes w sub c at' true here e options before after at =
     let same = same_number at' place here in record {
@@ -349,25 +349,25 @@ wins_by t place set homes s new notes w sub c at' false other e options before a
     lose t place set homes (with_context_at s.options.method c homes (Some at')) s new notes w options (put_there s.options.method homes at' place c other)
     (ap (waiting_at place (with_context_at s.options.method c homes (Some at'))) after) at
 
-wins_at : (t place : ℕ) (set : Setting) (homes : List HomeRow) (s new : ServerEnd) (notes : Notes) (w : Home) (sub : ℕ) (c : Context) (at' : Option ℕ) → home_place homes sub ≡ at'
-    → new.options ≡ s.options → waiting s.state ≡ Some (sub, c) → waiting new.state ≡ None → Stands t place homes s w
+wins_at : (t place : ℕ) (set : Setting) (homes : List HomeRow) (s new : ServerEnd) (notes : Notes) (w : HomePast) (sub : ℕ) (c : Context) (at' : Option ℕ) → home_place homes sub ≡ at'
+    → new.options ≡ s.options → waiting s.state ≡ Some (sub, c) → waiting new.state ≡ None → HomeStands t place homes s w
     → Makes t place set homes (with_context_at s.options.method c homes at') new notes w
 wins_at t place set homes s new notes w sub c None e options before after at =
     lose t place set homes homes s new notes w options refl (ap (waiting_at place homes) after) at
 wins_at t place set homes s new notes w sub c (Some at') e options before after at =
     wins_by t place set homes s new notes w sub c at' (at' == place) refl e options before after at
 
-wins : (t place : ℕ) (set : Setting) (homes : List HomeRow) (s new : ServerEnd) (notes : Notes) (w : Home) (sub : ℕ) (c : Option Context) → new.options ≡ s.options
-    → waiting s.state ≡ of_sub sub c → waiting new.state ≡ None → Stands t place homes s w → Makes t place set homes (homes_kept s.options.method homes sub c) new notes w
+wins : (t place : ℕ) (set : Setting) (homes : List HomeRow) (s new : ServerEnd) (notes : Notes) (w : HomePast) (sub : ℕ) (c : Option Context) → new.options ≡ s.options
+    → waiting s.state ≡ of_sub sub c → waiting new.state ≡ None → HomeStands t place homes s w → Makes t place set homes (homes_kept s.options.method homes sub c) new notes w
 wins t place set homes s new notes w sub None options before after at = lose t place set homes homes s new notes w options refl (ap (waiting_at place homes) after) at
 wins t place set homes s new notes w sub (Some c) options before after at = wins_at t place set homes s new notes w sub c (home_place homes sub) refl options before after at
 
-succeeded_makes : (t place : ℕ) (set : Setting) (homes : List HomeRow) (s : ServerEnd) (sent : Challenged) (before : Option Resumed) (w : Home) → s.state ≡ state.AwaitChallenge sent before
-    → Stands t place homes s w → Makes t place set homes (homes_won s.options.method homes sent) (succeeded s sent).0 (succeeded s sent).1.notes w
+succeeded_makes : (t place : ℕ) (set : Setting) (homes : List HomeRow) (s : ServerEnd) (sent : Challenged) (before : Option Resumed) (w : HomePast) → s.state ≡ state.AwaitChallenge sent before
+    → HomeStands t place homes s w → Makes t place set homes (homes_won s.options.method homes sent) (succeeded s sent).0 (succeeded s sent).1.notes w
 succeeded_makes t place set homes s sent before w now at =
     wins t place set homes s (succeeded s sent).0 (succeeded s sent).1.notes w sent.sub (won_context sent) refl (ap waiting now) refl at
 
-renewed_makes : (t place : ℕ) (set : Setting) (homes : List HomeRow) (s : ServerEnd) (sent : Resumed) (w : Home) → s.state ≡ state.AwaitReauth sent → Stands t place homes s w
+renewed_makes : (t place : ℕ) (set : Setting) (homes : List HomeRow) (s : ServerEnd) (sent : Resumed) (w : HomePast) → s.state ≡ state.AwaitReauth sent → HomeStands t place homes s w
     → Makes t place set homes (homes_rewon s.options.method homes sent) (reauthenticated s sent).0 (reauthenticated s sent).1.notes w
 renewed_makes t place set homes s sent w now at =
     wins t place set homes s (reauthenticated s sent).0 (reauthenticated s sent).1.notes w sent.sub (context_after sent) refl (ap waiting now) refl at
@@ -405,8 +405,8 @@ new_or_none : (names : List ℕ) (by : Method) (home later : HomeRow) (next : Op
 new_or_none names by home later None each = tt
 new_or_none names by home later (Some identity) each = each identity refl
 
-resumes_by : (t place : ℕ) (set : Setting) (homes : List HomeRow) (s : ServerEnd) (text : List ℕ) (packets : List (List ℕ)) (sub at' : ℕ) (c : Context) (w : Home) (b : Bool) → (at' == place) ≡ b
-    → home_place homes sub ≡ Some at' → entry_named s.options.method text (home_at homes at').store ≡ Some c → Stands t place homes s w
+resumes_by : (t place : ℕ) (set : Setting) (homes : List HomeRow) (s : ServerEnd) (text : List ℕ) (packets : List (List ℕ)) (sub at' : ℕ) (c : Context) (w : HomePast) (b : Bool) → (at' == place) ≡ b
+    → home_place homes sub ≡ Some at' → entry_named s.options.method text (home_at homes at').store ≡ Some c → HomeStands t place homes s w
     → Makes t place set homes (homes_resumed s.options text homes sub (Some c)) (resumed_with set (homes_left s.options.method text homes sub) s text packets sub (Some c)).0
     (resumed_with set (homes_left s.options.method text homes sub) s text packets sub (Some c)).1.notes w
 resumes_by t place set homes s text packets sub at' c w true here e f at =
@@ -442,8 +442,8 @@ resumes_by t place set homes s text packets sub at' c w false other e f at =
     ∙ ap (λ (p : Option ℕ). (home_at (without_at s.options.method text homes p) place).store) e ∙ left_there s.options.method text homes at' place other)
     (no_next r.next c sub place later (ap (is_at place) (place_stays homes later sub (resumed_subs s.options text homes sub (Some c)) ∙ e) ∙ other)) at
 
-resumed_makes : (t place : ℕ) (set : Setting) (homes : List HomeRow) (s : ServerEnd) (text : List ℕ) (packets : List (List ℕ)) (sub : ℕ) (at' : Option ℕ) (c : Option Context) (w : Home)
-    → home_place homes sub ≡ at' → found_at s.options.method text homes at' ≡ c → Stands t place homes s w
+resumed_makes : (t place : ℕ) (set : Setting) (homes : List HomeRow) (s : ServerEnd) (text : List ℕ) (packets : List (List ℕ)) (sub : ℕ) (at' : Option ℕ) (c : Option Context) (w : HomePast)
+    → home_place homes sub ≡ at' → found_at s.options.method text homes at' ≡ c → HomeStands t place homes s w
     → Makes t place set homes (homes_resumed s.options text homes sub c) (resumed_with set (homes_left s.options.method text homes sub) s text packets sub c).0
     (resumed_with set (homes_left s.options.method text homes sub) s text packets sub c).1.notes w
 resumed_makes t place set homes s text packets sub at' None w e f at =
@@ -454,12 +454,12 @@ resumed_makes t place set homes s text packets sub (Some at') (Some c) w e f at 
 -- ---- the rows
 
 -- a row that ends what the session would leave
-ends : (t place : ℕ) (set : Setting) (homes : List HomeRow) (s new : ServerEnd) (notes : Notes) (w : Home) → new.options ≡ s.options → waiting new.state ≡ None → Stands t place homes s w
+ends : (t place : ℕ) (set : Setting) (homes : List HomeRow) (s new : ServerEnd) (notes : Notes) (w : HomePast) → new.options ≡ s.options → waiting new.state ≡ None → HomeStands t place homes s w
     → Makes t place set homes homes new notes w
 ends t place set homes s new notes w options left at = lose t place set homes homes s new notes w options refl (ap (waiting_at place homes) left) at
 
-does_makes : (found : Option ℕ) (t place : ℕ) (set : Setting) (homes : List HomeRow) (s : ServerEnd) (seen : Seen) (text : List ℕ) (packets : List (List ℕ)) (r : Row) (notes : Notes) (w : Home)
-    → Says found s seen r → Stands t place homes s w
+does_makes : (found : Option ℕ) (t place : ℕ) (set : Setting) (homes : List HomeRow) (s : ServerEnd) (seen : Seen) (text : List ℕ) (packets : List (List ℕ)) (r : Row) (notes : Notes) (w : HomePast)
+    → Says found s seen r → HomeStands t place homes s w
     → Makes t place set homes (homes_done homes s text r notes) (server_does set homes s text packets r notes).0 (server_does set homes s text packets r notes).1.notes w
 does_makes found t place set homes s seen text packets (row.Ignore cause) notes w says at = stay t place set homes homes s s (ignored s cause).1.notes w refl refl refl refl at
 does_makes found t place set homes s seen text packets (row.Ask kind) notes w says at =

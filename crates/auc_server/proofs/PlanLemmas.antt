@@ -3,7 +3,7 @@ use Rattle.std.proofs.Common.{◌≡◌, ℕ, Bool, false, List, Option, Some, N
 use Rattle.auc_edge.specs.declared.stop.Stop.{Stop}
 use Rattle.auc_history.specs.declared.entry.Entry.{Entry}
 use Rattle.auc_packet.specs.Received.{IsReceived, Seen}
-use Rattle.auc_vector.specs.Notes.{Asked, Asking}
+use Rattle.auc_vector.specs.Notes.{AskedCentre, Asking}
 use Rattle.auc_vector.specs.declared.notes.Notes.{Notes}
 use Rattle.auc_vector.specs.declared.turn.Turn.{Turn}
 use Rattle.auc_reauth.specs.declared.context.Context.{Context}
@@ -47,7 +47,7 @@ deed_draws set homes s other = refl
 module _ {S : Type 0} (goes : S → ℕ → List Entry → List (ℕ × Stop) → S → Type 0) (kept : S → ℕ → Option ℕ) (top : S → ℕ → ℕ) where
   pub planned : (set : Setting) (homes later : List HomeRow) (s new : ServerEnd) (seen : Seen) (p : Plan) (before after : S) (turn : Turn ServerWhy)
       → IsReceived seen → IsPlan set homes s seen p → (new, turn) ≡ plan_does set homes s p turn.notes
-      → later ≡ homes_planned homes s p turn.notes → Asked goes kept top (plan_asks p) turn.notes before after
+      → later ≡ homes_planned homes s p turn.notes → AskedCentre goes kept top (plan_asks p) turn.notes before after
       → is_some turn.notes.number ≡ needs_of (plan_asks p) turn.notes → Steps goes kept top set homes s seen.bytes before new turn later after
   planned set homes later s new seen p before after turn received is step done asked drawn =
       let r = server_row set homes s seen is.reply in record {
@@ -58,6 +58,6 @@ module _ {S : Type 0} (goes : S → ℕ → List Entry → List (ℕ × Stop) �
         replies = is.replies;
         same = step ∙ is.does turn.notes;
         homes_are = done ∙ is.homes_are turn.notes;
-        asked = subst (λ (a : Option Asking). Asked goes kept top a turn.notes before after) is.asks asked;
+        asked = subst (λ (a : Option Asking). AskedCentre goes kept top a turn.notes before after) is.asks asked;
         drawn = drawn ∙ ap (λ (a : Option Asking). needs_of a turn.notes) is.asks ∙ needs_same r turn.notes;
       }

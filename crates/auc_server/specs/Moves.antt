@@ -4,7 +4,7 @@ use Rattle.auc_hmac.specs.declared.method.Method.{Method}
 use Rattle.auc_ident.specs.Names.{name_text}
 use Rattle.auc_ident.specs.declared.names.NameKind.TheVariants as kinds
 use Rattle.auc_packet.specs.Received.{Seen}
-use Rattle.auc_reauth.specs.Machine.{Challenge, Home, Lose, Move, Resume, Win, moved}
+use Rattle.auc_reauth.specs.Machine.{Challenge, HomePast, Lose, Move, Resume, Win, moved}
 use Rattle.auc_reauth.specs.Store.{entry}
 use Rattle.auc_reauth.specs.declared.context.Context.{Context}
 use Rattle.auc_vector.specs.declared.notes.Notes.{Notes}
@@ -44,7 +44,7 @@ waiting_at place homes (Some c) = if is_at place (home_place homes c.0) then Som
 -- ---- places
 
 -- the places of a home: the store has the context of the session's method, and session t has what it would leave
-pub record Stands (t place : ℕ) (homes : List HomeRow) (s : ServerEnd) (w : Home) : Type 0 where
+pub record HomeStands (t place : ℕ) (homes : List HomeRow) (s : ServerEnd) (w : HomePast) : Type 0 where
   pub store : w.place zero ≡ entry s.options.method (home_at homes place).store
   pub session : w.place (suc t) ≡ waiting_at place homes (waiting s.state)
 
@@ -62,7 +62,7 @@ IsNewOrNone names by home later (Some identity) = IsNewName names by home later 
 
 -- a move of session t of a server, as a turn's notes tell it: a Challenge has a number that was drawn in the turn and a new name,
 -- and the counter of a context that is taken up again is noted
-abbrev pub IsOf : ℕ → List ℕ → Method → HomeRow → HomeRow → Notes → Home → Option Move → Type 0
+abbrev pub IsOf : ℕ → List ℕ → Method → HomeRow → HomeRow → Notes → HomePast → Option Move → Type 0
 IsOf t names by home later notes w None = Unit {0}
 IsOf t names by home later notes w (Some (Challenge u c)) =
     (u ≡ t) × (notes.number ≡ Some (number.Drew c.origin)) × IsNewName names by home later c.identity
@@ -72,18 +72,18 @@ IsOf t names by home later notes w (Some (Win u)) = u ≡ t
 IsOf t names by home later notes w (Some (Lose u)) = u ≡ t
 IsOf t names by home later notes w (Some other) = ⊥
 
-abbrev pub moved_by : Option Move → Home → Home
+abbrev pub moved_by : Option Move → HomePast → HomePast
 moved_by None w = w
 moved_by (Some m) w = moved m w
 
 -- one move of session t, or none
-pub record Makes (t place : ℕ) (set : Setting) (homes later : List HomeRow) (new : ServerEnd) (notes : Notes) (w : Home) : Type 0 where
+pub record Makes (t place : ℕ) (set : Setting) (homes later : List HomeRow) (new : ServerEnd) (notes : Notes) (w : HomePast) : Type 0 where
   pub move : Option Move
   pub of : IsOf t set.names new.options.method (home_at homes place) (home_at later place) notes w move
-  pub stands : Stands t place later new (moved_by move w)
+  pub stands : HomeStands t place later new (moved_by move w)
 
 -- each turn makes at most one move at each home
 abbrev pub EachTurnMakesOneMove : Type 0
-EachTurnMakesOneMove = (set : Setting) (homes : List HomeRow) (s : ServerEnd) (seen : Seen) (said : Reply) (notes : Notes) (t place : ℕ) (w : Home)
-    → Stands t place homes s w
+EachTurnMakesOneMove = (set : Setting) (homes : List HomeRow) (s : ServerEnd) (seen : Seen) (said : Reply) (notes : Notes) (t place : ℕ) (w : HomePast)
+    → HomeStands t place homes s w
     → Makes t place set homes (homes_after set homes s seen said notes) (server_step set homes s seen said notes).0 (server_step set homes s seen said notes).1.notes w

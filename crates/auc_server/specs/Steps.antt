@@ -6,7 +6,7 @@ use Rattle.auc_history.specs.declared.entry.Entry.{Entry}
 use Rattle.auc_packet.specs.Received.{Seen, IsReceived}
 use Rattle.auc_subs.specs.Subscriber.{top_at}
 use Rattle.auc_subs.specs.declared.row.Row as rows
-use Rattle.auc_vector.specs.Notes.{Asking, Asked}
+use Rattle.auc_vector.specs.Notes.{Asking, AskedCentre}
 use Rattle.auc_vector.specs.declared.notes.Notes.{Notes}
 use Rattle.auc_vector.specs.declared.notes.ResyncNote.{ResyncNote}
 use Rattle.auc_vector.specs.declared.notes.ResyncNote.TheVariants as resync
@@ -96,5 +96,5 @@ pub record Steps {S : Type 0} (goes : S → ℕ → List Entry → List (ℕ × 
   pub replies : Replies old.state seen.reading reply
   pub same : (new, turn) ≡ server_step set homes old seen reply turn.notes
   pub homes_are : later ≡ homes_after set homes old seen reply turn.notes
-  pub asked : Asked goes kept top (asking (server_row set homes old seen reply)) turn.notes before after
+  pub asked : AskedCentre goes kept top (asking (server_row set homes old seen reply)) turn.notes before after
   pub drawn : AsksAsNeeded (server_row set homes old seen reply) turn.notes

@@ -1,7 +1,7 @@
 //! What a server does with received bytes.
 
 ghost use Rattle.std.specs.Prelude.{◌≡◌, ◌≤◌, length, is_some, IfOk, OnErr};
-ghost use Rattle.auc_vector.specs.Notes.{Asked};
+ghost use Rattle.auc_vector.specs.Notes.{AskedCentre};
 ghost use Rattle.auc_server.specs.InnerPlan.{IsFit, IsFitAlone, deed_does, homes_by, homes_planned, needs_of, plan_asks, plan_does};
 ghost use Rattle.auc_server.specs.Steps.{IsServed, OnlyAsks, Steps, bytes_of};
 
@@ -70,7 +70,7 @@ impl Server {
         ensures step { (self.new, result) ≡ plan_does set.now homes.old self.old plan result.notes }
         ensures homes { homes.new ≡ homes_planned homes.old self.old plan result.notes }
         ensures small { length (bytes_of result.step) ≤ 728 }
-        ensures asked { Asked C.goes C.kept C.top (plan_asks plan) result.notes centre.old centre.new }
+        ensures asked { AskedCentre C.goes C.kept C.top (plan_asks plan) result.notes centre.old centre.new }
         ensures drawn { is_some result.notes.number ≡ needs_of (plan_asks plan) result.notes }
         ensures only { OnlyAsks C.subs C.top C.name centre.old centre.new }
     {

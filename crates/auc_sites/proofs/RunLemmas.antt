@@ -10,10 +10,10 @@ use Rattle.auc_history.specs.History.{IsBefore, IsInOrder}
 use Rattle.auc_vector.specs.declared.centre.CentreRefusal.{CentreRefusal}
 use Rattle.auc_sites.specs.declared.master.Judged.{Judged}
 use Rattle.auc_sites.specs.declared.master.Judged.TheVariants as judged
-use Rattle.auc_sites.specs.Drawing.{Goes, Kept, Top, entries_of, entries_of_end, withheld_of_end}
+use Rattle.auc_sites.specs.Drawing.{Goes, KeptWords, Top, entries_of, entries_of_end, withheld_of_end}
 use Rattle.auc_sites.specs.Law.{EachNumberIsHandedOutOnce, EachRunHandsOutOnce, released}
 use Rattle.auc_sites.specs.Lease.{IsRising}
-use Rattle.auc_sites.specs.Network.{Network, Granting, Turn, after_event, after_turns, sites_from, start}
+use Rattle.auc_sites.specs.Network.{Network, Granting, SitesTurn, after_event, after_turns, sites_from, start}
 use Rattle.auc_sites.specs.Run.{AsksIn, OthersCall, Runs, judgement_in}
 use Rattle.auc_sites.specs.Site.{SiteState, new_site}
 use Rattle.auc_sites.proofs.DrawingLemmas.{Joins, Rises, Stays, entry_stands}
@@ -23,17 +23,17 @@ use Rattle.auc_sites.proofs.SoundLemmas.{HoldsWell, IsSound, IsSpent, sound_give
 
 -- ---- turns
 
-sound_turns : (numbers : List ℕ) (w : Network) (turns : List Turn) → IsSound numbers w → AllPairs ◌≢◌ (numbers ++ released turns) → All (λ t. IsRising t.numbers) turns
+sound_turns : (numbers : List ℕ) (w : Network) (turns : List SitesTurn) → IsSound numbers w → AllPairs ◌≢◌ (numbers ++ released turns) → All (λ t. IsRising t.numbers) turns
     → IsSound (numbers ++ released turns) (after_turns w turns)
 sound_turns numbers w [] sound differ rises = sound_given numbers [] w sound
 sound_turns numbers w (t ∷ turns) sound differ rises =
-    let cut : released (t ∷ turns) ≡ t.numbers ++ released turns = flat_map-cons (λ (u : Turn). u.numbers) t turns in
+    let cut : released (t ∷ turns) ≡ t.numbers ++ released turns = flat_map-cons (λ (u : SitesTurn). u.numbers) t turns in
     let joined : numbers ++ released (t ∷ turns) ≡ (numbers ++ t.numbers) ++ released turns =
     ap (λ (xs : List ℕ). numbers ++ xs) cut ∙ sym (append_assoc numbers t.numbers (released turns)) in
     let apart : AllPairs ◌≢◌ ((numbers ++ t.numbers) ++ released turns) = subst (AllPairs ◌≢◌) joined differ in
     let new : AreNew numbers t.numbers = λ n old new. AllPairs-across ◌≢◌ numbers t.numbers n n (AllPairs-front ◌≢◌ (numbers ++ t.numbers) (released turns) apart) old new refl in
-    let step = sound_event numbers t.numbers t.end w t.event sound new (All-head (λ (u : Turn). IsRising u.numbers) t turns rises) in
-    let all = sound_turns (numbers ++ t.numbers) (after_event w t.event t.numbers t.end) turns step apart (All-tail (λ (u : Turn). IsRising u.numbers) t turns rises) in
+    let step = sound_event numbers t.numbers t.end w t.event sound new (All-head (λ (u : SitesTurn). IsRising u.numbers) t turns rises) in
+    let all = sound_turns (numbers ++ t.numbers) (after_event w t.event t.numbers t.end) turns step apart (All-tail (λ (u : SitesTurn). IsRising u.numbers) t turns rises) in
     subst (λ (xs : List ℕ). IsSound xs (after_turns (after_event w t.event t.numbers t.end) turns)) (sym joined) all
 
 -- ---- the beginning
@@ -140,7 +140,7 @@ others_stretch goes sub before after (entries, withheld, went) = record {
 }
 
 -- an event
-turn_stretch : {S : Type 0} (goes : Goes S) (kept : Kept S) (top : Top S) (sub : ℕ)
+turn_stretch : {S : Type 0} (goes : Goes S) (kept : KeptWords S) (top : Top S) (sub : ℕ)
     (asked : Option Judged) (numbers : List ℕ) (end : Option CentreRefusal) (before after : S) → Stays goes → AsksIn goes kept top sub asked numbers end before after
     → Gave goes sub numbers before after
 turn_stretch goes kept top sub None numbers end before after stays (none, ends, same) = empty_stretch goes sub numbers before after stays none same
@@ -155,12 +155,12 @@ turn_stretch goes kept top sub (Some judged.New) numbers end before after stays 
 }
 
 -- a run
-record GaveInRun {S : Type 0} (goes : Goes S) (sub : ℕ) (turns : List Turn) (before after : S) : Type 0 where
+record GaveInRun {S : Type 0} (goes : Goes S) (sub : ℕ) (turns : List SitesTurn) (before after : S) : Type 0 where
   pub all : Gave goes sub (released turns) before after
   pub each : All (λ t. IsRising t.numbers) turns
 
-run_stretch : {S : Type 0} (goes : Goes S) (kept : Kept S) (top : Top S) (sub : ℕ)
-    (w : Network) (before : S) (turns : List Turn) (after : S) → Stays goes → Joins goes → Rises goes → Runs goes kept top sub w before turns after
+run_stretch : {S : Type 0} (goes : Goes S) (kept : KeptWords S) (top : Top S) (sub : ℕ)
+    (w : Network) (before : S) (turns : List SitesTurn) (after : S) → Stays goes → Joins goes → Rises goes → Runs goes kept top sub w before turns after
     → GaveInRun goes sub turns before after
 run_stretch goes kept top sub w before [] after stays joins rises others = record {
   all = others_stretch goes sub before after others;
@@ -171,13 +171,13 @@ run_stretch {S = S} goes kept top sub w before (t ∷ turns) after stays joins r
     (turn_stretch goes kept top sub (judgement_in w t.event) t.numbers t.end asked answered stays asks) in
     let rest = run_stretch goes kept top sub (after_event w t.event t.numbers t.end) answered turns after stays joins rises more in
     record {
-      all = subst (λ (ns : List ℕ). Gave goes sub ns before after) (sym (flat_map-cons (λ (u : Turn). u.numbers) t turns))
+      all = subst (λ (ns : List ℕ). Gave goes sub ns before after) (sym (flat_map-cons (λ (u : SitesTurn). u.numbers) t turns))
           (stretch_join goes sub t.numbers (released turns) before answered after joins rises first rest.all);
-      each = All-cons (λ (u : Turn). IsRising u.numbers) t turns first.rising rest.each;
+      each = All-cons (λ (u : SitesTurn). IsRising u.numbers) t turns first.rising rest.each;
     }
 
 -- a run over a centre hands each number out once
-pub each_run_hands_out_once : {S : Type 0} (goes : Goes S) (kept : Kept S) (top : Top S)
+pub each_run_hands_out_once : {S : Type 0} (goes : Goes S) (kept : KeptWords S) (top : Top S)
     → Stays goes → Joins goes → Rises goes → EachRunHandsOutOnce goes kept top
 each_run_hands_out_once goes kept top stays joins rises sub boots turns before after run =
     let stretch = run_stretch goes kept top sub (start boots) before turns after stays joins rises run in

@@ -12,8 +12,8 @@ abbrev pub Goes : Type 0 → Type 1
 Goes S = S → ℕ → List Entry → List (ℕ × Stop) → S → Type 0
 
 -- the kept words of its subscribers
-abbrev pub Kept : Type 0 → Type 0
-Kept S = S → ℕ → Option ℕ
+abbrev pub KeptWords : Type 0 → Type 0
+KeptWords S = S → ℕ → Option ℕ
 
 -- their greatest numbers
 abbrev pub Top : Type 0 → Type 0
@@ -49,7 +49,7 @@ AnswersEnd top kept None = Unit {0}
 AnswersEnd top kept (Some why) = AnswersNext top kept (Err why)
 
 -- at most `size` draws of a subscriber, the last of which may be refused
-pub record Drew {S : Type 0} (goes : Goes S) (kept : Kept S) (top : Top S) (sub size : ℕ) (numbers : List ℕ) (end : Option CentreRefusal) (old new : S) : Type 0 where
+pub record Drew {S : Type 0} (goes : Goes S) (kept : KeptWords S) (top : Top S) (sub size : ℕ) (numbers : List ℕ) (end : Option CentreRefusal) (old new : S) : Type 0 where
   -- they end with `size` numbers, or with a refusal
   pub count : HasSize size numbers end
   -- each number is the answer to a draw, and they rise

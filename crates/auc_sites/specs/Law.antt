@@ -2,19 +2,19 @@
 use Rattle.std.specs.Prelude.{◌≡◌, ◌≢◌, ℕ, false, List, All, AllPairs, Contains, flat_map, slice_get, Option, Some}
 use Rattle.auc_vector.specs.declared.centre.CentreRefusal.{CentreRefusal}
 use Rattle.auc_sites.specs.declared.grant.Grant.{Grant}
-use Rattle.auc_sites.specs.Drawing.{Goes, Kept, Top}
+use Rattle.auc_sites.specs.Drawing.{Goes, KeptWords, Top}
 use Rattle.auc_sites.specs.Lease.{IsRising}
 use Rattle.auc_sites.specs.Master.{place_of}
-use Rattle.auc_sites.specs.Network.{Network, Granting, Deliver, Turn, after_event, after_turns, start}
+use Rattle.auc_sites.specs.Network.{Network, Granting, Deliver, SitesTurn, after_event, after_turns, start}
 use Rattle.auc_sites.specs.Run.{Runs}
 use Rattle.auc_sites.specs.Site.{SiteState, outstanding}
 
 -- the numbers that the centre gave in some turns
-abbrev pub released : List Turn → List ℕ
+abbrev pub released : List SitesTurn → List ℕ
 released turns = flat_map (λ t. t.numbers) turns
 
 -- no number is given twice, and those that are given in one turn rise
-pub record AreGivenOnce (turns : List Turn) : Type 0 where
+pub record AreGivenOnce (turns : List SitesTurn) : Type 0 where
   pub differ : AllPairs ◌≢◌ (released turns)
   pub rise : All (λ t. IsRising t.numbers) turns
 
@@ -30,12 +30,12 @@ pub record HandsOutOnce (numbers : List ℕ) (w : Network) : Type 0 where
 -- so it is after every list of turns in which no number is given twice, wherever the numbers come from
 abbrev pub EachNumberIsHandedOutOnce : Type 0
 EachNumberIsHandedOutOnce =
-    (boots : List ℕ) (turns : List Turn) → AreGivenOnce turns → HandsOutOnce (released turns) (after_turns (start boots) turns)
+    (boots : List ℕ) (turns : List SitesTurn) → AreGivenOnce turns → HandsOutOnce (released turns) (after_turns (start boots) turns)
 
 -- and after every run over a centre, which gives no number twice
-abbrev pub EachRunHandsOutOnce : {S : Type 0} → Goes S → Kept S → Top S → Type 0
+abbrev pub EachRunHandsOutOnce : {S : Type 0} → Goes S → KeptWords S → Top S → Type 0
 EachRunHandsOutOnce {S = S} goes kept top =
-    (sub : ℕ) (boots : List ℕ) (turns : List Turn) (before after : S) → Runs goes kept top sub (start boots) before turns after
+    (sub : ℕ) (boots : List ℕ) (turns : List SitesTurn) (before after : S) → Runs goes kept top sub (start boots) before turns after
     → HandsOutOnce (released turns) (after_turns (start boots) turns)
 
 -- a site with the numbers of a grant, which waits no more

@@ -28,7 +28,7 @@ pub data Event : Type 0 where
 
 -- an event; and the numbers that the centre gave in it, with the refusal that ended them, if one did. They matter only if the
 -- event delivers a request that is new to the master
-pub record Turn : Type 0 where
+pub record SitesTurn : Type 0 where
   pub event : Event
   pub numbers : List ℕ
   pub end : Option CentreRefusal
@@ -119,7 +119,7 @@ after_event w (RestartAt i boot) numbers end = after_restarting_at w i boot (sli
 after_event w MasterRestart numbers end = with_last w (nothing_granted (length w.last))
 
 -- the network after some turns
-abbrev pub after_turns : Network → List Turn → Network
+abbrev pub after_turns : Network → List SitesTurn → Network
 after_turns w [] = w
 after_turns w (t ∷ turns) = after_turns (after_event w t.event t.numbers t.end) turns
 

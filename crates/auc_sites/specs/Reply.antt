@@ -7,7 +7,7 @@ use Rattle.auc_sites.specs.declared.master.Judged.TheVariants as judged
 use Rattle.auc_sites.specs.declared.master.Reply.{Reply}
 use Rattle.auc_sites.specs.declared.master.Reply.TheVariants.{Granted, Again, Old, Refused}
 use Rattle.auc_sites.specs.declared.request.Request.{Request}
-use Rattle.auc_sites.specs.Drawing.{Drew, Goes, Kept, Top}
+use Rattle.auc_sites.specs.Drawing.{Drew, Goes, KeptWords, Top}
 use Rattle.auc_sites.specs.Master.{judgement, last_grant, with_grant}
 
 -- the reply to a new request, for which these numbers were drawn and then this refusal came, if one did: a grant of the
@@ -31,13 +31,13 @@ last_after last (Old r) = last
 last_after last (Refused why) = last
 
 -- what happens at the centre: it is asked for a new request, and for no other
-abbrev pub AsksBy : {S : Type 0} → Goes S → Kept S → Top S → ℕ → ℕ → Judged → List ℕ → Option CentreRefusal → S → S → Type 0
+abbrev pub AsksBy : {S : Type 0} → Goes S → KeptWords S → Top S → ℕ → ℕ → Judged → List ℕ → Option CentreRefusal → S → S → Type 0
 AsksBy goes kept top sub size (judged.Again g) numbers end before after = (numbers ≡ []) × (end ≡ None) × (after ≡ before)
 AsksBy goes kept top sub size (judged.Old last) numbers end before after = (numbers ≡ []) × (end ≡ None) × (after ≡ before)
 AsksBy goes kept top sub size judged.New numbers end before after = Drew goes kept top sub size numbers end before after
 
 -- the reply to a request, what the master remembers then, and what happened at the centre
-pub record Replies {S : Type 0} (goes : Goes S) (kept : Kept S) (top : Top S) (sub size : ℕ) (old : List (Option Grant)) (r : Request) (before : S) (reply : Reply) (new : List (Option Grant)) (after : S) : Type 0 where
+pub record Replies {S : Type 0} (goes : Goes S) (kept : KeptWords S) (top : Top S) (sub size : ℕ) (old : List (Option Grant)) (r : Request) (before : S) (reply : Reply) (new : List (Option Grant)) (after : S) : Type 0 where
   pub numbers : List ℕ
   pub end : Option CentreRefusal
   pub asked : AsksBy goes kept top sub size (judgement (last_grant old r) r) numbers end before after

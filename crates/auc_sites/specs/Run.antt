@@ -5,9 +5,9 @@ use Rattle.auc_edge.specs.declared.stop.Stop.{Stop}
 use Rattle.auc_history.specs.declared.entry.Entry.{Entry}
 use Rattle.auc_vector.specs.declared.centre.CentreRefusal.{CentreRefusal}
 use Rattle.auc_sites.specs.declared.master.Judged.{Judged}
-use Rattle.auc_sites.specs.Drawing.{Goes, Kept, Top}
+use Rattle.auc_sites.specs.Drawing.{Goes, KeptWords, Top}
 use Rattle.auc_sites.specs.Master.{judgement, last_grant}
-use Rattle.auc_sites.specs.Network.{Network, Packet, Asking, Granting, Event, Ask, Deliver, Draw, Restart, RestartAt, MasterRestart, Turn, after_event}
+use Rattle.auc_sites.specs.Network.{Network, Packet, Asking, Granting, Event, Ask, Deliver, Draw, Restart, RestartAt, MasterRestart, SitesTurn, after_event}
 use Rattle.auc_sites.specs.Reply.{AsksBy}
 
 -- calls of others, which make any entries of the subscriber
@@ -30,12 +30,12 @@ judgement_in w (RestartAt i boot) = None
 judgement_in w MasterRestart = None
 
 -- what happens at the centre in an event: what the call of the master says, for a request; and otherwise nothing
-abbrev pub AsksIn : {S : Type 0} → Goes S → Kept S → Top S → ℕ → Option Judged → List ℕ → Option CentreRefusal → S → S → Type 0
+abbrev pub AsksIn : {S : Type 0} → Goes S → KeptWords S → Top S → ℕ → Option Judged → List ℕ → Option CentreRefusal → S → S → Type 0
 AsksIn goes kept top sub None numbers end before after = (numbers ≡ []) × (end ≡ None) × (after ≡ before)
 AsksIn goes kept top sub (Some judged) numbers end before after = (size : ℕ) × AsksBy goes kept top sub size judged numbers end before after
 
 -- a run: some turns from a network on, the centre before them, and the centre after them
-abbrev pub Runs : {S : Type 0} → Goes S → Kept S → Top S → ℕ → Network → S → List Turn → S → Type 0
+abbrev pub Runs : {S : Type 0} → Goes S → KeptWords S → Top S → ℕ → Network → S → List SitesTurn → S → Type 0
 Runs goes kept top sub w before [] after = OthersCall goes sub before after
 Runs {S = S} goes kept top sub w before (t ∷ turns) after = (asked : S) × (answered : S) × OthersCall goes sub before asked
     × AsksIn goes kept top sub (judgement_in w t.event) t.numbers t.end asked answered

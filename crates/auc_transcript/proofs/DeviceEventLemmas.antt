@@ -30,7 +30,7 @@ use Rattle.auc_world.specs.Agreement.{HaveSecrets}
 use Rattle.auc_world.specs.Came.{AreReceived, TellsNotes, bytes_named, came, came_at_peer, came_delivered, came_given_up, came_in, came_repeated, came_started, presented_at, presented_by, presented_in, received_at, received_by, session_at}
 use Rattle.auc_record.specs.Event.{Came, device_in, usim_in}
 use Rattle.auc_world.specs.Given.{Before, IsUsimAsked, past_before}
-use Rattle.auc_world.specs.Happened.{Delivery, Told, at_place, delivered, delivery_at, delivery_of, give_up, happened, in_session, kept_after, moved, new_session, opened, peer_turn, repeat, server_gives_up, server_turn, start, to_peer, to_server}
+use Rattle.auc_world.specs.Happened.{Delivery, ToldEvent, at_place, delivered, delivery_at, delivery_of, give_up, happened, in_session, kept_after, moved, new_session, opened, peer_turn, repeat, server_gives_up, server_turn, start, to_peer, to_server}
 use Rattle.auc_world.specs.Net.{Net, device_place, keeps_at, keeps_or, packet_at, same_method, session_place}
 use Rattle.auc_world.specs.Places.{device_places, peer_at}
 use Rattle.auc_record.specs.declared.event.Event.{Event}
@@ -52,7 +52,7 @@ pub record Stays (w v : Net) : Type 0 where
 still : (w : Net) → Stays w w
 still w = record { devices = refl; subs = refl; stores = refl }
 
-delivered_stays : (set : Setting) (w : Net) (at' : End) (told : Told) (o : Option Delivery) → Stays w (delivered set w at' told o)
+delivered_stays : (set : Setting) (w : Net) (at' : End) (told : ToldEvent) (o : Option Delivery) → Stays w (delivered set w at' told o)
 delivered_stays set w at' told None = still w
 delivered_stays set w end.Server told (Some d) = by d.session.server
   where
@@ -95,7 +95,7 @@ at_stays w does (Some t) each = by (slice_get w.sessions t)
     by None = still w
     by (Some s) = each t s
 
-moved_stays : (set : Setting) (w : Net) (e : Event) (told : Told) → Stays w (moved set w e told)
+moved_stays : (set : Setting) (w : Net) (e : Event) (told : ToldEvent) → Stays w (moved set w e told)
 moved_stays set w (event.Open opening) told = opened_stays w opening (session_place w.sessions opening.session) (device_place set.rows w.devices opening.sub)
 moved_stays set w (event.Start session) told = at_stays w (λ t s. start w t s s.server) (session_place w.sessions session) (λ t s. start_stays w t s s.server)
 moved_stays set w (event.Deliver session at' packet) told = delivered_stays set w at' told (delivery_at w packet (session_place w.sessions session))
@@ -104,7 +104,7 @@ moved_stays set w (event.GiveUp session at') told = at_stays w (give_up w at') (
 moved_stays set w (event.Tamper packet place byte) told = record { devices = refl; subs = refl; stores = refl }
 moved_stays set w (event.Cut packet count) told = record { devices = refl; subs = refl; stores = refl }
 
-pub event_stays : (set : Setting) (w : Net) (e : Event) (told : Told) → Stays w (happened set w e told)
+pub event_stays : (set : Setting) (w : Net) (e : Event) (told : ToldEvent) → Stays w (happened set w e told)
 event_stays set w e told = let is = moved_stays set w e told in record { devices = is.devices; subs = is.subs; stores = is.stores }
 
 -- ---- the contexts of a device
@@ -136,7 +136,7 @@ changed_alike m place w v t old new there now same keeps (suc i) =
     ap (λ (l : List Session). peer_at m place (slice_get l i)) now ∙ set_alike m place w.sessions t i old new there same
 
 -- what is known of a breach is no matter
-happened_alike : (m : Method) (place : ℕ) (set : Setting) (w : Net) (e : Event) (told : Told) → Alike m place (moved set w e told) w → Alike m place (happened set w e told) w
+happened_alike : (m : Method) (place : ℕ) (set : Setting) (w : Net) (e : Event) (told : ToldEvent) → Alike m place (moved set w e told) w → Alike m place (happened set w e told) w
 happened_alike m place set w e told alike zero = alike zero
 happened_alike m place set w e told alike (suc i) = alike (suc i)
 
@@ -152,10 +152,10 @@ pub record Reaches (sub : ℕ) (result : Came) (sqn : List ℕ) : Type 0 where
   pub six : length sqn ≡ 6
 
 -- if an SQN was accepted, then by this subscriber's USIM, or the contexts on its device are the same
-abbrev pub Accepts : Method → ℕ → ℕ → Net → Net → Told → Came → Type 0
+abbrev pub Accepts : Method → ℕ → ℕ → Net → Net → ToldEvent → Came → Type 0
 Accepts m sub place w v told result = (sqn : List ℕ) → told.notes.usim ≡ Some (usim.Accepted sqn) → Alike m place v w ⊎ Reaches sub result sqn
 
-alike_accepts : (m : Method) (sub place : ℕ) (w v : Net) (told : Told) (result : Came) → Alike m place v w → Accepts m sub place w v told result
+alike_accepts : (m : Method) (sub place : ℕ) (w v : Net) (told : ToldEvent) (result : Came) → Alike m place v w → Accepts m sub place w v told result
 alike_accepts m sub place w v told result alike sqn e = inl alike
 
 -- a session stands at the device of its subscriber
@@ -165,7 +165,7 @@ IsPlaced set devices sub place = device_place set.rows devices sub ≡ Some plac
 pub row_is : (rows : List Row) (sub : ℕ) (row : Row) → AreSubscribers rows → slice_get rows sub ≡ Some row → IsRow row
 row_is rows sub row are there = subst IsRow (get_or_from_slice_get rows sub row row there) (are.each sub row (slice_get_within rows sub row there))
 
-module _ (set : Setting) (b : Before) (m : Method) (sub place : ℕ) (are : AreSubscribers set.rows) (w : Net) (told : Told) (own : IsPlaced set w.devices sub place)
+module _ (set : Setting) (b : Before) (m : Method) (sub place : ℕ) (are : AreSubscribers set.rows) (w : Net) (told : ToldEvent) (own : IsPlaced set w.devices sub place)
     (placed : AreAt (IsPlaced set w.devices) w.sessions) (secrets : HaveSecrets set w.devices) where
   -- a peer's turn
   peer_accepts : (d : Delivery) (device : Subscription) → slice_get w.sessions d.place ≡ Some d.session → IsPlaced set w.devices d.session.sub d.session.device

@@ -22,7 +22,7 @@ use Rattle.auc_world.specs.Agreement.{Happening, HaveSecrets, IsFresh as IsFresh
 use Rattle.auc_world.specs.Came.{TellsNotes, came}
 use Rattle.auc_record.specs.Event.{sqn_accepted}
 use Rattle.auc_world.specs.Given.{Before, EventGives, JobGives, behind}
-use Rattle.auc_world.specs.Happened.{Told, happened}
+use Rattle.auc_world.specs.Happened.{ToldEvent, happened}
 use Rattle.auc_record.specs.Lines.{accepted}
 use Rattle.auc_world.specs.Net.{Net, device_place, keeps_or, place_with, same_method}
 use Rattle.auc_world.specs.Places.{DeviceMoves, EachEventMovesDevicesOnce, IsDeviceMove, device_places, only, peer_at}
@@ -75,7 +75,7 @@ record Moves (m : Method) (sub place : ℕ) (w v : Net) (origins : List ℕ) (gi
   meets : MayMove IsFresh (device_places m place w) origins given move
   from : All (IsFrom sub lines) (origins_of move)
 
-module _ (set : Setting) (b : Before) (m : Method) (sub place : ℕ) (w : Net) (e : Event) (told : Told) (origins : List ℕ) (given : List (List ℕ))
+module _ (set : Setting) (b : Before) (m : Method) (sub place : ℕ) (w : Net) (e : Event) (told : ToldEvent) (origins : List ℕ) (given : List (List ℕ))
     (earlier : All (IsFrom sub (all_before b)) origins) (accepts : Accepts m sub place w (happened set w e told) told (came set w e told))
     (fresh : (sqn : List ℕ) → Reaches sub (came set w e told) sqn → (x : List ℕ) → ((bits : ℕ) → Contains (accepted bits sub (all_before b)) x) → length x ≡ 6 → origin_of x ≢ origin_of sqn) where
   abbrev line : LineRecord
@@ -161,7 +161,7 @@ opens_placed set w (event.Tamper packet place byte) = tt
 opens_placed set w (event.Cut packet count) = tt
 
 -- it stays there
-pub placed_on : (set : Setting) (start w : Net) (e : Event) (told : Told) → w.devices ≡ start.devices → AreAt (IsPlaced set start.devices) w.sessions
+pub placed_on : (set : Setting) (start w : Net) (e : Event) (told : ToldEvent) → w.devices ≡ start.devices → AreAt (IsPlaced set start.devices) w.sessions
     → AreAt (IsPlaced set start.devices) (happened set w e told).sessions
 placed_on set start w e told same placed =
     subst (λ ds. AreAt (IsPlaced set ds) (happened set w e told).sessions) same

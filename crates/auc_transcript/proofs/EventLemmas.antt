@@ -47,7 +47,7 @@ use Rattle.auc_vector.specs.declared.turn.Turn.{Turn}
 use Rattle.auc_record.specs.Event.{Came, asked_in, device_in, number_in, usim_in}
 use Rattle.auc_world.specs.Came.{TellsNotes, asked_sub, asking_at, asking_in, asking_of, by_network, came, came_at_peer, came_at_server, came_changed, came_delivered, came_given_up, came_in, came_opened, came_repeated, came_started, presented_at, presented_by, presented_in, server_came_to_give_up, session_of}
 use Rattle.auc_world.specs.Given.{Before, CentreAnswers, IsCentreAsked, IsNumberAnswer, IsUsimAsked, NumberFollows, UsimNotes, past_before, past_by}
-use Rattle.auc_world.specs.Happened.{Delivery, Told, changed_in, delivery_in, peer_turn, server_turn}
+use Rattle.auc_world.specs.Happened.{Delivery, ToldEvent, changed_in, delivery_in, peer_turn, server_turn}
 use Rattle.auc_world.specs.Net.{Net, device_place, keeps_at, packet_at, session_place}
 use Rattle.auc_subs.specs.Setting.{Setting}
 use Rattle.auc_record.specs.declared.event.Event.{Event}
@@ -120,7 +120,7 @@ asked_served set (Some request) told notes sub same centre = by (request.sub == 
         (subst (λ (n : Notes). IsNoteServed (top_at set.rows request.sub) n.number) same (answer_served set request.sub request.reported told centre.answers))
     by false mine = tt
 
-server_served : (set : Setting) (place : Before) (w : Net) (told : Told) (o : Option ServerEnd) → TellsNotes told (came_at_server set w told o)
+server_served : (set : Setting) (place : Before) (w : Net) (told : ToldEvent) (o : Option ServerEnd) → TellsNotes told (came_at_server set w told o)
     → IsCentreAsked set (asking_at set w told o) told.notes → IsEventServed set (all_before place) (came_at_server set w told o)
 server_served set place w told None tells centre = silent_served set (all_before place) (came_at_server set w told None) refl refl
 server_served set place w told (Some s) tells centre = record {
@@ -213,7 +213,7 @@ turn_fresh key s home keeps p seen row.Reauthentication past n inner sqn is same
 turn_fresh key s home keeps p seen row.Success past n inner sqn is same accepts = absurd (no_asking n _ sqn is same accepts)
 turn_fresh key s home keeps p seen (row.Failure cause) past n inner sqn is same accepts = absurd (no_asking n _ sqn is same accepts)
 
-peer_served : (set : Setting) (place : Before) (w : Net) (d : Delivery) (told : Told) (o : Option Subscription) → TellsNotes told (came_at_peer set w d told o)
+peer_served : (set : Setting) (place : Before) (w : Net) (d : Delivery) (told : ToldEvent) (o : Option Subscription) → TellsNotes told (came_at_peer set w d told o)
     → IsUsimAsked set place (presented_at w d told o) told → IsEventServed set (all_before place) (came_at_peer set w d told o)
 peer_served set place w d told None tells is = silent_served set (all_before place) (came_at_peer set w d told None) refl refl
 peer_served set place w d told (Some device) tells is = record {
@@ -238,7 +238,7 @@ peer_served set place w d told (Some device) tells is = record {
 
 -- ---- events
 
-delivered_served : (set : Setting) (place : Before) (w : Net) (at' : End) (told : Told) (sent : Option SentPacket) (d : Option Delivery)
+delivered_served : (set : Setting) (place : Before) (w : Net) (at' : End) (told : ToldEvent) (sent : Option SentPacket) (d : Option Delivery)
     → TellsNotes told (came_delivered set w at' told sent d) → IsCentreAsked set (asking_in set w at' told d) told.notes → IsUsimAsked set place (presented_in w at' told d) told
     → IsEventServed set (all_before place) (came_delivered set w at' told sent d)
 delivered_served set place w at' told None d tells centre is = silent_served set (all_before place) (came_delivered set w at' told None d) refl refl
@@ -279,7 +279,7 @@ changed_served set before w e sent =
     w.packets sent (changed_in w.packets e)
 
 -- what an event of a job comes to
-pub event_served : (set : Setting) (place : Before) (w : Net) (e : Event) (told : Told) → TellsNotes told (came set w e told) → IsCentreAsked set (asking_of set w e told) told.notes
+pub event_served : (set : Setting) (place : Before) (w : Net) (e : Event) (told : ToldEvent) → TellsNotes told (came set w e told) → IsCentreAsked set (asking_of set w e told) told.notes
     → IsUsimAsked set place (presented_by w e told) told → IsEventServed set (all_before place) (came set w e told)
 event_served set place w (event.Open opening) told tells centre is =
     opened_served set (all_before place) (session_place w.sessions opening.session) (device_place set.rows w.devices opening.sub)

@@ -15,7 +15,7 @@ use Rattle.auc_packet.specs.declared.subtype.Subtype.{Subtype}
 use Rattle.auc_packet.specs.declared.subtype.Subtype.TheVariants as subtype
 use Rattle.auc_peer.specs.Attributes.{attrs_in}
 use Rattle.auc_peer.specs.Rows.{challenge_of, is_last, is_response, late, method_row, notified_or, of_kind, on_failure, on_sound, on_success, peer_row, repeats, requested, row_headed, row_in, waiting}
-use Rattle.auc_peer.specs.Told.{Told}
+use Rattle.auc_peer.specs.Told.{ToldSession}
 use Rattle.auc_peer.specs.Turn.{asked}
 use Rattle.auc_peer.specs.declared.peer.Challenge.{Challenge}
 use Rattle.auc_peer.specs.declared.peer.Last.{Last}
@@ -42,14 +42,14 @@ picked P true x y f g = f
 picked P false x y f g = g
 
 -- what a method tests of a challenge that was read hands the USIM that challenge, or nothing
-method_hands : (r : Reading) (m : Method) (o : Told) (list : List Attr) (c : Challenge) → IsReadIn r c → Hands r (method_row m o list c)
+method_hands : (r : Reading) (m : Method) (o : ToldSession) (list : List Attr) (c : Challenge) → IsReadIn r c → Hands r (method_row m o list c)
 method_hands r method.Aka o list c is = picked (Hands r) (o.has_prime && bids list) (row.Reject why.Downgrade) (row.Challenged c) tt is
 method_hands r method.Prime o list c is =
     picked (Hands r) (not (is_known_kdf (first_kdf list))) (row.Reject why.BadKdf) _ tt
     (picked (Hands r) (not (is_right_name o.name (name_in list))) (row.Reject why.BadName) _ tt
     (picked (Hands r) (not (is_separated c.autn)) (row.Reject why.NoSeparation) (row.Challenged c) tt is))
 
-waiting_hands : (o : Told) (r : Reading) → Hands r (waiting o r)
+waiting_hands : (o : ToldSession) (r : Reading) → Hands r (waiting o r)
 waiting_hands o (reading.Fault fault) = tt
 waiting_hands o (reading.Read (packet.Identity request id text)) = tt
 waiting_hands o (reading.Read (packet.Success id)) = tt
@@ -97,7 +97,7 @@ late_hands own q (reading.Read (packet.Success id)) = tt
 late_hands own q (reading.Read (packet.Failure id)) = tt
 late_hands own q (reading.Fault fault) = tt
 
-requested_hands : (o : Told) (s : PeerState) (r : Reading) → Hands r (requested o s r)
+requested_hands : (o : ToldSession) (s : PeerState) (r : Reading) → Hands r (requested o s r)
 requested_hands o state.Waiting r = waiting_hands o r
 requested_hands o (state.Answered keys) r = late_hands o.method r r
 requested_hands o (state.Refusing cause) r = tt
@@ -115,20 +115,20 @@ failure_hands r state.Waiting = tt
 failure_hands r (state.Refusing cause) = tt
 failure_hands r state.Ended = tt
 
-kind_hands : (o : Told) (s : PeerState) (last : Option Last) (seen : Seen) (head : Head) (kind : Option ℕ) → Hands seen.reading (of_kind o s last seen head kind)
+kind_hands : (o : ToldSession) (s : PeerState) (last : Option Last) (seen : Seen) (head : Head) (kind : Option ℕ) → Hands seen.reading (of_kind o s last seen head kind)
 kind_hands o s last seen head None =
     picked (Hands seen.reading) (not (is_last last head.id)) (row.Ignore reason.Unexpected) (cond (head.code == 3) (on_success s) (on_failure s)) tt
     (picked (Hands seen.reading) (head.code == 3) (on_success s) (on_failure s) (success_hands seen.reading s) (failure_hands seen.reading s))
 kind_hands o s last seen head (Some kind) =
     picked (Hands seen.reading) (not (kind == 1 || kind == method_type o.method)) (row.Ignore reason.OtherType) (requested o s seen.reading) tt (requested_hands o s seen.reading)
 
-headed_hands : (o : Told) (s : PeerState) (last : Option Last) (seen : Seen) (head : Option Head) → Hands seen.reading (row_headed o s last seen head)
+headed_hands : (o : ToldSession) (s : PeerState) (last : Option Last) (seen : Seen) (head : Option Head) → Hands seen.reading (row_headed o s last seen head)
 headed_hands o s last seen None = tt
 headed_hands o s last seen (Some head) =
     picked (Hands seen.reading) (head.code == 2) (row.Ignore reason.NotForMe) (cond (repeats last seen.bytes) row.Again (of_kind o s last seen head head.kind)) tt
     (picked (Hands seen.reading) (repeats last seen.bytes) row.Again (of_kind o s last seen head head.kind) tt (kind_hands o s last seen head head.kind))
 
-in_hands : (o : Told) (s : PeerState) (last : Option Last) (seen : Seen) → Hands seen.reading (row_in o s last seen)
+in_hands : (o : ToldSession) (s : PeerState) (last : Option Last) (seen : Seen) → Hands seen.reading (row_in o s last seen)
 in_hands o state.Ended last seen = tt
 in_hands o state.Waiting last seen = headed_hands o state.Waiting last seen (head_at seen.bytes)
 in_hands o (state.Answered keys) last seen = headed_hands o (state.Answered keys) last seen (head_at seen.bytes)

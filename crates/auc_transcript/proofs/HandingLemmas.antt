@@ -9,7 +9,7 @@ use Rattle.auc_lines.specs.declared.sites.SiteEvent.TheVariants as asked
 use Rattle.auc_sites.specs.Law.{AreGivenOnce, EachNumberIsHandedOutOnce, released}
 use Rattle.auc_sites.specs.Lease.{IsRising}
 use Rattle.auc_sites.specs.Master.{judgement, last_grant, place_of}
-use Rattle.auc_sites.specs.Network.{Event as SitesEvent, Network, Turn, after_asking, after_delivery, after_drawing, after_event, after_reply, after_restarting, after_taking, after_turns, start, with_number, with_site}
+use Rattle.auc_sites.specs.Network.{Event as SitesEvent, Network, SitesTurn, after_asking, after_delivery, after_drawing, after_event, after_reply, after_restarting, after_taking, after_turns, start, with_number, with_site}
 use Rattle.auc_sites.specs.Reply.{reply_by}
 use Rattle.auc_sites.specs.Run.{judgement_in}
 use Rattle.auc_sites.specs.Site.{SiteState, after_draw, next_number}
@@ -83,13 +83,13 @@ lease_silent set who size sub (Some judged.New) lines gives = draw_silent set wh
 
 -- ---- the numbers of turns
 
-each_rises : (turns : List Turn) → IsRising (released turns) → All (λ t. IsRising t.numbers) turns
-each_rises [] rising = All-nil (λ (t : Turn). IsRising t.numbers)
+each_rises : (turns : List SitesTurn) → IsRising (released turns) → All (λ t. IsRising t.numbers) turns
+each_rises [] rising = All-nil (λ (t : SitesTurn). IsRising t.numbers)
 each_rises (t ∷ turns) rising =
-    All-cons (λ (u : Turn). IsRising u.numbers) t turns (AllPairs-left ◌<◌ t.numbers (released turns) rising) (each_rises turns (AllPairs-right ◌<◌ t.numbers (released turns) rising))
+    All-cons (λ (u : SitesTurn). IsRising u.numbers) t turns (AllPairs-left ◌<◌ t.numbers (released turns) rising) (each_rises turns (AllPairs-right ◌<◌ t.numbers (released turns) rising))
 
 -- numbers that rise are given once
-given_once : (turns : List Turn) → IsRising (released turns) → AreGivenOnce turns
+given_once : (turns : List SitesTurn) → IsRising (released turns) → AreGivenOnce turns
 given_once turns rising = record {
   differ = λ i j d i<j j<n same. let less = rising i j d i<j j<n in absurd (omega (arith, less, same));
   rise = each_rises turns rising;
@@ -98,7 +98,7 @@ given_once turns rising = record {
 -- ---- an event at the sites
 
 -- the numbers that were handed out, and the one that is noted
-module _ (w : Network) (t : Turn) (numbers : List ℕ) (end : Option CentreRefusal) where
+module _ (w : Network) (t : SitesTurn) (numbers : List ℕ) (end : Option CentreRefusal) where
   -- nothing more
   none_more : w.drawn ≡ w.drawn ++ []
   none_more = sym (append-nil w.drawn)
@@ -144,25 +144,25 @@ module _ (w : Network) (t : Turn) (numbers : List ℕ) (end : Option CentreRefus
 -- ---- all events
 
 -- the turns so far led to a network, and gave the numbers of the lines so far
-record Stands (sub : ℕ) (boots : List ℕ) (done : List Turn) (before : List LineRecord) (w : Network) : Type 0 where
+record Stands (sub : ℕ) (boots : List ℕ) (done : List SitesTurn) (before : List LineRecord) (w : Network) : Type 0 where
   is : w ≡ after_turns (start boots) done
   given : released done ≡ numbers_of sub before
 
 -- what events give, after others
-record Goes (sub : ℕ) (before lines : List LineRecord) (w : Network) (turns : List Turn) : Type 0 where
+record Goes (sub : ℕ) (before lines : List LineRecord) (w : Network) (turns : List SitesTurn) : Type 0 where
   given : released turns ≡ numbers_of sub lines
   told : (after_turns w turns).drawn ≡ w.drawn ++ handed_out sub lines
   known : HandsOutAfter sub before lines
 
 module _ (law : EachNumberIsHandedOutOnce) (set : Setting) (sub size : ℕ) (boots : List ℕ) where
   -- the line of an event
-  abbrev said : Network → SiteEvent → Turn → LineRecord
+  abbrev said : Network → SiteEvent → SitesTurn → LineRecord
   said w e t = Further (further.Sites sub (note_of w e t))
 
-  says : (w : Network) (e : SiteEvent) (t : Turn) → handed_by sub (said w e t) ≡ number_noted (note_of w e t)
+  says : (w : Network) (e : SiteEvent) (t : SitesTurn) → handed_by sub (said w e t) ≡ number_noted (note_of w e t)
   says w e t = cond-true (sub == sub) (number_noted (note_of w e t)) [] (eq-eqb sub sub refl)
 
-  module _ (done : List Turn) (before : List LineRecord) (w : Network) (st : Stands sub boots done before w) (e : SiteEvent) (front : List LineRecord) (turn : Turn)
+  module _ (done : List SitesTurn) (before : List LineRecord) (w : Network) (st : Stands sub boots done before w) (e : SiteEvent) (front : List LineRecord) (turn : SitesTurn)
       (gives : SiteEventGives set sub size w e front turn) (rising : IsRising (numbers_of sub (before ++ front))) where
     abbrev next : Network
     next = after_event w turn.event turn.numbers turn.end
@@ -178,10 +178,10 @@ module _ (law : EachNumberIsHandedOutOnce) (set : Setting) (sub size : ℕ) (boo
     numbers = ap (numbers_of sub) gives.lines_are ∙ flat_map-append (released_by sub) gives.drawn (line ∷ []) ∙ append-nil (numbers_of sub gives.drawn)
 
     given_here : turn.numbers ≡ numbers_of sub front
-    given_here = ap (λ (t : Turn). t.numbers) gives.turn_is ∙ sym numbers
+    given_here = ap (λ (t : SitesTurn). t.numbers) gives.turn_is ∙ sym numbers
 
     drawn_here : next.drawn ≡ w.drawn ++ number_noted (note_of w e turn)
-    drawn_here = ap (λ (x : SitesEvent). (after_event w x turn.numbers turn.end).drawn) (ap (λ (t : Turn). t.event) gives.turn_is) ∙ noted w turn turn.numbers turn.end e
+    drawn_here = ap (λ (x : SitesEvent). (after_event w x turn.numbers turn.end).drawn) (ap (λ (t : SitesTurn). t.event) gives.turn_is) ∙ noted w turn turn.numbers turn.end e
 
     told_here : next.drawn ≡ w.drawn ++ handed_out sub front
     told_here =
@@ -192,7 +192,7 @@ module _ (law : EachNumberIsHandedOutOnce) (set : Setting) (sub size : ℕ) (boo
 
     released_here : released (done ++ turn ∷ []) ≡ numbers_of sub (before ++ front)
     released_here =
-        flat_map-append (λ (t : Turn). t.numbers) done (turn ∷ []) ∙ ap (λ (ns : List ℕ). released done ++ ns) (append-nil turn.numbers ∙ given_here)
+        flat_map-append (λ (t : SitesTurn). t.numbers) done (turn ∷ []) ∙ ap (λ (ns : List ℕ). released done ++ ns) (append-nil turn.numbers ∙ given_here)
         ∙ ap (λ (ns : List ℕ). ns ++ numbers_of sub front) st.given ∙ sym (flat_map-append (released_by sub) before front)
 
     leads_here : next ≡ after_turns (start boots) (done ++ turn ∷ [])
@@ -218,11 +218,11 @@ module _ (law : EachNumberIsHandedOutOnce) (set : Setting) (sub size : ℕ) (boo
         (after-append sub before gives.drawn (line ∷ []) (silent_after sub before gives.drawn silent) (subst (All P) (sym (says w e turn)) own, tt))
 
   -- events one after the other
-  goes_on : (done : List Turn) (before : List LineRecord) (w : Network) → Stands sub boots done before w → (events : List SiteEvent) (lines : List LineRecord) (turns : List Turn)
+  goes_on : (done : List SitesTurn) (before : List LineRecord) (w : Network) → Stands sub boots done before w → (events : List SiteEvent) (lines : List LineRecord) (turns : List SitesTurn)
       → SitesGo set sub size w events lines turns → IsRising (numbers_of sub (before ++ lines)) → Goes sub before lines w turns
   goes_on done before w st [] lines turns (none, ends) rising = record {
     given = ap released ends ∙ sym (ap (numbers_of sub) none);
-    told = ap (λ (ts : List Turn). (after_turns w ts).drawn) ends ∙ sym (ap (λ (ls : List LineRecord). w.drawn ++ handed_out sub ls) none ∙ append-nil w.drawn);
+    told = ap (λ (ts : List SitesTurn). (after_turns w ts).drawn) ends ∙ sym (ap (λ (ls : List LineRecord). w.drawn ++ handed_out sub ls) none ∙ append-nil w.drawn);
     known = subst (HandsOutAfter sub before) (sym none) tt;
   }
   goes_on done before w st (e ∷ events) lines [] goes rising = absurd goes

@@ -19,7 +19,7 @@ use Rattle.auc_server.specs.declared.server.ServerState.TheVariants as state
 use Rattle.auc_server.specs.declared.setting.HomeRow.{HomeRow}
 use Rattle.auc_record.specs.Event.{Came}
 use Rattle.auc_world.specs.Came.{came, came_at_server, came_delivered}
-use Rattle.auc_world.specs.Happened.{Delivery, Told, at_place, at_session, delivered, delivery_at, delivery_of, give_up, happened, in_session, kept_after, keys_won, moved, new_session, opened, peer_turn, repeat, server_gives_up, server_turn, start, to_peer, to_server}
+use Rattle.auc_world.specs.Happened.{Delivery, ToldEvent, at_place, at_session, delivered, delivery_at, delivery_of, give_up, happened, in_session, kept_after, keys_won, moved, new_session, opened, peer_turn, repeat, server_gives_up, server_turn, start, to_peer, to_server}
 use Rattle.auc_world.specs.Net.{Net, device_place, keeps_at, packet_at, same_method, session_place}
 use Rattle.auc_world.specs.Places.{server_at, server_leaves}
 use Rattle.auc_record.specs.declared.event.Event.{Event}
@@ -63,7 +63,7 @@ abbrev pub ResumeOthers : ℕ → List Session → Type 0
 ResumeOthers sub sessions = All (λ session. ResumesAnother sub session.server) sessions
 
 -- the server of a session takes a turn
-pub record TakesTurn (set : Setting) (w next : Net) (told : Told) (result : Came) : Type 0 where
+pub record TakesTurn (set : Setting) (w next : Net) (told : ToldEvent) (result : Came) : Type 0 where
   pub place : ℕ
   pub session : Session
   pub server : ServerEnd
@@ -82,7 +82,7 @@ pub record IsQuiet (w next : Net) : Type 0 where
       → server_at m place w.homes (slice_get w.sessions t) ≡ Some c
   pub resumes : (sub : ℕ) → ResumeOthers sub w.sessions → ResumeOthers sub next.sessions
 
-abbrev pub Changes : Setting → Net → Told → Net → Came → Type 0
+abbrev pub Changes : Setting → Net → ToldEvent → Net → Came → Type 0
 Changes set w told next result = TakesTurn set w next told result ⊎ IsQuiet w next
 
 stays : (w : Net) → IsQuiet w w
@@ -122,20 +122,20 @@ no_context false c e = cc
 
 -- ---- deliveries
 
-at_server : (set : Setting) (w : Net) (d : Delivery) (told : Told) (o : Option ServerEnd) → d.session.server ≡ o → slice_get w.sessions d.place ≡ Some d.session
+at_server : (set : Setting) (w : Net) (d : Delivery) (told : ToldEvent) (o : Option ServerEnd) → d.session.server ≡ o → slice_get w.sessions d.place ≡ Some d.session
     → Changes set w told (to_server set w d told o) (came_at_server set w told o)
 at_server set w d told None is there = inr (stays w)
 at_server set w d told (Some s) is there =
     inl (record { place = d.place; session = d.session; server = s; there = there; is = is; sessions = refl; homes = refl; stores = refl; comes = refl })
 
-at_peer : (set : Setting) (w : Net) (d : Delivery) (told : Told) (o : Option Subscription) → slice_get w.sessions d.place ≡ Some d.session → IsQuiet w (to_peer set w d told o)
+at_peer : (set : Setting) (w : Net) (d : Delivery) (told : ToldEvent) (o : Option Subscription) → slice_get w.sessions d.place ≡ Some d.session → IsQuiet w (to_peer set w d told o)
 at_peer set w d told None there = stays w
 at_peer set w d told (Some device) there =
     let turn = peer_turn set device (keeps_at w d.session.device) d.session told in
     server_stays w (to_peer set w d told (Some device)) d.place d.session (record d.session { peer = turn.0; peer_keys = keys_won d.session.peer_keys turn.1.step }) there refl refl
     (length-set w.stores d.session.device (kept_after (keeps_at w d.session.device) d.session told turn.1)) refl
 
-server_delivered : (set : Setting) (w : Net) (told : Told) (packet : ℕ) (o : Option ℕ)
+server_delivered : (set : Setting) (w : Net) (told : ToldEvent) (packet : ℕ) (o : Option ℕ)
     → Changes set w told (delivered set w end.Server told (delivery_at w packet o)) (came_delivered set w end.Server told (packet_at w.packets packet) (delivery_at w packet o))
 server_delivered set w told packet None = inr (stays w)
 server_delivered set w told packet (Some place) = by (slice_get w.sessions place) (packet_at w.packets packet) refl
@@ -147,7 +147,7 @@ server_delivered set w told packet (Some place) = by (slice_get w.sessions place
     by None (Some sent) e = inr (stays w)
     by None None e = inr (stays w)
 
-peer_delivered : (set : Setting) (w : Net) (told : Told) (packet : ℕ) (o : Option ℕ) → IsQuiet w (delivered set w end.Peer told (delivery_at w packet o))
+peer_delivered : (set : Setting) (w : Net) (told : ToldEvent) (packet : ℕ) (o : Option ℕ) → IsQuiet w (delivered set w end.Peer told (delivery_at w packet o))
 peer_delivered set w told packet None = stays w
 peer_delivered set w told packet (Some place) = by (slice_get w.sessions place) (packet_at w.packets packet) refl
   where
@@ -230,7 +230,7 @@ open_quiet w opening None (Some place) = record {
   resumes = λ sub all. All-push (λ (s : Session). ResumesAnother sub s.server) w.sessions (new_session opening place) all tt;
 }
 
-moved_changes : (set : Setting) (w : Net) (e : Event) (told : Told) → Changes set w told (moved set w e told) (came set w e told)
+moved_changes : (set : Setting) (w : Net) (e : Event) (told : ToldEvent) → Changes set w told (moved set w e told) (came set w e told)
 moved_changes set w (event.Open opening) told = inr (open_quiet w opening (session_place w.sessions opening.session) (device_place set.rows w.devices opening.sub))
 moved_changes set w (event.Start session) told = inr (session_quiet w session (λ t s. start w t s s.server) (λ t s there. start_quiet w t s s.server refl there))
 moved_changes set w (event.Deliver session end.Server packet) told = server_delivered set w told packet (session_place w.sessions session)
@@ -241,7 +241,7 @@ moved_changes set w (event.Tamper packet place byte) told = inr (record { homes 
 moved_changes set w (event.Cut packet count) told = inr (record { homes = refl; stores = refl; leaves = λ m at' t c e. e; resumes = λ sub all. all })
 
 -- an event is a turn of a server, or is quiet
-pub event_changes : (set : Setting) (w : Net) (e : Event) (told : Told) → Changes set w told (happened set w e told) (came set w e told)
+pub event_changes : (set : Setting) (w : Net) (e : Event) (told : ToldEvent) → Changes set w told (happened set w e told) (came set w e told)
 event_changes set w e told =
     ⊎_elim
     (λ (t : TakesTurn set w (moved set w e told) told (came set w e told)).

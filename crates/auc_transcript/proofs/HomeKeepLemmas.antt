@@ -13,7 +13,7 @@ use Rattle.auc_history.specs.Split.{times}
 use Rattle.auc_ident.specs.Names.{AreNameable, EqualNamesAreOne, name_text}
 use Rattle.auc_ident.specs.Ordinals.{last_ordinal}
 use Rattle.auc_ident.specs.declared.names.NameKind.TheVariants as kinds
-use Rattle.auc_reauth.specs.Machine.{Accept, Adopt, Challenge, GivesNew, Home, IsFresh, IsNew, Lose, Move, Places, Resume, Used, Win, with_place}
+use Rattle.auc_reauth.specs.Machine.{Accept, Adopt, Challenge, GivesNew, HomePast, IsFresh, IsNew, Lose, Move, Places, Resume, Used, Win, with_place}
 use Rattle.auc_reauth.specs.declared.context.Context.{Context}
 use Rattle.auc_server.specs.Moves.{IsNewName, moved_by}
 use Rattle.auc_subs.specs.Setting.{Setting}
@@ -29,7 +29,7 @@ use Rattle.auc_transcript.proofs.MoveFoldLemmas.{AreLedTo, at_same, led_alike, l
 -- ---- what is kept of a home
 
 -- what the moves of a home meet
-abbrev pub AtHome : Move → Home → Type 0
+abbrev pub AtHome : Move → HomePast → Type 0
 AtHome m w = IsFresh m w × GivesNew m w
 
 -- the re-authentication identity of an ordinal up to one

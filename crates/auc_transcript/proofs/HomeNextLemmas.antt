@@ -28,7 +28,7 @@ use Rattle.auc_vector.specs.declared.notes.NumberNote.TheVariants as number
 use Rattle.auc_world.proofs.Facts.{homes_alike, turn_subs}
 use Rattle.auc_record.specs.Event.{Came, number_released}
 use Rattle.auc_world.specs.Came.{TellsNotes, asked_sub, came}
-use Rattle.auc_world.specs.Happened.{Told, happened, server_turn}
+use Rattle.auc_world.specs.Happened.{ToldEvent, happened, server_turn}
 use Rattle.auc_record.specs.Lines.{numbers_of}
 use Rattle.auc_world.specs.Net.{Net, same_method}
 use Rattle.auc_world.specs.Places.{home_places, server_at, server_leaves}
@@ -102,7 +102,7 @@ asked_number sub n (Some request) drew is drawn =
 
 -- ---- an event
 
-pub record HomesNext (set : Setting) (w next : Net) (told : Told) (result : Came) : Type 0 where
+pub record HomesNext (set : Setting) (w next : Net) (told : ToldEvent) (result : Came) : Type 0 where
   pub alike : AreAlike next.homes w.homes
   pub rises : (place : ℕ) → (home_at w.homes place).ordinals ≤ (home_at next.homes place).ordinals
   pub within : (place : ℕ) → IsWithin place w.homes → IsWithin place next.homes
@@ -114,7 +114,7 @@ pub record HomesNext (set : Setting) (w next : Net) (told : Told) (result : Came
   -- no server takes up a context of a subscriber whose home isn't there
   pub others : (sub : ℕ) → AreOthers sub w.homes → ResumeOthers sub w.sessions → ResumeOthers sub next.sessions
 
-quiet_next : (set : Setting) (w next : Net) (told : Told) (result : Came) → IsQuiet w next → HomesNext set w next told result
+quiet_next : (set : Setting) (w next : Net) (told : ToldEvent) (result : Came) → IsQuiet w next → HomesNext set w next told result
 quiet_next set w next told result q = record {
   alike = ap (λ (hs : List HomeRow). map (λ (home : HomeRow). home.sub) hs) q.homes;
   rises = λ place. let same = ap (λ (hs : List HomeRow). (home_at hs place).ordinals) q.homes in omega (arith, same);
@@ -125,7 +125,7 @@ quiet_next set w next told result q = record {
   others = λ sub others all. q.resumes sub all;
 }
 
-module _ (law : OrdinalsRise) (set : Setting) (w next : Net) (told : Told) (result : Came) (t : TakesTurn set w next told result) where
+module _ (law : OrdinalsRise) (set : Setting) (w next : Net) (told : ToldEvent) (result : Came) (t : TakesTurn set w next told result) where
   new : ServerEnd
   new = (server_turn set w t.server told).0
 
@@ -206,7 +206,7 @@ module _ (law : OrdinalsRise) (set : Setting) (w next : Net) (told : Told) (resu
     others = turn_others;
   }
 
-pub homes_next : OrdinalsRise → (set : Setting) (w : Net) (e : Happens) (told : Told) → HomesNext set w (happened set w e told) told (came set w e told)
+pub homes_next : OrdinalsRise → (set : Setting) (w : Net) (e : Happens) (told : ToldEvent) → HomesNext set w (happened set w e told) told (came set w e told)
 homes_next law set w e told =
     ⊎_elim (λ (t : TakesTurn set w (happened set w e told) told (came set w e told)). turn_next law set w (happened set w e told) told (came set w e told) t)
     (λ (q : IsQuiet w (happened set w e told)). quiet_next set w (happened set w e told) told (came set w e told) q) (event_changes set w e told)

@@ -29,7 +29,7 @@ use Rattle.auc_vector.specs.declared.turn.Step.{Step}
 use Rattle.auc_vector.specs.declared.turn.Step.TheVariants as step
 use Rattle.auc_world.specs.Came.{presented_at, presented_by, presented_in}
 use Rattle.auc_world.specs.Given.{Before, EventGives, IsUsimAsked, JobGives, JobsGive, LineGives, PlainGives, RelayGives, behind, packet_of}
-use Rattle.auc_world.specs.Happened.{Delivery, Told, at_place, delivered, delivery_at, delivery_of, give_up, happened, in_session, kept_after, keys_won, moved, new_session, opened, peer_turn, drawn_in_turn, repeat, server_gives_up, server_turn, start, to_peer, to_server, with_peer, with_server}
+use Rattle.auc_world.specs.Happened.{Delivery, ToldEvent, at_place, delivered, delivery_at, delivery_of, give_up, happened, in_session, kept_after, keys_won, moved, new_session, opened, peer_turn, drawn_in_turn, repeat, server_gives_up, server_turn, start, to_peer, to_server, with_peer, with_server}
 use Rattle.auc_world.specs.Net.{Net, device_place, keeps_at, keeps_or, other, packet_at, session_place}
 use Rattle.auc_world.specs.Start.{Kept, fresh_kept, keeps_by, keeps_of, kept_by_jobs, kept_now, kept_of, kept_or, kept_with, put_back, start_of, subscription_at, subscription_by}
 use Rattle.auc_record.specs.declared.event.Event.{Event}
@@ -110,7 +110,7 @@ opened_has w opening None (Some place) all = record {
   sizes = all.sizes;
 }
 
-to_server_has : (set : Setting) (w : Net) (d : Delivery) (told : Told) (o : Option ServerEnd) → KeepsNames w → HasNames d.session.peer → KeepsNames (to_server set w d told o)
+to_server_has : (set : Setting) (w : Net) (d : Delivery) (told : ToldEvent) (o : Option ServerEnd) → KeepsNames w → HasNames d.session.peer → KeepsNames (to_server set w d told o)
 to_server_has set w d told None all own = all
 to_server_has set w d told (Some q) all own =
     let turn = server_turn set w q told in
@@ -125,7 +125,7 @@ keeps_named w place all = by (slice_get w.stores place) refl
     by None there = nothing_named
     by (Some keeps) there = all_at AreNames w.stores place keeps all.stores there
 
-to_peer_has : (set : Setting) (before : Before) (w : Net) (d : Delivery) (told : Told) (o : Option Subscription) → KeepsNames w → HasNames d.session.peer
+to_peer_has : (set : Setting) (before : Before) (w : Net) (d : Delivery) (told : ToldEvent) (o : Option Subscription) → KeepsNames w → HasNames d.session.peer
     → IsUsimAsked set before (presented_at w d told o) told → KeepsNames (to_peer set w d told o)
 to_peer_has set before w d told None all own is = all
 to_peer_has set before w d told (Some device) all own is =
@@ -140,7 +140,7 @@ to_peer_has set before w d told (Some device) all own is =
       sizes = length-set w.stores d.session.device (kept_after keeps d.session told turn.1) ∙ all.sizes;
     }
 
-delivered_has : (set : Setting) (before : Before) (w : Net) (at' : End) (told : Told) (packet : ℕ) (o : Option ℕ) → KeepsNames w
+delivered_has : (set : Setting) (before : Before) (w : Net) (at' : End) (told : ToldEvent) (packet : ℕ) (o : Option ℕ) → KeepsNames w
     → IsUsimAsked set before (presented_in w at' told (delivery_at w packet o)) told → KeepsNames (delivered set w at' told (delivery_at w packet o))
 delivered_has set before w at' told packet None all is = all
 delivered_has set before w at' told packet (Some place) all is = by (slice_get w.sessions place) (packet_at w.packets packet) refl at' is
@@ -156,7 +156,7 @@ delivered_has set before w at' told packet (Some place) all is = by (slice_get w
     by (Some s) None there e is = all
     by None y there e is = all
 
-moved_has : (set : Setting) (before : Before) (w : Net) (e : Event) (told : Told) → KeepsNames w → IsUsimAsked set before (presented_by w e told) told → KeepsNames (moved set w e told)
+moved_has : (set : Setting) (before : Before) (w : Net) (e : Event) (told : ToldEvent) → KeepsNames w → IsUsimAsked set before (presented_by w e told) told → KeepsNames (moved set w e told)
 moved_has set before w (event.Open opening) told all is = opened_has w opening (session_place w.sessions opening.session) (device_place set.rows w.devices opening.sub) all
 moved_has set before w (event.Start session) told all is =
     at_has w (λ place s. start w place s s.server) (session_place w.sessions session) all (λ place s own. starting_has w place s s.server all own)

@@ -17,7 +17,7 @@ use Rattle.auc_lines.specs.declared.part.Report.{Report}
 use Rattle.auc_random.specs.Random.{rand_of}
 use Rattle.auc_request.specs.Request.{is_separated}
 use Rattle.auc_vector.specs.declared.sim_note.SimNote.{SimNote}
-use Rattle.auc_sites.specs.Network.{Network, Turn, after_event}
+use Rattle.auc_sites.specs.Network.{Network, SitesTurn, after_event}
 use Rattle.auc_sites.specs.Run.{judgement_in}
 use Rattle.auc_sites.specs.declared.master.Judged.{Judged}
 use Rattle.auc_sites.specs.declared.master.Judged.TheVariants as judged
@@ -179,12 +179,12 @@ lease_known set place sub size (Some (judged.Again g)) lines none = none_known s
 lease_known set place sub size (Some (judged.Old last)) lines none = none_known set place lines none
 lease_known set place sub size (Some judged.New) lines gives = draw_known set place sub size lines gives
 
-site_event_known : (set : Setting) (place : Before) (sub size : ℕ) (w : Network) (e : SiteEvent) (lines : List LineRecord) (turn : Turn) → SiteEventGives set sub size w e lines turn → AreKnown set place lines
+site_event_known : (set : Setting) (place : Before) (sub size : ℕ) (w : Network) (e : SiteEvent) (lines : List LineRecord) (turn : SitesTurn) → SiteEventGives set sub size w e lines turn → AreKnown set place lines
 site_event_known set place sub size w e lines turn gives =
     subst (AreKnown set place) (sym gives.lines_are)
     (known-append set place gives.drawn (Further (further.Sites sub (note_of w e turn)) ∷ []) (lease_known set place sub size (judgement_in w (event_of w e)) gives.drawn gives.draws) (tt, tt))
 
-sites_known : (set : Setting) (place : Before) (sub size : ℕ) (w : Network) (events : List SiteEvent) (lines : List LineRecord) (turns : List Turn) → SitesGo set sub size w events lines turns
+sites_known : (set : Setting) (place : Before) (sub size : ℕ) (w : Network) (events : List SiteEvent) (lines : List LineRecord) (turns : List SitesTurn) → SitesGo set sub size w events lines turns
     → AreKnown set place lines
 sites_known set place sub size w [] lines turns (none, ends) = none_known set place lines none
 sites_known set place sub size w (e ∷ events) lines [] goes = absurd goes

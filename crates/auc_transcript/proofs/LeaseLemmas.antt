@@ -21,7 +21,7 @@ use Rattle.auc_random.specs.Random.{rand_of}
 use Rattle.auc_request.specs.Request.{is_separated}
 use Rattle.auc_sites.specs.Law.{EachNumberIsHandedOutOnce, released}
 use Rattle.auc_sites.specs.Lease.{IsRising}
-use Rattle.auc_sites.specs.Network.{Network, Turn, after_event}
+use Rattle.auc_sites.specs.Network.{Network, SitesTurn, after_event}
 use Rattle.auc_sites.specs.Run.{judgement_in}
 use Rattle.auc_sites.specs.declared.master.Judged.{Judged}
 use Rattle.auc_sites.specs.declared.master.Judged.TheVariants as judged
@@ -119,7 +119,7 @@ module _ (sub : ℕ) where
       (relay_silent set (behind before (l ∷ [])) mid next session end.Peer (packet_of l) lines more)
 
   -- a line for sites of another subscriber
-  others_silent : (set : Setting) (who size : ℕ) (w : Network) (events : List SiteEvent) (lines : List LineRecord) (turns : List Turn) → (who == sub) ≡ false → SitesGo set who size w events lines turns
+  others_silent : (set : Setting) (who size : ℕ) (w : Network) (events : List SiteEvent) (lines : List LineRecord) (turns : List SitesTurn) → (who == sub) ≡ false → SitesGo set who size w events lines turns
       → Silent lines
   others_silent set who size w [] lines turns apart (none, ends) = subst Silent (sym none) (All-nil (IsSilent sub))
   others_silent set who size w (e ∷ events) lines [] apart goes = absurd goes
@@ -202,7 +202,7 @@ lease_known set who size (Some (judged.Again g)) lines none = inl (ap (numbers_o
 lease_known set who size (Some (judged.Old last)) lines none = inl (ap (numbers_of who) none)
 lease_known set who size (Some judged.New) lines gives = draw_known set who size lines gives
 
-sites_known : (set : Setting) (who size : ℕ) (w : Network) (events : List SiteEvent) (lines : List LineRecord) (turns : List Turn) → SitesGo set who size w events lines turns
+sites_known : (set : Setting) (who size : ℕ) (w : Network) (events : List SiteEvent) (lines : List LineRecord) (turns : List SitesTurn) → SitesGo set who size w events lines turns
     → (numbers_of who lines ≡ []) ⊎ (who < length set.rows)
 sites_known set who size w [] lines turns (none, ends) = inl (ap (numbers_of who) none)
 sites_known set who size w (e ∷ events) lines [] goes = absurd goes

@@ -9,7 +9,7 @@ use Rattle.std.proofs.lemmas.List.Edits.{length-swap, swap_is}
 use Rattle.std.proofs.lemmas.List.Elements.{All-append, All-cons, All-head, All-nil, All-tail}
 use Rattle.std.proofs.lemmas.List.Sorted.{All-permutation, IsPermutation-append_right, IsPermutation-keeps, IsPermutation-refl, IsPermutation-trans}
 use Rattle.auc_reauth.specs.Device.{accepting}
-use Rattle.auc_reauth.specs.Machine.{Accept, Adopt, AreDifferent, Challenge, EachCounterOnce, EachGivesNew, EachIdentityOnce, EachIsFresh, GivesNew, HaveOwnNames, Home, IsFresh, Lose, Move, Places, Resume, Used, Win, accepted_in, after, empty_home, moved, next_in, renamed, used_by, used_in, with_place}
+use Rattle.auc_reauth.specs.Machine.{Accept, Adopt, AreDifferent, Challenge, EachCounterOnce, EachGivesNew, EachIdentityOnce, EachIsFresh, GivesNew, HaveOwnNames, HomePast, IsFresh, Lose, Move, Places, Resume, Used, Win, accepted_in, after, empty_home, moved, next_in, renamed, used_by, used_in, with_place}
 use Rattle.auc_reauth.specs.declared.context.Context.{Context}
 use Rattle.auc_server.specs.Moves.{moved_by}
 use Rattle.auc_world.specs.Places.{only}
@@ -94,7 +94,7 @@ with_alike : (p : ℕ) (c d : Option Context) (x y : Places) → c ≡ d → ((i
 with_alike p c d x y same alike i = ap (λ (e : Option Context). cond (i == p) e (x i)) same ∙ ap (λ (e : Option Context). cond (i == p) d e) (alike i)
 
 -- a move does the same to places that are equal at each place
-moved_alike : (m : Move) (w v : Home) → ((i : ℕ) → w.place i ≡ v.place i) → (i : ℕ) → (moved m w).place i ≡ (moved m v).place i
+moved_alike : (m : Move) (w v : HomePast) → ((i : ℕ) → w.place i ≡ v.place i) → (i : ℕ) → (moved m w).place i ≡ (moved m v).place i
 moved_alike (Challenge t c) w v alike = with_alike (suc t) (Some c) (Some c) w.place v.place refl alike
 moved_alike (Resume t identity) w v alike =
     with_alike (suc t) (next_in identity (w.place zero)) (next_in identity (v.place zero)) (with_place zero None w.place) (with_place zero None v.place) (ap (next_in identity) (alike zero))
@@ -131,7 +131,7 @@ used_with (Win t) stored = []
 used_with (Lose t) stored = []
 used_with (Adopt identity) stored = []
 
-moved_used : (m : Move) (w : Home) → (moved m w).used ≡ used_with m (w.place zero) ++ w.used
+moved_used : (m : Move) (w : HomePast) → (moved m w).used ≡ used_with m (w.place zero) ++ w.used
 moved_used (Challenge t c) w = refl
 moved_used (Resume t identity) w = refl
 moved_used (Accept counter) w = refl
@@ -139,7 +139,7 @@ moved_used (Win t) w = refl
 moved_used (Lose t) w = refl
 moved_used (Adopt identity) w = refl
 
-moved_origins : (m : Move) (w : Home) → (moved m w).origins ≡ origins_in m ++ w.origins
+moved_origins : (m : Move) (w : HomePast) → (moved m w).origins ≡ origins_in m ++ w.origins
 moved_origins (Challenge t c) w = refl
 moved_origins (Resume t identity) w = refl
 moved_origins (Accept counter) w = refl
@@ -147,7 +147,7 @@ moved_origins (Win t) w = refl
 moved_origins (Lose t) w = refl
 moved_origins (Adopt identity) w = refl
 
-moved_given : (m : Move) (w : Home) → (moved m w).given ≡ given_in m ++ w.given
+moved_given : (m : Move) (w : HomePast) → (moved m w).given ≡ given_in m ++ w.given
 moved_given (Challenge t c) w = refl
 moved_given (Resume t identity) w = refl
 moved_given (Accept counter) w = refl
@@ -166,30 +166,30 @@ given_of (Some m) = given_in m
 
 -- ---- moves one after the other
 
-after-push : (ms : List Move) (m : Move) (w : Home) → after (ms ++ m ∷ []) w ≡ moved m (after ms w)
+after-push : (ms : List Move) (m : Move) (w : HomePast) → after (ms ++ m ∷ []) w ≡ moved m (after ms w)
 after-push [] m w = refl
 after-push (n ∷ ms) m w = after-push ms m (moved n w)
 
 -- each of some moves meets a condition on the home before it
-abbrev pub EachMeets : (Move → Home → Type 0) → List Move → Home → Type 0
+abbrev pub EachMeets : (Move → HomePast → Type 0) → List Move → HomePast → Type 0
 EachMeets P [] w = Unit {0}
 EachMeets P (m ∷ ms) w = P m w × EachMeets P ms (moved m w)
 
-meets-push : (P : Move → Home → Type 0) (ms : List Move) (m : Move) (w : Home) → EachMeets P ms w → P m (after ms w) → EachMeets P (ms ++ m ∷ []) w
+meets-push : (P : Move → HomePast → Type 0) (ms : List Move) (m : Move) (w : HomePast) → EachMeets P ms w → P m (after ms w) → EachMeets P (ms ++ m ∷ []) w
 meets-push P [] m w all last = (last, tt)
 meets-push P (n ∷ ms) m w all last = (all.0, meets-push P ms m (moved n w) all.1 last)
 
-each_fresh : (P : Move → Home → Type 0) (ms : List Move) (w : Home) → ((m : Move) (v : Home) → P m v → IsFresh m v) → EachMeets P ms w → EachIsFresh ms w
+each_fresh : (P : Move → HomePast → Type 0) (ms : List Move) (w : HomePast) → ((m : Move) (v : HomePast) → P m v → IsFresh m v) → EachMeets P ms w → EachIsFresh ms w
 each_fresh P [] w is all = tt
 each_fresh P (m ∷ ms) w is all = (is m w all.0, each_fresh P ms (moved m w) is all.1)
 
-each_new : (P : Move → Home → Type 0) (ms : List Move) (w : Home) → ((m : Move) (v : Home) → P m v → GivesNew m v) → EachMeets P ms w → EachGivesNew ms w
+each_new : (P : Move → HomePast → Type 0) (ms : List Move) (w : HomePast) → ((m : Move) (v : HomePast) → P m v → GivesNew m v) → EachMeets P ms w → EachGivesNew ms w
 each_new P [] w is all = tt
 each_new P (m ∷ ms) w is all = (is m w all.0, each_new P ms (moved m w) is all.1)
 
 -- moves from nothing, each of which meets a condition, lead to these places; they used these counters, in some order, and these
 -- are the origins and the identities that they gave
-pub record AreLedTo (P : Move → Home → Type 0) (places : Places) (used : List Used) (origins : List ℕ) (given : List (List ℕ)) : Type 0 where
+pub record AreLedTo (P : Move → HomePast → Type 0) (places : Places) (used : List Used) (origins : List ℕ) (given : List (List ℕ)) : Type 0 where
   pub moves : List Move
   pub meet : EachMeets P moves empty_home
   pub places_are : (i : ℕ) → (after moves empty_home).place i ≡ places i
@@ -198,7 +198,7 @@ pub record AreLedTo (P : Move → Home → Type 0) (places : Places) (used : Lis
   pub given_are : (after moves empty_home).given ≡ given
 
 -- at the beginning there is nothing
-pub led_to_nothing : (P : Move → Home → Type 0) → AreLedTo P (λ i. None) [] [] []
+pub led_to_nothing : (P : Move → HomePast → Type 0) → AreLedTo P (λ i. None) [] [] []
 led_to_nothing P = record {
   moves = [];
   meet = tt;
@@ -209,7 +209,7 @@ led_to_nothing P = record {
 }
 
 -- places that are equal at each place
-pub led_alike : (P : Move → Home → Type 0) (old new : Places) (before since : List Used) (origins : List ℕ) (given : List (List ℕ)) → ((i : ℕ) → new i ≡ old i) → IsPermutation before since
+pub led_alike : (P : Move → HomePast → Type 0) (old new : Places) (before since : List Used) (origins : List ℕ) (given : List (List ℕ)) → ((i : ℕ) → new i ≡ old i) → IsPermutation before since
     → AreLedTo P old before origins given → AreLedTo P new since origins given
 led_alike P old new before since origins given same used k = record {
   moves = k.moves;
@@ -221,31 +221,31 @@ led_alike P old new before since origins given same used k = record {
 }
 
 -- a home has these places, origins and identities
-pub record Has (w : Home) (places : Places) (origins : List ℕ) (given : List (List ℕ)) : Type 0 where
+pub record Has (w : HomePast) (places : Places) (origins : List ℕ) (given : List (List ℕ)) : Type 0 where
   pub places_are : (i : ℕ) → w.place i ≡ places i
   pub origins_are : w.origins ≡ origins
   pub given_are : w.given ≡ given
 
 -- a move that there may be meets the condition at each home with what is there
-abbrev pub MayMove : (Move → Home → Type 0) → Places → List ℕ → List (List ℕ) → Option Move → Type 0
+abbrev pub MayMove : (Move → HomePast → Type 0) → Places → List ℕ → List (List ℕ) → Option Move → Type 0
 MayMove P places origins given None = Unit {0}
-MayMove P places origins given (Some m) = (w : Home) → Has w places origins given → P m w
+MayMove P places origins given (Some m) = (w : HomePast) → Has w places origins given → P m w
 
 -- one move more, or none
-pub led_on : (P : Move → Home → Type 0) (old new : Places) (before since : List Used) (origins : List ℕ) (given : List (List ℕ)) (move : Option Move)
+pub led_on : (P : Move → HomePast → Type 0) (old new : Places) (before since : List Used) (origins : List ℕ) (given : List (List ℕ)) (move : Option Move)
     → ((i : ℕ) → new i ≡ (moved_by move (only old)).place i) → IsPermutation ((moved_by move (only old)).used ++ before) since → MayMove P old origins given move
     → AreLedTo P old before origins given → AreLedTo P new since (origins_of move ++ origins) (given_of move ++ given)
 led_on P old new before since origins given None places used meets k = led_alike P old new before since origins given places used k
 led_on P old new before since origins given (Some m) places used meets k = record {
   moves = k.moves ++ m ∷ [];
   meet = meets-push P k.moves m empty_home k.meet (meets was (record { places_are = k.places_are; origins_are = k.origins_are; given_are = k.given_are }));
-  places_are = λ i. ap (λ (w : Home). w.place i) now ∙ moved_alike m was (only old) k.places_are i ∙ sym (places i);
-  used_are = subst (λ (w : Home). IsPermutation w.used since) (sym now) (subst (λ (l : List Used). IsPermutation l since) (sym (moved_used m was)) all_used);
-  origins_are = ap (λ (w : Home). w.origins) now ∙ moved_origins m was ∙ ap (λ (l : List ℕ). origins_in m ++ l) k.origins_are;
-  given_are = ap (λ (w : Home). w.given) now ∙ moved_given m was ∙ ap (λ (l : List (List ℕ)). given_in m ++ l) k.given_are;
+  places_are = λ i. ap (λ (w : HomePast). w.place i) now ∙ moved_alike m was (only old) k.places_are i ∙ sym (places i);
+  used_are = subst (λ (w : HomePast). IsPermutation w.used since) (sym now) (subst (λ (l : List Used). IsPermutation l since) (sym (moved_used m was)) all_used);
+  origins_are = ap (λ (w : HomePast). w.origins) now ∙ moved_origins m was ∙ ap (λ (l : List ℕ). origins_in m ++ l) k.origins_are;
+  given_are = ap (λ (w : HomePast). w.given) now ∙ moved_given m was ∙ ap (λ (l : List (List ℕ)). given_in m ++ l) k.given_are;
 }
   where
-    was : Home
+    was : HomePast
     was = after k.moves empty_home
 
     now : after (k.moves ++ m ∷ []) empty_home ≡ moved m was
@@ -281,7 +281,7 @@ lost_session t u places none above = by (suc u == suc t) refl
         apart (inr (inr more)) other = omega (arith, more)
 
 -- what sessions would leave is forgotten
-pub led_between : (P : Move → Home → Type 0) (n : ℕ) (places : Places) (used : List Used) (origins : List ℕ) (given : List (List ℕ)) → ((t : ℕ) (w : Home) → P (Lose t) w)
+pub led_between : (P : Move → HomePast → Type 0) (n : ℕ) (places : Places) (used : List Used) (origins : List ℕ) (given : List (List ℕ)) → ((t : ℕ) (w : HomePast) → P (Lose t) w)
     → ((t : ℕ) → n ≤ t → places (suc t) ≡ None) → AreLedTo P places used origins given → AreLedTo P (stored_alone (places zero)) used origins given
 led_between P zero places used origins given may none k =
     led_alike P places (stored_alone (places zero)) used used origins given alone (IsPermutation-refl used) k
@@ -304,13 +304,13 @@ turned_names : (u v : Used) → HaveOwnNames u v → HaveOwnNames v u
 turned_names u v differ same = differ (sym same)
 
 -- no counter is used twice
-pub led_counters_differ : EachCounterOnce → (P : Move → Home → Type 0) (places : Places) (used : List Used) (origins : List ℕ) (given : List (List ℕ)) → ((m : Move) (w : Home) → P m w → IsFresh m w)
+pub led_counters_differ : EachCounterOnce → (P : Move → HomePast → Type 0) (places : Places) (used : List Used) (origins : List ℕ) (given : List (List ℕ)) → ((m : Move) (w : HomePast) → P m w → IsFresh m w)
     → AreLedTo P places used origins given → AllPairs AreDifferent used
 led_counters_differ law P places used origins given is k =
     AllPairs-permutation AreDifferent (after k.moves empty_home).used used turned_counters k.used_are (law k.moves (each_fresh P k.moves empty_home is k.meet))
 
 -- no identity is resumed twice
-pub led_names_differ : EachIdentityOnce → (P : Move → Home → Type 0) (places : Places) (used : List Used) (origins : List ℕ) (given : List (List ℕ)) → ((m : Move) (w : Home) → P m w → GivesNew m w)
+pub led_names_differ : EachIdentityOnce → (P : Move → HomePast → Type 0) (places : Places) (used : List Used) (origins : List ℕ) (given : List (List ℕ)) → ((m : Move) (w : HomePast) → P m w → GivesNew m w)
     → AreLedTo P places used origins given → AllPairs HaveOwnNames used
 led_names_differ law P places used origins given is k =
     AllPairs-permutation HaveOwnNames (after k.moves empty_home).used used turned_names k.used_are (law k.moves (each_new P k.moves empty_home is k.meet))
@@ -318,7 +318,7 @@ led_names_differ law P places used origins given is k =
 -- ---- what identities are
 
 -- all contexts, and what was used, have identities of a kind
-record Named (Q : List ℕ → Type 0) (w : Home) : Type 0 where
+record Named (Q : List ℕ → Type 0) (w : HomePast) : Type 0 where
   contexts : (i : ℕ) (c : Context) → w.place i ≡ Some c → Q c.identity
   used : All (λ u. Q u.identity) w.used
 
@@ -350,7 +350,7 @@ module _ (Q : List ℕ → Type 0) where
   used_named None named = All-nil (λ (u : Used). Q u.identity)
   used_named (Some c) named = All-cons (λ (u : Used). Q u.identity) (used_by c.counter c) [] (named c refl) (All-nil (λ (u : Used). Q u.identity))
 
-  moved_named : (m : Move) (w : Home) → GivesNew m w → All Q (moved m w).given → Named Q w → Named Q (moved m w)
+  moved_named : (m : Move) (w : HomePast) → GivesNew m w → All Q (moved m w).given → Named Q w → Named Q (moved m w)
   moved_named (Challenge t c) w new all named = record {
     contexts = put_named (suc t) (Some c) w.place (λ x e. subst (λ (y : Context). Q y.identity) (one_context c x e) (All-head Q c.identity w.given all)) named.contexts;
     used = named.used;
@@ -367,23 +367,23 @@ module _ (Q : List ℕ → Type 0) where
   moved_named (Lose t) w new all named = record { contexts = cleared (suc t) w.place named.contexts; used = named.used }
   moved_named (Adopt identity) w new all named = absurd new
 
-  given_before : (m : Move) (w : Home) → All Q (moved m w).given → All Q w.given
+  given_before : (m : Move) (w : HomePast) → All Q (moved m w).given → All Q w.given
   given_before m w all = All-right (given_in m) w.given (subst (All Q) (moved_given m w) all)
     where
       All-right : (xs ys : List (List ℕ)) → All Q (xs ++ ys) → All Q ys
       All-right [] ys all = all
       All-right (x ∷ xs) ys all = All-right xs ys (All-tail Q x (xs ++ ys) all)
 
-  given_first : (ms : List Move) (w : Home) → All Q (after ms w).given → All Q w.given
+  given_first : (ms : List Move) (w : HomePast) → All Q (after ms w).given → All Q w.given
   given_first [] w all = all
   given_first (m ∷ ms) w all = given_before m w (given_first ms (moved m w) all)
 
-  after_named : (ms : List Move) (w : Home) → EachGivesNew ms w → All Q (after ms w).given → Named Q w → Named Q (after ms w)
+  after_named : (ms : List Move) (w : HomePast) → EachGivesNew ms w → All Q (after ms w).given → Named Q w → Named Q (after ms w)
   after_named [] w new all named = named
   after_named (m ∷ ms) w new all named = after_named ms (moved m w) new.1 all (moved_named m w new.0 (given_first ms (moved m w) all) named)
 
   -- what was used has one of the identities that were given
-  pub led_named : (P : Move → Home → Type 0) (places : Places) (used : List Used) (origins : List ℕ) (given : List (List ℕ)) → ((m : Move) (w : Home) → P m w → GivesNew m w)
+  pub led_named : (P : Move → HomePast → Type 0) (places : Places) (used : List Used) (origins : List ℕ) (given : List (List ℕ)) → ((m : Move) (w : HomePast) → P m w → GivesNew m w)
       → AreLedTo P places used origins given → All Q given → All (λ u. Q u.identity) used
   led_named P places used origins given is k all =
       All-permutation (λ (u : Used). Q u.identity) (after k.moves empty_home).used used k.used_are

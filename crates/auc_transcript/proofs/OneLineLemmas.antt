@@ -12,7 +12,7 @@ use Rattle.auc_random.specs.Random.{rand_of}
 use Rattle.auc_request.specs.Request.{is_separated}
 use Rattle.auc_sim.specs.Session.{SimRuns}
 use Rattle.auc_sim.specs.SessionLaws.{EachSessionHasOneRun}
-use Rattle.auc_sites.specs.Network.{Network, Turn, after_event}
+use Rattle.auc_sites.specs.Network.{Network, SitesTurn, after_event}
 use Rattle.auc_sites.specs.Run.{judgement_in}
 use Rattle.auc_sites.specs.declared.master.Judged.{Judged}
 use Rattle.auc_sites.specs.declared.master.Judged.TheVariants as judged
@@ -204,16 +204,16 @@ lease_one set sub size (Some (judged.Old last)) xs ys rest others none nothing s
 lease_one set sub size (Some judged.New) xs ys rest others gives gave same = draw_one set sub size xs ys rest others gives gave same
 
 -- an event: what is drawn determines its turn, and what is said of it
-record SaysOne (xs ys : List LineRecord) (turn other : Turn) : Type 0 where
+record SaysOne (xs ys : List LineRecord) (turn other : SitesTurn) : Type 0 where
   lines_are : xs ≡ ys
   turns_are : turn ≡ other
 
-site_event_one : (set : Setting) (sub size : ℕ) (w : Network) (e : SiteEvent) (xs ys rest others : List LineRecord) (turn other : Turn) → SiteEventGives set sub size w e xs turn
+site_event_one : (set : Setting) (sub size : ℕ) (w : Network) (e : SiteEvent) (xs ys rest others : List LineRecord) (turn other : SitesTurn) → SiteEventGives set sub size w e xs turn
     → SiteEventGives set sub size w e ys other → told_job (xs ++ rest) ≡ told_job (ys ++ others) → SaysOne xs ys turn other
 site_event_one set sub size w e xs ys rest others turn other gives gave same =
-    record { lines_are = gives.lines_are ∙ ap (λ (ls : List LineRecord). ls ++ said turn) drawn ∙ ap (λ (t : Turn). gave.drawn ++ said t) turns ∙ sym gave.lines_are; turns_are = turns }
+    record { lines_are = gives.lines_are ∙ ap (λ (ls : List LineRecord). ls ++ said turn) drawn ∙ ap (λ (t : SitesTurn). gave.drawn ++ said t) turns ∙ sym gave.lines_are; turns_are = turns }
   where
-    said : Turn → List LineRecord
+    said : SitesTurn → List LineRecord
     said t = Further (further.Sites sub (note_of w e t)) ∷ []
 
     cut : told_job (gives.drawn ++ (said turn ++ rest)) ≡ told_job (gave.drawn ++ (said other ++ others))
@@ -226,7 +226,7 @@ site_event_one set sub size w e xs ys rest others turn other gives gave same =
     turns : turn ≡ other
     turns = gives.turn_is ∙ ap (turn_of w sub e) drawn ∙ sym gave.turn_is
 
-sites_go_one : (set : Setting) (sub size : ℕ) (w : Network) (events : List SiteEvent) (xs ys rest others : List LineRecord) (turns also_turns : List Turn) → SitesGo set sub size w events xs turns
+sites_go_one : (set : Setting) (sub size : ℕ) (w : Network) (events : List SiteEvent) (xs ys rest others : List LineRecord) (turns also_turns : List SitesTurn) → SitesGo set sub size w events xs turns
     → SitesGo set sub size w events ys also_turns → told_job (xs ++ rest) ≡ told_job (ys ++ others) → xs ≡ ys
 sites_go_one set sub size w [] xs ys rest others turns also_turns (none, ends) (nothing, also) same = none ∙ sym nothing
 sites_go_one set sub size w (e ∷ events) xs ys rest others [] also_turns gives gave same = absurd gives
@@ -236,7 +236,7 @@ sites_go_one set sub size w (e ∷ events) xs ys rest others (turn ∷ turns) (o
     let also_parts : ys ++ others ≡ also_front ++ (also_back ++ others) = ap (λ (ls : List LineRecord). ls ++ others) also_cut ∙ append_assoc also_front also_back others in
     let told : told_job (front ++ (back ++ rest)) ≡ told_job (also_front ++ (also_back ++ others)) = ap told_job (sym parts) ∙ same ∙ ap told_job also_parts in
     let one = site_event_one set sub size w e front also_front (back ++ rest) (also_back ++ others) turn other first also_first told in
-    let gave_more = subst (λ (t : Turn). SitesGo set sub size (after_event w t.event t.numbers t.end) events also_back also_turns) (sym one.turns_are) also_more in
+    let gave_more = subst (λ (t : SitesTurn). SitesGo set sub size (after_event w t.event t.numbers t.end) events also_back also_turns) (sym one.turns_are) also_more in
     let backs = sites_go_one set sub size (after_event w turn.event turn.numbers turn.end) events back also_back rest others turns also_turns more gave_more
     (same_rest front also_front (back ++ rest) (also_back ++ others) one.lines_are told) in
     cut ∙ ap (λ (ls : List LineRecord). ls ++ back) one.lines_are ∙ ap (λ (ls : List LineRecord). also_front ++ ls) backs ∙ sym also_cut

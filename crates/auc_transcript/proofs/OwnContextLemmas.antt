@@ -17,7 +17,7 @@ use Rattle.auc_vector.specs.declared.notes.CounterNote.TheVariants as counts
 use Rattle.auc_record.specs.Event.{Came}
 use Rattle.auc_world.specs.Came.{came, came_at_peer, came_at_server, came_changed, came_delivered, came_given_up, came_in, came_opened, came_repeated, came_started, server_came_to_give_up, session_at, session_of}
 use Rattle.auc_world.specs.Given.{Before, EventGives, JobGives, JobsGive, behind}
-use Rattle.auc_world.specs.Happened.{Delivery, Told, changed_in, delivery_at, delivery_of, peer_turn}
+use Rattle.auc_world.specs.Happened.{Delivery, ToldEvent, changed_in, delivery_at, delivery_of, peer_turn}
 use Rattle.auc_record.specs.Lines.{all_lines}
 use Rattle.auc_world.specs.Net.{Net, device_place, keeps_at, packet_at, session_place}
 use Rattle.auc_world.specs.Plain.{counter_taken}
@@ -168,7 +168,7 @@ lines_stand set start before w last (line ∷ lines) (next, first, rest) st =
 
 -- ---- an acceptance
 
-module _ (law : EachAcceptanceIsOwn) (set : Setting) (w : Net) (told : Told) (placed : AreAt (IsPlaced set w.devices) w.sessions) (session : ℕ) where
+module _ (law : EachAcceptanceIsOwn) (set : Setting) (w : Net) (told : ToldEvent) (placed : AreAt (IsPlaced set w.devices) w.sessions) (session : ℕ) where
   abbrev Owns : Came → Type 0
   Owns c = All (IsOwn set w session) (accepted_noted c)
 
@@ -249,7 +249,7 @@ changed_owns : (set : Setting) (w : Net) (e : Happens) (sent : Option SentPacket
 changed_owns set w e sent =
     change_holds (λ c. All (IsOwnIn set w None) (accepted_noted c)) (λ why. All-nil (IsOwnIn set w None)) (λ packets bytes. All-nil (IsOwnIn set w None)) w.packets sent (changed_in w.packets e)
 
-event_owns : EachAcceptanceIsOwn → (set : Setting) (w : Net) (e : Happens) (told : Told) → AreAt (IsPlaced set w.devices) w.sessions → All (IsOwnIn set w (session_in e)) (accepted_noted (came set w e told))
+event_owns : EachAcceptanceIsOwn → (set : Setting) (w : Net) (e : Happens) (told : ToldEvent) → AreAt (IsPlaced set w.devices) w.sessions → All (IsOwnIn set w (session_in e)) (accepted_noted (came set w e told))
 event_owns law set w (event.Open opening) told placed =
     opened_owns law set w told placed opening.session (session_place w.sessions opening.session) (device_place set.rows w.devices opening.sub)
 event_owns law set w (event.Start session) told placed =

@@ -20,7 +20,7 @@ use Rattle.auc_reauth.specs.declared.context.Context.{Context}
 use Rattle.auc_server.specs.Table.{silent}
 use Rattle.auc_server.specs.declared.reply.Reply.TheVariants as reply
 use Rattle.auc_vector.specs.declared.notes.CounterNote.TheVariants as counts
-use Rattle.auc_world.specs.Happened.{Told, happened}
+use Rattle.auc_world.specs.Happened.{ToldEvent, happened}
 use Rattle.auc_world.specs.Net.{Net, keeps_at}
 use Rattle.auc_subs.specs.Setting.{Setting}
 use Rattle.auc_world.specs.Start.{start_of}
@@ -45,7 +45,7 @@ received written =
     record { reads = (reads, refl); placed = subst (λ (o : Result Frame FrameFault). IsMacOf o None) (sym (frame_again (Named true 1 []) (packet_text request) reads)) refl }
 
 -- what is told of each of the events
-abbrev told : Told
+abbrev told : ToldEvent
 told = record { seen = seen; notes = silent; inner = decrypted.Unreadable; reply = reply.Wrong }
 
 module _ (key text x : List ℕ) (c : ℕ) where

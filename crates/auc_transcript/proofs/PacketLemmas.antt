@@ -14,7 +14,7 @@ use Rattle.auc_vector.specs.declared.why.ServerWhy.{ServerWhy}
 use Rattle.auc_vector.specs.declared.turn.Step.TheVariants as step
 use Rattle.auc_record.specs.Event.{Came}
 use Rattle.auc_world.specs.Came.{came, came_at_peer, came_at_server, came_delivered, came_given_up, came_in, came_opened, came_repeated, came_started, server_came_to_give_up, session_at}
-use Rattle.auc_world.specs.Happened.{Delivery, Told, at_place, delivered, delivery_at, delivery_of, give_up, happened, in_session, opened, peer_turn, repeat, sent_by, server_gives_up, server_turn, start, to_peer, to_server}
+use Rattle.auc_world.specs.Happened.{Delivery, ToldEvent, at_place, delivered, delivery_at, delivery_of, give_up, happened, in_session, opened, peer_turn, repeat, sent_by, server_gives_up, server_turn, start, to_peer, to_server}
 use Rattle.auc_world.specs.Net.{Net, device_place, inputs_of_peer, inputs_of_server, keeps_at, packet_at, posted, session_place}
 use Rattle.auc_subs.specs.Setting.{Setting}
 use Rattle.auc_record.specs.declared.event.Event.{Event}
@@ -46,23 +46,23 @@ still w c none = record { packets = sym (ap (λ (bs : List (List ℕ)). bytes_of
 
 -- ---- deliveries
 
-server_posts : (set : Setting) (w : Net) (d : Delivery) (told : Told) (o : Option ServerEnd) → Posts w (came_at_server set w told o) (to_server set w d told o)
+server_posts : (set : Setting) (w : Net) (d : Delivery) (told : ToldEvent) (o : Option ServerEnd) → Posts w (came_at_server set w told o) (to_server set w d told o)
 server_posts set w d told None = still w (came_at_server set w told None) refl
 server_posts set w d told (Some s) =
     let turn = server_turn set w s told in
     record { packets = bytes_posted w.packets end.Server (inputs_of_server turn.0) (sent_by turn.1.step); devices = refl }
 
-peer_posts : (set : Setting) (w : Net) (d : Delivery) (told : Told) (o : Option Subscription) → Posts w (came_at_peer set w d told o) (to_peer set w d told o)
+peer_posts : (set : Setting) (w : Net) (d : Delivery) (told : ToldEvent) (o : Option Subscription) → Posts w (came_at_peer set w d told o) (to_peer set w d told o)
 peer_posts set w d told None = still w (came_at_peer set w d told None) refl
 peer_posts set w d told (Some device) =
     let turn = peer_turn set device (keeps_at w d.session.device) d.session told in
     record { packets = bytes_posted w.packets end.Peer (inputs_of_peer d.session.sub turn.0) (sent_by turn.1.step); devices = refl }
 
-lost_posts : (set : Setting) (w : Net) (at' : End) (told : Told) (y : Option SentPacket) → Posts w (came_delivered set w at' told y None) (delivered set w at' told None)
+lost_posts : (set : Setting) (w : Net) (at' : End) (told : ToldEvent) (y : Option SentPacket) → Posts w (came_delivered set w at' told y None) (delivered set w at' told None)
 lost_posts set w at' told None = still w (came_delivered set w at' told None None) refl
 lost_posts set w at' told (Some sent) = still w (came_delivered set w at' told (Some sent) None) refl
 
-delivery_posts : (set : Setting) (w : Net) (at' : End) (told : Told) (packet place : ℕ) (x : Option Session) (y : Option SentPacket)
+delivery_posts : (set : Setting) (w : Net) (at' : End) (told : ToldEvent) (packet place : ℕ) (x : Option Session) (y : Option SentPacket)
     → Posts w (came_delivered set w at' told y (delivery_of packet place x y)) (delivered set w at' told (delivery_of packet place x y))
 delivery_posts set w at' told packet place None y = lost_posts set w at' told y
 delivery_posts set w at' told packet place (Some session) None = lost_posts set w at' told None
@@ -71,7 +71,7 @@ delivery_posts set w end.Server told packet place (Some session) (Some sent) =
 delivery_posts set w end.Peer told packet place (Some session) (Some sent) =
     peer_posts set w (record { place = place; session = session; bytes = sent.bytes; packet = packet }) told (slice_get w.devices session.device)
 
-delivered_posts : (set : Setting) (w : Net) (at' : End) (told : Told) (packet : ℕ) (o : Option ℕ)
+delivered_posts : (set : Setting) (w : Net) (at' : End) (told : ToldEvent) (packet : ℕ) (o : Option ℕ)
     → Posts w (came_delivered set w at' told (packet_at w.packets packet) (delivery_at w packet o)) (delivered set w at' told (delivery_at w packet o))
 delivered_posts set w at' told packet None = lost_posts set w at' told (packet_at w.packets packet)
 delivered_posts set w at' told packet (Some place) = delivery_posts set w at' told packet place (slice_get w.sessions place) (packet_at w.packets packet)
@@ -118,7 +118,7 @@ at_posts w does comes (Some place) each = in_posts w does comes place (slice_get
 -- ---- an event
 
 -- what an event sends or makes
-pub event_posts : (set : Setting) (w : Net) (e : Event) (told : Told) → Posts w (came set w e told) (happened set w e told)
+pub event_posts : (set : Setting) (w : Net) (e : Event) (told : ToldEvent) → Posts w (came set w e told) (happened set w e told)
 event_posts set w (event.Open opening) told =
     let is = opened_posts w opening (session_place w.sessions opening.session) (device_place set.rows w.devices opening.sub) in record { packets = is.packets; devices = is.devices }
 event_posts set w (event.Start session) told =

@@ -31,7 +31,7 @@ use Rattle.auc_vector.proofs.Facts.{autn_carries, autn_has_its_mac}
 use Rattle.auc_world.specs.Came.{AreReceived, TellsNotes, bytes_named, came, came_at_peer, came_delivered, presented_at, presented_by, presented_in, received_at, received_by}
 use Rattle.auc_record.specs.Event.{Came, device_in, usim_for, usim_in}
 use Rattle.auc_world.specs.Given.{Before, IsUsimAsked, UsimAnswers, UsimNotes, past_before, verdict_by}
-use Rattle.auc_world.specs.Happened.{Delivery, Told, delivery_at, delivery_of, peer_turn}
+use Rattle.auc_world.specs.Happened.{Delivery, ToldEvent, delivery_at, delivery_of, peer_turn}
 use Rattle.auc_world.specs.Net.{Net, keeps_at, packet_at, session_place}
 use Rattle.auc_subs.specs.Setting.{Setting}
 use Rattle.auc_record.specs.declared.event.Event.{Event}
@@ -144,7 +144,7 @@ asked_and_answered s home past (Some c) (Some m) note is answers = (c, refl, sub
     one a b e = cc
 
 -- a peer's device at which a packet arrived
-peer_handed : (set : Setting) (place : Before) (w : Net) (d : Delivery) (told : Told) (sub : ℕ) (note : UsimNote) (o : Option Subscription) → slice_get w.devices d.session.device ≡ o
+peer_handed : (set : Setting) (place : Before) (w : Net) (d : Delivery) (told : ToldEvent) (sub : ℕ) (note : UsimNote) (o : Option Subscription) → slice_get w.devices d.session.device ≡ o
     → AreReceived (received_at w end.Peer (Some d)) told.seen → TellsNotes told (came_at_peer set w d told o) → IsUsimAsked set place (presented_at w d told o) told
     → IsPresentedAt (HasSecret set w.devices) (presented_at w d told o)
     → usim_of sub (came_at_peer set w d told o) ≡ Some note → IsHanded set place sub d.bytes note
@@ -184,7 +184,7 @@ bytes_sent packets (suc place) sent at' =
     slice_get-map (λ (p : SentPacket). p.bytes) packets place ∙ ap (option_map (λ (p : SentPacket). p.bytes)) at'
 
 -- what an event in which the USIM answered handed it: the bytes of the packet that it delivered
-delivery_handed : (set : Setting) (before : Before) (w : Net) (told : Told) (packet place sub : ℕ) (note : UsimNote) (x : Option Session) (y : Option SentPacket)
+delivery_handed : (set : Setting) (before : Before) (w : Net) (told : ToldEvent) (packet place sub : ℕ) (note : UsimNote) (x : Option Session) (y : Option SentPacket)
     → packet_at w.packets packet ≡ y → AreReceived (received_at w end.Peer (delivery_of packet place x y)) told.seen
     → TellsNotes told (came_delivered set w end.Peer told y (delivery_of packet place x y)) → IsUsimAsked set before (presented_in w end.Peer told (delivery_of packet place x y)) told
     → IsPresentedAt (HasSecret set w.devices) (presented_in w end.Peer told (delivery_of packet place x y))
@@ -197,7 +197,7 @@ delivery_handed set before w told packet place sub note (Some session) (Some sen
     (sent.bytes, bytes_sent w.packets packet sent at', peer_handed set before w d told sub note (slice_get w.devices session.device) refl received tells is secret noted)
 
 -- the USIM's answer in an event
-delivered_handed : (set : Setting) (before : Before) (w : Net) (told : Told) (packet sub : ℕ) (note : UsimNote) (o : Option ℕ)
+delivered_handed : (set : Setting) (before : Before) (w : Net) (told : ToldEvent) (packet sub : ℕ) (note : UsimNote) (o : Option ℕ)
     → AreReceived (received_at w end.Peer (delivery_at w packet o)) told.seen
     → TellsNotes told (came_delivered set w end.Peer told (packet_at w.packets packet) (delivery_at w packet o)) → IsUsimAsked set before (presented_in w end.Peer told (delivery_at w packet o)) told
     → IsPresentedAt (HasSecret set w.devices) (presented_in w end.Peer told (delivery_at w packet o))

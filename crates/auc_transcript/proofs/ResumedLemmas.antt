@@ -25,7 +25,7 @@ use Rattle.auc_subs.specs.declared.row.Row.{Row}
 use Rattle.auc_world.specs.Agreement.{IsRealm, IsSized}
 use Rattle.auc_world.specs.Came.{session_at}
 use Rattle.auc_world.specs.Given.{Before, JobGives, JobsGive, PlainGives, RelayGives, behind, packet_of}
-use Rattle.auc_world.specs.Happened.{Told, happened, start}
+use Rattle.auc_world.specs.Happened.{ToldEvent, happened, start}
 use Rattle.auc_record.specs.Lines.{all_lines}
 use Rattle.auc_world.specs.Net.{Net, other, place_with, session_place}
 use Rattle.auc_world.specs.Plain.{EachResumedSessionSucceeds, HasResumed, HasSameContext, IsReadyAgain, Succeeds}
@@ -98,12 +98,12 @@ move_opens w next number m (s, is) = ⊎_elim same turned m.sessions
         one_is_open next number t.place t.new (subst (λ (l : List Session). slice_get l t.place ≡ Some t.new) (sym t.is) (set_there w.sessions t.place t.old t.new t.there))
         (ap (λ (n : ℕ). n == number) t.same ∙ t.numbered)
 
-start_move : (set : Setting) (w : Net) (session : ℕ) (told : Told) → IsMove w (happened set w (event.Start session) told) session
+start_move : (set : Setting) (w : Net) (session : ℕ) (told : ToldEvent) → IsMove w (happened set w (event.Start session) told) session
 start_move set w session told =
     let m = at_moves w session (λ place s. start w place s s.server) (λ place s st. start_moves w session place s s.server st) in
     record { sessions = m.sessions; devices = m.devices; homes = m.homes }
 
-deliver_move : (set : Setting) (w : Net) (session packet : ℕ) (at' : End) (told : Told) → IsMove w (happened set w (event.Deliver session at' packet) told) session
+deliver_move : (set : Setting) (w : Net) (session packet : ℕ) (at' : End) (told : ToldEvent) → IsMove w (happened set w (event.Deliver session at' packet) told) session
 deliver_move set w session packet at' told = let m = delivery_moves set w session at' told packet in record { sessions = m.sessions; devices = m.devices; homes = m.homes }
 
 relay_opens : (set : Setting) (before : Before) (w next : Net) (session : ℕ) (at' : End) (o : Option ℕ) (lines : List LineRecord) → RelayGives set before w session at' o lines next

@@ -26,7 +26,7 @@ use Rattle.auc_vector.specs.declared.turn.Step.{Step}
 use Rattle.auc_vector.specs.declared.turn.Step.TheVariants as step
 use Rattle.auc_world.specs.Came.{session_at, session_of}
 use Rattle.auc_world.specs.Given.{Before, EventGives, LineGives, PlainGives, RelayGives, behind, packet_of}
-use Rattle.auc_world.specs.Happened.{Delivery, Told, at_place, delivered, delivery_at, delivery_of, give_up, happened, in_session, keys_won, moved, new_session, opened, peer_turn, drawn_in_turn, repeat, server_gives_up, server_turn, start, to_peer, to_server, with_peer, with_server}
+use Rattle.auc_world.specs.Happened.{Delivery, ToldEvent, at_place, delivered, delivery_at, delivery_of, give_up, happened, in_session, keys_won, moved, new_session, opened, peer_turn, drawn_in_turn, repeat, server_gives_up, server_turn, start, to_peer, to_server, with_peer, with_server}
 use Rattle.auc_world.specs.Net.{Net, device_place, keeps_at, other as other_end, packet_at, session_place}
 use Rattle.auc_world.specs.World.{AreOfSame}
 use Rattle.auc_record.specs.declared.event.Event.{Event}
@@ -140,7 +140,7 @@ at_moves w number does each = by (session_place w.sessions number) refl
     by None first = nothing_moves w number
     by (Some place) first = inside place first (slice_get w.sessions place) refl
 
-pub delivery_moves : (set : Setting) (w : Net) (number : ℕ) (at' : End) (told : Told) (packet : ℕ) → IsMove w (delivered set w at' told (delivery_at w packet (session_place w.sessions number))) number
+pub delivery_moves : (set : Setting) (w : Net) (number : ℕ) (at' : End) (told : ToldEvent) (packet : ℕ) → IsMove w (delivered set w at' told (delivery_at w packet (session_place w.sessions number))) number
 delivery_moves set w number at' told packet = by (session_place w.sessions number) refl
   where
     to_server_moves : (d : Delivery) (o : Option ServerEnd) → Stands w number d.place d.session → IsMove w (to_server set w d told o) number
@@ -303,11 +303,11 @@ named_apart : (session number : ℕ) → ◌≢◌ {A = Option ℕ} (Some sessio
 named_apart session number apart same = apart (ap Some same)
 
 -- what changes sessions, devices and homes alike
-rebroken : (rows : List Row) (opening : SessionLine) (set : Setting) (w : Net) (e : Event) (told : Told) (Suits : Type 0) → Leaves rows opening w (moved set w e told) Suits
+rebroken : (rows : List Row) (opening : SessionLine) (set : Setting) (w : Net) (e : Event) (told : ToldEvent) (Suits : Type 0) → Leaves rows opening w (moved set w e told) Suits
     → Leaves rows opening w (happened set w e told) Suits
 rebroken rows opening set w e told Suits k = record { stays = k.stays; new = k.new; devices = k.devices; homes = k.homes }
 
-pub event_leaves : (set : Setting) (opening : SessionLine) (w : Net) (e : Event) (told : Told) → IsBeside opening.session e
+pub event_leaves : (set : Setting) (opening : SessionLine) (w : Net) (e : Event) (told : ToldEvent) → IsBeside opening.session e
     → Leaves set.rows opening w (happened set w e told) (SuitsIn opening e)
 event_leaves set opening w (event.Open other) told beside =
     rebroken set.rows opening set w (event.Open other) told (SuitsIn opening (event.Open other))

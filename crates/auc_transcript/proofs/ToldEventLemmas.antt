@@ -15,7 +15,7 @@ use Rattle.auc_subs.specs.Setting.{Setting}
 use Rattle.auc_server.specs.Table.{gave_up as server_gave_up}
 use Rattle.auc_record.specs.Event.{Came}
 use Rattle.auc_world.specs.Came.{came, came_at_peer, came_at_server, came_changed, came_delivered, came_given_up, came_in, came_opened, came_repeated, came_started, server_came_to_give_up, session_at}
-use Rattle.auc_world.specs.Happened.{Delivery, Told, at_place, changed_in, delivered, delivery_at, delivery_of, give_up, happened, in_session, keys_won, moved, new_session, opened, peer_turn, repeat, server_gives_up, server_turn, start, to_peer, to_server}
+use Rattle.auc_world.specs.Happened.{Delivery, ToldEvent, at_place, changed_in, delivered, delivery_at, delivery_of, give_up, happened, in_session, keys_won, moved, new_session, opened, peer_turn, repeat, server_gives_up, server_turn, start, to_peer, to_server}
 use Rattle.auc_world.specs.Net.{Net, device_place, keeps_at, packet_at, session_place}
 use Rattle.auc_record.specs.declared.event.Event.{Event as Happens}
 use Rattle.auc_record.specs.declared.event.Event.TheVariants as event
@@ -33,7 +33,7 @@ use Rattle.auc_transcript.proofs.ToldSessionLemmas.{Agrees, Steps, StepsIn, open
 fits_of : (o : Option ServerEnd) (q : ServerEnd) → o ≡ Some q → FitsIf o → Fits q
 fits_of o q e f = subst FitsIf e f
 
-module _ (set : Setting) (own : AcceptedIsOfTheContext) (w : Net) (told : Told) (k t : ℕ) (s : Session) (first : session_place w.sessions k ≡ Some t) (there : slice_get w.sessions t ≡ Some s) where
+module _ (set : Setting) (own : AcceptedIsOfTheContext) (w : Net) (told : ToldEvent) (k t : ℕ) (s : Session) (first : session_place w.sessions k ≡ Some t) (there : slice_get w.sessions t ≡ Some s) where
   start_steps : (o : Option ServerEnd) → s.server ≡ o → Steps w (start w t s o) k (came_started w s.options o)
   start_steps (Some q) e = stays w k (came_started w s.options (Some q)) refl refl
   start_steps None e =
@@ -127,11 +127,11 @@ module _ (w : Net) (k : ℕ) (does : ℕ → Session → Net) (comes : Session �
       by (Some t) first = inside t first (slice_get w.sessions t) refl
 
 -- a packet that reaches nobody
-lost_steps : (set : Setting) (w : Net) (told : Told) (k : ℕ) (at' : End) (y : Option SentPacket) → Steps w (delivered set w at' told None) k (came_delivered set w at' told y None)
+lost_steps : (set : Setting) (w : Net) (told : ToldEvent) (k : ℕ) (at' : End) (y : Option SentPacket) → Steps w (delivered set w at' told None) k (came_delivered set w at' told y None)
 lost_steps set w told k at' None = stays w k (came_delivered set w at' told None None) refl refl
 lost_steps set w told k at' (Some sent) = stays w k (came_delivered set w at' told (Some sent) None) refl refl
 
-delivery_steps : (set : Setting) → AcceptedIsOfTheContext → (w : Net) (told : Told) (k : ℕ) (at' : End) (packet : ℕ)
+delivery_steps : (set : Setting) → AcceptedIsOfTheContext → (w : Net) (told : ToldEvent) (k : ℕ) (at' : End) (packet : ℕ)
     → Steps w (delivered set w at' told (delivery_at w packet (session_place w.sessions k))) k
     (came_delivered set w at' told (packet_at w.packets packet) (delivery_at w packet (session_place w.sessions k)))
 delivery_steps set own w told k at' packet = by (session_place w.sessions k) refl
@@ -181,7 +181,7 @@ changed_steps w v same k e sent =
     (stays w k c (change_holds (λ c. resumed_noted c ≡ []) (λ why. refl) (λ packets bytes. refl) w.packets sent (changed_in w.packets e))
     (change_holds (λ c. accepted_noted c ≡ []) (λ why. refl) (λ packets bytes. refl) w.packets sent (changed_in w.packets e)))
 
-moved_steps : (set : Setting) → AcceptedIsOfTheContext → (w : Net) (e : Happens) (told : Told) → StepsIn w (moved set w e told) (session_in e) (came set w e told)
+moved_steps : (set : Setting) → AcceptedIsOfTheContext → (w : Net) (e : Happens) (told : ToldEvent) → StepsIn w (moved set w e told) (session_in e) (came set w e told)
 moved_steps set own w (event.Open opening) told = open_steps w opening (session_place w.sessions opening.session) (device_place set.rows w.devices opening.sub) refl
 moved_steps set own w (event.Start session) told =
     at_steps w session (λ t s. start w t s s.server) (λ s. came_started w s.options s.server) (λ t s first there. start_steps set own w told session t s first there s.server refl)
@@ -196,7 +196,7 @@ moved_steps set own w (event.Cut packet count) told =
     λ k. changed_steps w (moved set w (event.Cut packet count) told) refl k (event.Cut packet count) (packet_at w.packets packet)
 
 -- what is known of a breach is no matter
-pub event_steps : (set : Setting) → AcceptedIsOfTheContext → (w : Net) (e : Happens) (told : Told) → StepsIn w (happened set w e told) (session_in e) (came set w e told)
+pub event_steps : (set : Setting) → AcceptedIsOfTheContext → (w : Net) (e : Happens) (told : ToldEvent) → StepsIn w (happened set w e told) (session_in e) (came set w e told)
 event_steps set own w e told = by (session_in e) (moved_steps set own w e told)
   where
     by : (o : Option ℕ) → StepsIn w (moved set w e told) o (came set w e told) → StepsIn w (happened set w e told) o (came set w e told)

@@ -21,7 +21,7 @@ use Rattle.auc_subs.specs.declared.row.Row.{Row}
 use Rattle.auc_world.specs.Agreement.{HaveSecrets}
 use Rattle.auc_world.specs.Came.{AreReceived, TellsNotes, bytes_named, came, presented_by}
 use Rattle.auc_world.specs.Given.{Before, EventGives, IsUsimAsked, JobGives, JobsGive, LineGives, PlainGives, RelayGives, behind, packet_of}
-use Rattle.auc_world.specs.Happened.{Told, happened}
+use Rattle.auc_world.specs.Happened.{ToldEvent, happened}
 use Rattle.auc_record.specs.Lines.{all_lines}
 use Rattle.auc_world.specs.Net.{Net, other, place_with}
 use Rattle.auc_subs.specs.Setting.{Setting}
@@ -131,7 +131,7 @@ opens_at set w (event.Cut packet count) secrets = tt
 -- of the network say
 pub record Occurred (set : Setting) (place : Before) (r : EventRecord) : Type 0 where
   pub net : Net
-  pub told : Told
+  pub told : ToldEvent
   pub stands : IsAfter set place.own net
   pub result : r.result ≡ came set net r.event told
   pub received : AreReceived (bytes_named net r.event) told.seen
@@ -211,7 +211,7 @@ quiet_walks set place w next lines none is stands = record {
 -- ---- events
 
 -- the network after an event
-after_event : (set : Setting) (own : List LineRecord) (w : Net) (e : Happens) (told : Told) → IsAfter set own w
+after_event : (set : Setting) (own : List LineRecord) (w : Net) (e : Happens) (told : ToldEvent) → IsAfter set own w
     → IsAfter set (own ++ Event (record { event = e; result = came set w e told }) ∷ []) (happened set w e told)
 after_event set own w e told stands =
     let posts = event_posts set w e told in

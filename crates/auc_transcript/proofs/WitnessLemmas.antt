@@ -37,7 +37,7 @@ use Rattle.auc_vector.specs.declared.notes.UsimNote.{UsimNote}
 use Rattle.auc_record.specs.Event.{Came, asked_in, number_in, resync_in}
 use Rattle.auc_world.specs.Came.{of_opening}
 use Rattle.auc_world.specs.Given.{Before, JobGives}
-use Rattle.auc_world.specs.Happened.{Told, happened, new_session}
+use Rattle.auc_world.specs.Happened.{ToldEvent, happened, new_session}
 use Rattle.auc_world.specs.Net.{Net}
 use Rattle.auc_world.specs.Plain.{IsAskedFor, TellNoCause, is_refused, is_unresolved, results}
 use Rattle.auc_subs.specs.Setting.{Setting}
@@ -330,7 +330,7 @@ abbrev begun : List ℕ → Net
 begun key = start_of (setting key) (kept (context zeros 1)) (line.Session (opening 2) ∷ line.Plain 2 ∷ [])
 
 -- what is told of an opening
-abbrev of_opened : List ℕ → Told
+abbrev of_opened : List ℕ → ToldEvent
 of_opened key = record { seen = seen key; notes = silent; inner = decrypted.Unreadable; reply = reply.Wrong }
 
 abbrev opened_net : List ℕ → Net

@@ -9,7 +9,7 @@ use Rattle.auc_lines.specs.declared.part.Line.TheVariants as line
 use Rattle.auc_lines.specs.declared.part.Part.{Part}
 use Rattle.auc_lines.specs.declared.part.Part.TheVariants.{Round, Restart}
 use Rattle.auc_sites.specs.Law.{HandsOutOnce, released}
-use Rattle.auc_sites.specs.Network.{Turn, after_turns}
+use Rattle.auc_sites.specs.Network.{SitesTurn, after_turns}
 use Rattle.auc_world.specs.Given.{Before}
 use Rattle.auc_record.specs.Lines.{all_lines, numbers_of}
 use Rattle.auc_world.specs.Net.{Net}
@@ -69,7 +69,7 @@ HandsOutAfter sub before (line ∷ lines) = All (Contains (numbers_of sub before
 
 -- what such a line gives, and the turns of its master and its sites
 pub record HandsOut (set : Setting) (l : SitesValue) (lines : List LineRecord) : Type 0 where
-  pub turns : List Turn
+  pub turns : List SitesTurn
   pub goes : SitesGo set l.sub l.size (sites_start l) l.schedule lines turns
   -- the centre gave the numbers of the lines' vectors, and the sites handed out the numbers that the lines say
   pub given : released turns ≡ numbers_of l.sub lines

@@ -86,6 +86,6 @@ pub record AskedOf {S : Type 0} (goes : S → ℕ → List Entry → List (ℕ �
   pub still : (i : ℕ) → i ≢ asking.sub → kept new i ≡ kept old i
 
 -- a turn that asks for nothing leaves no entry, and each word as it was
-abbrev pub Asked : {S : Type 0} → (S → ℕ → List Entry → List (ℕ × Stop) → S → Type 0) → (S → ℕ → Option ℕ) → (S → ℕ → ℕ) → Option Asking → Notes → S → S → Type 0
-Asked goes kept top None notes old new = ((i : ℕ) → goes old i [] [] new) × ((i : ℕ) → kept new i ≡ kept old i)
-Asked goes kept top (Some asking) notes old new = AskedOf goes kept top asking notes old new
+abbrev pub AskedCentre : {S : Type 0} → (S → ℕ → List Entry → List (ℕ × Stop) → S → Type 0) → (S → ℕ → Option ℕ) → (S → ℕ → ℕ) → Option Asking → Notes → S → S → Type 0
+AskedCentre goes kept top None notes old new = ((i : ℕ) → goes old i [] [] new) × ((i : ℕ) → kept new i ≡ kept old i)
+AskedCentre goes kept top (Some asking) notes old new = AskedOf goes kept top asking notes old new

@@ -3,12 +3,12 @@
 ghost use Rattle.std.specs.Prelude.{◌≡◌, ◌<◌, ◌≤◌, ◌∷◌, [], All, length, slice_index, false};
 ghost use Rattle.auc_sqn.specs.Number.{max_seq};
 ghost use Rattle.auc_draw.specs.Book.{IsOf};
-ghost use Rattle.auc_centre.specs.Adds.{Adds, kept_by};
+ghost use Rattle.auc_centre.specs.Adds.{AddsAtDesk, kept_by};
 ghost use Rattle.auc_vector_tests.specs.InnerGains.{Gains};
 ghost use Rattle.auc_vector_tests.specs.InnerRound.{Begins};
 ghost use Rattle.auc_centre.specs.Kept.{subs_of};
 
-use auc_centre::{Desk, Kept, Naming};
+use auc_centre::{Desk, Naming, RoundKeeper};
 use auc_disk::{Disk, DiskCall, FailList, MemDisk};
 use auc_draw::{Book, KeeperPass, Pass};
 use auc_edge::{Imsi, Octets, Stop};
@@ -42,7 +42,7 @@ fn draw_and_resync_at_desk<L: Naming<D>, D: Disk + Drop, R: Wait>(
     rt: &R,
     book: &Book,
     pass: &mut Pass,
-    keeper: &Mutex<Kept<L, D>>,
+    keeper: &Mutex<RoundKeeper<L, D>>,
     sub: u32,
     seq_ms: u64,
 ) -> Answers
@@ -52,7 +52,7 @@ fn draw_and_resync_at_desk<L: Naming<D>, D: Disk + Drop, R: Wait>(
     requires sub { sub < length book.now.openings }
     requires number { seq_ms ≤ slice_index book.now.tops sub }
     ensures pass { IsOf L.table L.tops pass.new }
-    ensures gains { Gains (λ i es ws. Adds pass.old i es ws pass.new) sub
+    ensures gains { Gains (λ i es ws. AddsAtDesk pass.old i es ws pass.new) sub
         (kept_by pass.old sub) result.0 result.1 }
 {
     let mut desk = Desk { pass, book, keeper };
@@ -65,7 +65,7 @@ fn draw_and_resync_by<L: Naming<D>, D: Disk + Drop, R: Wait>(
     book: &Book,
     passes: &mut [Pass],
     place: usize,
-    keeper: &Mutex<Kept<L, D>>,
+    keeper: &Mutex<RoundKeeper<L, D>>,
     seq_ms: u64,
 ) -> Answers
     requires book { (book.now.id ≡ L.table) × (book.now.tops ≡ L.tops) }
@@ -98,7 +98,7 @@ fn draw_three_times<L: Naming<D>, D: Disk + Drop, R: Wait>(
     ensures subscribers { result.1.imsis ≡ journal.imsis }
     ensures own { result.2.id ≡ L.table }
 {
-    let lock = Mutex::new(Kept::<L, D>::new(Keeper::new(journal, keeper)));
+    let lock = Mutex::new(RoundKeeper::<L, D>::new(Keeper::new(journal, keeper)));
     let answers = [
         draw_and_resync_by(rt, book, passes, 0, &lock, seq_ms),
         draw_and_resync_by(rt, book, passes, 1, &lock, seq_ms),

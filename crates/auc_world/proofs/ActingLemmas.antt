@@ -21,7 +21,7 @@ use Rattle.auc_world.proofs.FitLemmas.{gave_up_held}
 use Rattle.auc_world.proofs.WorldLemmas.{stays}
 use Rattle.auc_world.specs.Came.{by_peer, by_server, came_repeated, came_started, packet_number, server_came_to_give_up}
 use Rattle.auc_world.specs.Happened.{keys_won, repeat, sent_by, server_gives_up, start, with_peer, with_server}
-use Rattle.auc_world.specs.InnerWorld.{Acts, Stands, number_after, with_session}
+use Rattle.auc_world.specs.InnerWorld.{Acts, SessionStands, number_after, with_session}
 use Rattle.auc_world.specs.Net.{Net, inputs_of_peer, inputs_of_server, posted}
 use Rattle.auc_world.specs.World.{HasHeld}
 use Rattle.auc_world.specs.declared.acting.Deed.TheVariants as deed
@@ -41,7 +41,7 @@ numbered w packets (Some bytes) same = ap (λ (ps : List SentPacket). number_aft
 abbrev pub note_of : NoteStep → Option ℕ → Note
 note_of what packet = record { notes = silent; step = what; packet = packet; asked = None; device = None; vector = None }
 
-module _ (w : Net) (place : ℕ) (packets : List SentPacket) (session : Session) (at' : Stands w place packets session) where
+module _ (w : Net) (place : ℕ) (packets : List SentPacket) (session : Session) (at' : SessionStands w place packets session) where
   -- a server that takes a step, in its session
   pub served : (s : ServerEnd) (what : Step ServerWhy) → with_server w place session [] s what
       ≡ with_session w place (posted packets end.Server (inputs_of_server s) (sent_by what)) (record session { server = Some s })

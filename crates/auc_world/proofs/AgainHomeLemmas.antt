@@ -21,7 +21,7 @@ use Rattle.auc_server.specs.declared.setting.HomeRow.{HomeRow}
 use Rattle.auc_vector.specs.declared.why.ServerWhy.TheVariants as why
 use Rattle.auc_vector.specs.declared.turn.Outcome.TheVariants as outcome
 use Rattle.auc_world.specs.Agreement.{AreSized, Happening, IsFresh, IsSized, Noted, Occurs, after, after_one}
-use Rattle.auc_world.specs.Happened.{Delivery, Told, at_place, at_session, delivered, delivery_at, delivery_of, give_up, in_session, moved, new_session, opened, repeat, server_gives_up, server_turn, start, to_peer, to_server}
+use Rattle.auc_world.specs.Happened.{Delivery, ToldEvent, at_place, at_session, delivered, delivery_at, delivery_of, give_up, in_session, moved, new_session, opened, repeat, server_gives_up, server_turn, start, to_peer, to_server}
 use Rattle.auc_world.specs.Net.{Net, device_place, packet_at, session_place}
 use Rattle.auc_record.specs.declared.event.Event.{Event}
 use Rattle.auc_record.specs.declared.event.Event.TheVariants as event
@@ -93,7 +93,7 @@ gave_fit set s (state.Notifying cause last) f = ended_fit set s f
 
 -- ---- events
 
-to_server_fit : (set : Setting) (w : Net) (d : Delivery) (told : Told) (o : Option ServerEnd) → d.session.server ≡ o → slice_get w.sessions d.place ≡ Some d.session
+to_server_fit : (set : Setting) (w : Net) (d : Delivery) (told : ToldEvent) (o : Option ServerEnd) → d.session.server ≡ o → slice_get w.sessions d.place ≡ Some d.session
     → NextFit set w (to_server set w d told o)
 to_server_fit set w d told None is there f = f
 to_server_fit set w d told (Some s) is there f =
@@ -102,11 +102,11 @@ to_server_fit set w d told (Some s) is there f =
     (each_turn_fits set w.homes s told.seen told.reply told.notes fits, (turn_again set w.homes s told.seen told.reply told.notes fits f.sized again).server)
     (turn_sized set w.homes s told.seen told.reply told.notes fits again f.sized)
 
-to_peer_fit : (set : Setting) (w : Net) (d : Delivery) (told : Told) (o : Option Subscription) → slice_get w.sessions d.place ≡ Some d.session → NextFit set w (to_peer set w d told o)
+to_peer_fit : (set : Setting) (w : Net) (d : Delivery) (told : ToldEvent) (o : Option Subscription) → slice_get w.sessions d.place ≡ Some d.session → NextFit set w (to_peer set w d told o)
 to_peer_fit set w d told None there f = f
 to_peer_fit set w d told (Some device) there f = peer_fit set w.sessions w.homes d.place d.session _ _ there f
 
-delivered_fit : (set : Setting) (w : Net) (at' : End) (told : Told) (packet : ℕ) (o : Option ℕ) → NextFit set w (delivered set w at' told (delivery_at w packet o))
+delivered_fit : (set : Setting) (w : Net) (at' : End) (told : ToldEvent) (packet : ℕ) (o : Option ℕ) → NextFit set w (delivered set w at' told (delivery_at w packet o))
 delivered_fit set w at' told packet None f = f
 delivered_fit set w at' told packet (Some place) f = by at' (slice_get w.sessions place) (packet_at w.packets packet) refl
   where
@@ -163,7 +163,7 @@ opened_fit set w opening None (Some place) f = record {
       (push_cases w.sessions other (new_session opening place) a there);
 }
 
-moved_fit : (set : Setting) (w : Net) (e : Event) (told : Told) → NextFit set w (moved set w e told)
+moved_fit : (set : Setting) (w : Net) (e : Event) (told : ToldEvent) → NextFit set w (moved set w e told)
 moved_fit set w (event.Open opening) told = opened_fit set w opening (session_place w.sessions opening.session) (device_place set.rows w.devices opening.sub)
 moved_fit set w (event.Start session) told = session_fit set w session (λ place s. start w place s s.server) (λ place s there. start_fit set w place s s.server)
 moved_fit set w (event.Deliver session at' packet) told = delivered_fit set w at' told packet (session_place w.sessions session)

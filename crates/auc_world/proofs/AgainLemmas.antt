@@ -11,7 +11,7 @@ use Rattle.auc_packet.specs.declared.subtype.Subtype.TheVariants as subtype
 use Rattle.auc_peer.specs.Attributes.{attrs_in}
 use Rattle.auc_peer.specs.Subscription.{Subscription}
 use Rattle.auc_peer.specs.Table.{gave_up as peer_gave_up, text_or_none}
-use Rattle.auc_peer.specs.Told.{Told as PeerTold}
+use Rattle.auc_peer.specs.Told.{ToldSession as PeerTold}
 use Rattle.auc_peer.specs.Turn.{IsInner}
 use Rattle.auc_peer.specs.declared.decrypted.Decrypted.TheVariants as decrypted
 use Rattle.auc_peer.specs.declared.peer.Challenge.{Challenge}
@@ -46,7 +46,7 @@ use Rattle.auc_vector.specs.declared.turn.Step.TheVariants as step
 use Rattle.auc_vector.specs.declared.turn.Turn.{Turn}
 use Rattle.auc_world.specs.Agreement.{Agree, AreOfOneResumption, AreReleasedOnce, AreSized, AreTold, DecryptsIn, EachHonestRunAgrees, Happening, IsFresh, IsHonest, IsHonestAt, IsHonestFinding, IsRealm, IsToldAt, Noted, Occurs, PeerWon, SentBefore, ServerWon, after, after_one}
 use Rattle.auc_world.specs.Came.{AreReceived, presented_at, presented_in, received_at, received_by}
-use Rattle.auc_world.specs.Happened.{Delivery, Told, at_place, at_session, delivered, delivery_at, delivery_of, found, found_by, give_up, in_session, keys_won, moved, new_session, opened, peer_finds, peer_turn, repeat, sent_by, server_gives_up, server_turn, start, to_peer, to_server, changed_in, with_copy}
+use Rattle.auc_world.specs.Happened.{Delivery, ToldEvent, at_place, at_session, delivered, delivery_at, delivery_of, found, found_by, give_up, in_session, keys_won, moved, new_session, opened, peer_finds, peer_turn, repeat, sent_by, server_gives_up, server_turn, start, to_peer, to_server, changed_in, with_copy}
 use Rattle.auc_world.specs.Net.{Net, device_place, inputs_from, inputs_of_context, inputs_of_peer, inputs_of_server, inputs_sent, keeps_at, packet_at, posted, session_place, copies}
 use Rattle.auc_world.specs.Resumption.{AreResumedOnce, resumptions}
 use Rattle.auc_record.specs.declared.event.Event.{Event}
@@ -345,7 +345,7 @@ peer_kept sessions sub p z keys c f id opt =
 abbrev pub NextAgain : Setting → Net → Net → Type 0
 NextAgain set w next = HoldsOf set w → AgainOf set w → AgainOf set next
 
-to_server_again : AllLaws → (set : Setting) (w : Net) (d : Delivery) (told : Told) (o : Option ServerEnd) → d.session.server ≡ o → slice_get w.sessions d.place ≡ Some d.session
+to_server_again : AllLaws → (set : Setting) (w : Net) (d : Delivery) (told : ToldEvent) (o : Option ServerEnd) → d.session.server ≡ o → slice_get w.sessions d.place ≡ Some d.session
     → NextAgain set w (to_server set w d told o)
 to_server_again laws set w d told None is there h again = again
 to_server_again laws set w d told (Some s) is there h again =
@@ -370,7 +370,7 @@ not_missing : (b : Bool) → b ≡ true → b ≡ false → ⊥
 not_missing b e f = cc
 
 -- the keys of a Reauthentication that a peer takes
-took_again : AllLaws → (set : Setting) (w : Net) (sub : ℕ) (p : Peer) (t : Peer × Turn PeerWhy) (told : Told) (bytes : List ℕ) (c : Context) (keys : KeySet) → IsRealm set.realm → AgainOf set w
+took_again : AllLaws → (set : Setting) (w : Net) (sub : ℕ) (p : Peer) (t : Peer × Turn PeerWhy) (told : ToldEvent) (bytes : List ℕ) (c : Context) (keys : KeySet) → IsRealm set.realm → AgainOf set w
     → AreReceived (Some bytes) told.seen → Takes p t told.seen told.inner c keys → resumed_from t.0.source ≡ Some c → SentBefore end.Server (inputs_of_peer sub t.0) bytes w.packets
     → PeerIs w.sessions sub t.0 keys c
 took_again laws set w sub p t told bytes c keys realm again (received, same_bytes) takes resumed s =
@@ -403,7 +403,7 @@ took_again laws set w sub p t told bytes c keys realm again (received, same_byte
     (λ (other : IsOther told.seen.bytes). absurd (not_missing (is_missing subtype.Reauthentication true list) (lacks laws.readings told.seen received other) takes.complete))
     text
 
-to_peer_again : AllLaws → (set : Setting) (w : Net) (d : Delivery) (told : Told) (o : Option Subscription) → IsRealm set.realm → slice_get w.devices d.session.device ≡ o
+to_peer_again : AllLaws → (set : Setting) (w : Net) (d : Delivery) (told : ToldEvent) (o : Option Subscription) → IsRealm set.realm → slice_get w.devices d.session.device ≡ o
     → slice_get w.sessions d.place ≡ Some d.session → AreReceived (received_by d.bytes o) told.seen → DecryptsIn told (presented_at w d told o)
     → IsHonestFinding w.packets (peer_finds set w d told o) → NextAgain set w (to_peer set w d told o)
 to_peer_again laws set w d told None realm is there received opens honest h again = again
@@ -439,7 +439,7 @@ to_peer_again laws set w d told (Some device) realm is there received opens hone
     kept keys c (old.won keys c was (before c has apart)) apart)
     (won_cases d.session.peer_keys turn.1.step keys e))
 
-server_delivered : AllLaws → (set : Setting) (w : Net) (told : Told) (packet : ℕ) (o : Option ℕ) → NextAgain set w (delivered set w end.Server told (delivery_at w packet o))
+server_delivered : AllLaws → (set : Setting) (w : Net) (told : ToldEvent) (packet : ℕ) (o : Option ℕ) → NextAgain set w (delivered set w end.Server told (delivery_at w packet o))
 server_delivered laws set w told packet None h again = again
 server_delivered laws set w told packet (Some place) h again = by (slice_get w.sessions place) (packet_at w.packets packet) refl
   where
@@ -449,7 +449,7 @@ server_delivered laws set w told packet (Some place) h again = by (slice_get w.s
     by None (Some sent) e = again
     by None None e = again
 
-peer_delivered : AllLaws → (set : Setting) (w : Net) (told : Told) (packet : ℕ) (o : Option ℕ) → IsRealm set.realm → AreReceived (received_at w end.Peer (delivery_at w packet o)) told.seen
+peer_delivered : AllLaws → (set : Setting) (w : Net) (told : ToldEvent) (packet : ℕ) (o : Option ℕ) → IsRealm set.realm → AreReceived (received_at w end.Peer (delivery_at w packet o)) told.seen
     → DecryptsIn told (presented_in w end.Peer told (delivery_at w packet o)) → IsHonestFinding w.packets (found_by set w end.Peer told (delivery_at w packet o))
     → NextAgain set w (delivered set w end.Peer told (delivery_at w packet o))
 peer_delivered laws set w told packet None realm received opens honest h again = again
@@ -629,7 +629,7 @@ copied_again set w copy h again = record { sized = again.sized; sent = sent copy
 
 -- ---- a run
 
-moved_again : AllLaws → (set : Setting) (w : Net) (e : Event) (told : Told) → IsRealm set.realm → IsToldAt w (Occurs e told) → IsHonestFinding w.packets (found set w e told)
+moved_again : AllLaws → (set : Setting) (w : Net) (e : Event) (told : ToldEvent) → IsRealm set.realm → IsToldAt w (Occurs e told) → IsHonestFinding w.packets (found set w e told)
     → NextAgain set w (moved set w e told)
 moved_again laws set w (event.Open opening) told realm is honest =
     opened_again set w opening (session_place w.sessions opening.session) (device_place set.rows w.devices opening.sub)

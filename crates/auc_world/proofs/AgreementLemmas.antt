@@ -49,7 +49,7 @@ use Rattle.auc_vector.specs.declared.turn.Outcome.TheVariants as outcome
 use Rattle.auc_vector.specs.declared.turn.Step.{Step}
 use Rattle.auc_vector.specs.declared.turn.Step.TheVariants as step
 use Rattle.auc_world.specs.Agreement.{AreOfOneChallenge, AreReleasedOnce, Happening, HaveSecrets, IsFresh, IsHonest, IsHonestAt, IsHonestFinding, Noted, Occurs, PeerWon, ServerWon, after, after_one}
-use Rattle.auc_world.specs.Happened.{Delivery, Told, at_place, at_session, delivered, delivery_at, delivery_of, found, found_by, give_up, in_session, keys_won, moved, opened, peer_finds, peer_turn, drawn_in_turn, repeat, sent_by, server_gives_up, server_turn, start, to_peer, to_server, with_peer, with_server, changed_in, with_copy}
+use Rattle.auc_world.specs.Happened.{Delivery, ToldEvent, at_place, at_session, delivered, delivery_at, delivery_of, found, found_by, give_up, in_session, keys_won, moved, opened, peer_finds, peer_turn, drawn_in_turn, repeat, sent_by, server_gives_up, server_turn, start, to_peer, to_server, with_peer, with_server, changed_in, with_copy}
 use Rattle.auc_world.specs.Net.{Net, device_place, inputs_from, inputs_of_peer, inputs_of_server, inputs_sent, keeps_at, packet_at, posted, session_place, copies}
 use Rattle.auc_lines.specs.declared.part.SessionLine.{SessionLine}
 use Rattle.auc_lines.specs.declared.part.End.{End}
@@ -596,7 +596,7 @@ kept_fine set packets s t f k stays fits first = record {
   renewed = first;
 }
 
-to_server_next : Laws → (set : Setting) (w : Net) (d : Delivery) (told : Told) (o : Option ServerEnd) → AreSubscribers set.rows → d.session.server ≡ o
+to_server_next : Laws → (set : Setting) (w : Net) (d : Delivery) (told : ToldEvent) (o : Option ServerEnd) → AreSubscribers set.rows → d.session.server ≡ o
     → slice_get w.sessions d.place ≡ Some d.session → Next set w (to_server set w d told o)
 to_server_next laws set w d told None subscribers is there = still set w
 to_server_next laws set w d told (Some s) subscribers is there =
@@ -653,7 +653,7 @@ won_cases before (step.Ended (outcome.Failure cause) bytes) keys e = inr e
 won_cases before (step.Sent bytes) keys e = inr e
 won_cases before (step.Ignored cause) keys e = inr e
 
-to_peer_next : Laws → (set : Setting) (w : Net) (d : Delivery) (told : Told) (o : Option Subscription) → slice_get w.devices d.session.device ≡ o
+to_peer_next : Laws → (set : Setting) (w : Net) (d : Delivery) (told : ToldEvent) (o : Option Subscription) → slice_get w.devices d.session.device ≡ o
     → slice_get w.sessions d.place ≡ Some d.session → IsHonestFinding w.packets (peer_finds set w d told o) → Next set w (to_peer set w d told o)
 to_peer_next laws set w d told None is there honest = still set w
 to_peer_next laws set w d told (Some device) is there honest =
@@ -711,7 +711,7 @@ to_peer_next laws set w d told (Some device) is there honest =
 
 -- ---- deliveries
 
-server_delivered : Laws → (set : Setting) (w : Net) (told : Told) (packet : ℕ) (o : Option ℕ) → AreSubscribers set.rows → Next set w (delivered set w end.Server told (delivery_at w packet o))
+server_delivered : Laws → (set : Setting) (w : Net) (told : ToldEvent) (packet : ℕ) (o : Option ℕ) → AreSubscribers set.rows → Next set w (delivered set w end.Server told (delivery_at w packet o))
 server_delivered laws set w told packet None subscribers = still set w
 server_delivered laws set w told packet (Some place) subscribers = by (slice_get w.sessions place) (packet_at w.packets packet) refl
   where
@@ -721,7 +721,7 @@ server_delivered laws set w told packet (Some place) subscribers = by (slice_get
     by None (Some sent) e = still set w
     by None None e = still set w
 
-peer_delivered : Laws → (set : Setting) (w : Net) (told : Told) (packet : ℕ) (o : Option ℕ) → IsHonestFinding w.packets (found_by set w end.Peer told (delivery_at w packet o))
+peer_delivered : Laws → (set : Setting) (w : Net) (told : ToldEvent) (packet : ℕ) (o : Option ℕ) → IsHonestFinding w.packets (found_by set w end.Peer told (delivery_at w packet o))
     → Next set w (delivered set w end.Peer told (delivery_at w packet o))
 peer_delivered laws set w told packet None honest = still set w
 peer_delivered laws set w told packet (Some place) honest = by (slice_get w.sessions place) (packet_at w.packets packet) refl honest
@@ -881,7 +881,7 @@ copied_next set w copy = record {
 
 -- ---- a run
 
-moved_next : Laws → (set : Setting) (w : Net) (e : Event) (told : Told) → AreSubscribers set.rows → IsHonestFinding w.packets (found set w e told) → Next set w (moved set w e told)
+moved_next : Laws → (set : Setting) (w : Net) (e : Event) (told : ToldEvent) → AreSubscribers set.rows → IsHonestFinding w.packets (found set w e told) → Next set w (moved set w e told)
 moved_next laws set w (event.Open opening) told subscribers honest =
     opened_next set w opening (session_place w.sessions opening.session) (device_place set.rows w.devices opening.sub) refl
 moved_next laws set w (event.Start session) told subscribers honest =

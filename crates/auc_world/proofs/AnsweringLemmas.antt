@@ -23,7 +23,7 @@ use Rattle.auc_world.proofs.ServingLemmas.{delivery_to, is_delivery, nothing_tol
 use Rattle.auc_world.proofs.WorldLemmas.{map_same}
 use Rattle.auc_world.specs.Came.{AreReceived, by_peer, came_at_peer, packet_number, presented_at, received_by}
 use Rattle.auc_record.specs.Event.{Came}
-use Rattle.auc_world.specs.Happened.{Delivery, Told, breach_at, delivery_at, kept_after, keys_won, peer_finds, sent_by, to_peer, with_peer}
+use Rattle.auc_world.specs.Happened.{Delivery, ToldEvent, breach_at, delivery_at, kept_after, keys_won, peer_finds, sent_by, to_peer, with_peer}
 use Rattle.auc_world.specs.InnerWorld.{Answers, number_after, state_of}
 use Rattle.auc_world.specs.Net.{Net, inputs_of_peer, judged, keeps_at, keeps_or, packet_at, posted}
 use Rattle.auc_world.specs.World.{AreHanded, RememberPasts, WorldState}
@@ -93,7 +93,7 @@ module _ (packets : List SentPacket) (sessions : List Session) (released : List 
       (same_card : subscription_of card ≡ subscription_of device) (same_bits : card.usim.array.bits ≡ device.usim.array.bits) (same_age : card.usim.array.age ≡ device.usim.array.age)
       (of_packet : bytes ≡ sent_packet.bytes)
       (steps : Steps set.key (subscription_of device) device.store session.peer bytes device.usim.array new turn card.store card.usim.array) (pasts : RememberPasts devices) where
-    abbrev told : Told
+    abbrev told : ToldEvent
     told = record { seen = steps.seen; notes = turn.notes; inner = peer_turns.inner_of new; reply = replies.Wrong }
 
     -- the network after a turn

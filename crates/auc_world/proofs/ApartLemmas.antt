@@ -19,7 +19,7 @@ use Rattle.auc_subs.specs.declared.row.Row.{Row}
 use Rattle.auc_5g.specs.Keys.{home_of}
 use Rattle.auc_random.specs.Random.{rand_of}
 use Rattle.auc_request.specs.Request.{is_separated}
-use Rattle.auc_sites.specs.Network.{Network, Turn, after_event}
+use Rattle.auc_sites.specs.Network.{Network, SitesTurn, after_event}
 use Rattle.auc_sites.specs.Run.{judgement_in}
 use Rattle.auc_sites.specs.declared.master.Judged.{Judged}
 use Rattle.auc_sites.specs.declared.master.Judged.TheVariants as judged
@@ -121,12 +121,12 @@ lease_quiet set who size bits sub (Some (judged.Again g)) lines gives = ap (acce
 lease_quiet set who size bits sub (Some (judged.Old last)) lines gives = ap (accepted bits sub) gives
 lease_quiet set who size bits sub (Some judged.New) lines gives = draw_quiet set who size bits sub lines gives
 
-site_event_quiet : (set : Setting) (who size bits sub : ℕ) (w : Network) (e : SiteEvent) (lines : List LineRecord) (turn : Turn) → SiteEventGives set who size w e lines turn → accepted bits sub lines ≡ []
+site_event_quiet : (set : Setting) (who size bits sub : ℕ) (w : Network) (e : SiteEvent) (lines : List LineRecord) (turn : SitesTurn) → SiteEventGives set who size w e lines turn → accepted bits sub lines ≡ []
 site_event_quiet set who size bits sub w e lines turn gives =
     ap (accepted bits sub) gives.lines_are ∙ accepted-append bits sub gives.drawn (Further (further.Sites who (note_of w e turn)) ∷ [])
     ∙ ap (λ (sqns : List (List ℕ)). sqns ++ []) (lease_quiet set who size bits sub (judgement_in w (event_of w e)) gives.drawn gives.draws)
 
-sites_quiet : (set : Setting) (who size bits sub : ℕ) (w : Network) (events : List SiteEvent) (lines : List LineRecord) (turns : List Turn) → SitesGo set who size w events lines turns
+sites_quiet : (set : Setting) (who size bits sub : ℕ) (w : Network) (events : List SiteEvent) (lines : List LineRecord) (turns : List SitesTurn) → SitesGo set who size w events lines turns
     → accepted bits sub lines ≡ []
 sites_quiet set who size bits sub w [] lines turns (none, ends) = ap (accepted bits sub) none
 sites_quiet set who size bits sub w (e ∷ events) lines [] go = absurd go

@@ -10,12 +10,12 @@ use Rattle.auc_peer.specs.Subscription.{Subscription}
 use Rattle.auc_server.specs.Server.{ServerEnd}
 use Rattle.auc_subs.specs.Setting.{Setting}
 use Rattle.auc_server.specs.declared.setting.HomeRow.{HomeRow}
-use Rattle.auc_vector.specs.Notes.{Asked}
+use Rattle.auc_vector.specs.Notes.{AskedCentre}
 use Rattle.auc_world.proofs.ServingLemmas.{delivery_to, has_packet, nothing_told, unjudged}
 use Rattle.auc_world.specs.Came.{AreReceived, AsksIn, RepliesIn, TellsNotes, asking_in, came, came_delivered, came_in, came_opened, came_repeated, came_started, presented_in, received_at, server_came_to_give_up, session_of, came_changed}
 use Rattle.auc_record.specs.Event.{Came}
-use Rattle.auc_world.specs.Happened.{Delivery, Told, at_place, at_session, delivered, delivery_at, delivery_in, found_by, happened, in_session, opened, repeat, server_gives_up, start, with_copy}
-use Rattle.auc_world.specs.InnerWorld.{Answers, IsReached, IsUnreached, Serves, came_of, net_of, refusal_of, copy_by}
+use Rattle.auc_world.specs.Happened.{Delivery, ToldEvent, at_place, at_session, delivered, delivery_at, delivery_in, found_by, happened, in_session, opened, repeat, server_gives_up, start, with_copy}
+use Rattle.auc_world.specs.InnerWorld.{Answers, IsReached, IsUnreached, ServesPacket, came_of, net_of, refusal_of, copy_by}
 use Rattle.auc_world.specs.Net.{Net, device_place, judged, packet_at, session_place}
 use Rattle.auc_world.specs.World.{Applies, AreHanded, AreOfSame, WorldState}
 use Rattle.auc_world.specs.declared.acting.Deed.{Deed}
@@ -245,7 +245,7 @@ module _ {S : Type 0} (goes : S → ℕ → List Entry → List (ℕ × Stop) �
 
   -- ---- a delivery
 
-  came_unreached : (at' : End) (told : Told) (p : Option SentPacket) → Err (refusal_of p) ≡ came_delivered set old.net at' told p None
+  came_unreached : (at' : End) (told : ToldEvent) (p : Option SentPacket) → Err (refusal_of p) ≡ came_delivered set old.net at' told p None
   came_unreached end.Server told None = refl
   came_unreached end.Server told (Some sent) = refl
   came_unreached end.Peer told None = refl
@@ -264,7 +264,7 @@ module _ {S : Type 0} (goes : S → ℕ → List Entry → List (ℕ × Stop) �
     notes = subst (TellsNotes nothing_told) (ap Err un.1 ∙ came_unreached end.Server nothing_told (packet_at old.net.packets packet)
         ∙ ap (came_delivered set old.net end.Server nothing_told (packet_at old.net.packets packet)) (sym un.0)) tt;
     replies = subst (RepliesIn end.Server nothing_told) (sym un.0) tt;
-    centre = subst (λ (d : Option Delivery). Asked goes kept top (asking_in set old.net end.Server nothing_told d) nothing_told.notes before before) (sym un.0) ((λ i. stays before i), (λ i. refl));
+    centre = subst (λ (d : Option Delivery). AskedCentre goes kept top (asking_in set old.net end.Server nothing_told d) nothing_told.notes before before) (sym un.0) ((λ i. stays before i), (λ i. refl));
     drawn = subst (AsksIn set old.net end.Server nothing_told) (sym un.0) tt;
     usims = subst (λ (d : Option Delivery). AreHanded (presented_in old.net end.Server nothing_told d) nothing_told old.devices old.devices) (sym un.0) refl;
   }
@@ -278,7 +278,7 @@ module _ {S : Type 0} (goes : S → ℕ → List Entry → List (ℕ × Stop) �
     notes = subst (TellsNotes nothing_told) (ap Err un.1 ∙ came_unreached end.Peer nothing_told (packet_at old.net.packets packet)
         ∙ ap (came_delivered set old.net end.Peer nothing_told (packet_at old.net.packets packet)) (sym un.0)) tt;
     replies = subst (RepliesIn end.Peer nothing_told) (sym un.0) tt;
-    centre = subst (λ (d : Option Delivery). Asked goes kept top (asking_in set old.net end.Peer nothing_told d) nothing_told.notes before before) (sym un.0) ((λ i. stays before i), (λ i. refl));
+    centre = subst (λ (d : Option Delivery). AskedCentre goes kept top (asking_in set old.net end.Peer nothing_told d) nothing_told.notes before before) (sym un.0) ((λ i. stays before i), (λ i. refl));
     drawn = subst (AsksIn set old.net end.Peer nothing_told) (sym un.0) tt;
     usims = subst (λ (d : Option Delivery). AreHanded (presented_in old.net end.Peer nothing_told d) nothing_told old.devices old.devices) (sym un.0) refl;
   }
@@ -308,17 +308,17 @@ module _ {S : Type 0} (goes : S → ℕ → List Entry → List (ℕ × Stop) �
     abbrev here : Arrives number place packet
     here = arrives number place packet found reached
 
-    is_there : (at' : End) (told : Told) → came_delivered set old.net at' told (Some here.sent) (Some here.d) ≡ came set old.net (event.Deliver number at' packet) told
+    is_there : (at' : End) (told : ToldEvent) → came_delivered set old.net at' told (Some here.sent) (Some here.d) ≡ came set old.net (event.Deliver number at' packet) told
     is_there at' told = ap (λ (p : Option SentPacket). came_delivered set old.net at' told p (Some here.d)) (sym here.of_number)
         ∙ ap (came_delivered set old.net at' told (packet_at old.net.packets packet)) (sym here.within)
 
-    leads_there : (at' : End) (told : Told) → record (delivered set old.net at' told (Some here.d)) { broken = judged old.net.packets old.net.broken (found_by set old.net at' told (Some here.d)) }
+    leads_there : (at' : End) (told : ToldEvent) → record (delivered set old.net at' told (Some here.d)) { broken = judged old.net.packets old.net.broken (found_by set old.net at' told (Some here.d)) }
         ≡ happened set old.net (event.Deliver number at' packet) told
     leads_there at' told =
         ap (λ (d : Option Delivery). record (delivered set old.net at' told d) { broken = judged old.net.packets old.net.broken (found_by set old.net at' told d) }) (sym here.within)
 
     -- one that reaches a server
-    pub served_applies : ((d : Delivery) → delivery_at old.net packet (Some place) ≡ Some d → Serves goes kept top set old d before new result after)
+    pub served_applies : ((d : Delivery) → delivery_at old.net packet (Some place) ≡ Some d → ServesPacket goes kept top set old d before new result after)
         → Applies goes kept top set old (event.Deliver number end.Server packet) before new result after
     served_applies serves =
         let s = serves here.d here.at_place in
@@ -330,7 +330,7 @@ module _ {S : Type 0} (goes : S → ℕ → List Entry → List (ℕ × Stop) �
           received = subst (λ (d : Option Delivery). AreReceived (received_at old.net end.Server d) s.told.seen) (sym here.within) s.received;
           notes = subst (TellsNotes s.told) is s.notes;
           replies = subst (RepliesIn end.Server s.told) (sym here.within) s.replies;
-          centre = subst (λ (d : Option Delivery). Asked goes kept top (asking_in set old.net end.Server s.told d) s.told.notes before after) (sym here.within) s.centre;
+          centre = subst (λ (d : Option Delivery). AskedCentre goes kept top (asking_in set old.net end.Server s.told d) s.told.notes before after) (sym here.within) s.centre;
           drawn = subst (AsksIn set old.net end.Server s.told) (sym here.within) s.drawn;
           usims = subst (λ (d : Option Delivery). AreHanded (presented_in old.net end.Server s.told d) s.told old.devices new.devices) (sym here.within) s.devices;
         }
@@ -348,7 +348,7 @@ module _ {S : Type 0} (goes : S → ℕ → List Entry → List (ℕ × Stop) �
           received = subst (λ (d : Option Delivery). AreReceived (received_at old.net end.Peer d) s.told.seen) (sym here.within) s.received;
           notes = subst (TellsNotes s.told) is s.notes;
           replies = subst (RepliesIn end.Peer s.told) (sym here.within) tt;
-          centre = subst (λ (d : Option Delivery). Asked goes kept top (asking_in set old.net end.Peer s.told d) s.told.notes before before) (sym here.within) ((λ i. stays before i), (λ i. refl));
+          centre = subst (λ (d : Option Delivery). AskedCentre goes kept top (asking_in set old.net end.Peer s.told d) s.told.notes before before) (sym here.within) ((λ i. stays before i), (λ i. refl));
           drawn = subst (AsksIn set old.net end.Peer s.told) (sym here.within) tt;
           usims = subst (λ (d : Option Delivery). AreHanded (presented_in old.net end.Peer s.told d) s.told old.devices new.devices) (sym here.within) s.usims;
         }

@@ -18,7 +18,7 @@ use Rattle.auc_peer.specs.declared.peer.Peer.{Peer}
 use Rattle.auc_peer.specs.declared.peer.PeerState.{PeerState}
 use Rattle.auc_peer.specs.declared.peer.PeerState.TheVariants as peer_state
 use Rattle.auc_reauth.specs.Device.{Keeps, is_open, nothing_kept}
-use Rattle.auc_reauth.specs.Machine.{Accept, Adopt, Challenge, Home, Lose, Move, Places, Resume, Used, Win, accepted_in, renamed, with_place}
+use Rattle.auc_reauth.specs.Machine.{Accept, Adopt, Challenge, HomePast, Lose, Move, Places, Resume, Used, Win, accepted_in, renamed, with_place}
 use Rattle.auc_reauth.specs.Store.{entry}
 use Rattle.auc_reauth.specs.declared.context.Context.{Context}
 use Rattle.auc_server.specs.Moves.{moved_by}
@@ -31,7 +31,7 @@ use Rattle.auc_vector.specs.declared.notes.CounterNote.TheVariants as counts
 use Rattle.auc_vector.specs.declared.notes.Notes.{Notes}
 use Rattle.auc_world.specs.Agreement.{Happening, IsFresh, Noted, Occurs, after, after_one}
 use Rattle.auc_world.specs.Came.{TellsNotes, came, came_at_peer, came_delivered}
-use Rattle.auc_world.specs.Happened.{Delivery, Told, at_place, at_session, delivered, delivery_at, delivery_of, give_up, happened, in_session, kept_after, keys_won, moved, new_session, opened, peer_turn, repeat, server_gives_up, server_turn, start, to_peer, to_server, changed_in, with_copy}
+use Rattle.auc_world.specs.Happened.{Delivery, ToldEvent, at_place, at_session, delivered, delivery_at, delivery_of, give_up, happened, in_session, kept_after, keys_won, moved, new_session, opened, peer_turn, repeat, server_gives_up, server_turn, start, to_peer, to_server, changed_in, with_copy}
 use Rattle.auc_world.specs.Net.{Net, device_place, keeps_at, keeps_or, packet_at, same_method, session_place}
 use Rattle.auc_world.specs.Places.{DeviceMoves, EachEventMovesDevicesOnce, EachMoves, IsDeviceMove, TellsItsNotes, device_places, only, peer_at}
 use Rattle.auc_world.specs.Resumption.{accepted_for, accepted_of, counters_accepted}
@@ -222,7 +222,7 @@ module _ (set : Setting) (w v : Net) (notes : Notes) (t : ℕ) (session : Sessio
     (now : v.sessions ≡ slice_set w.sessions t (record session { peer = new; peer_keys = won })) (f : PeerFine set w.devices session) (are : AreSubscribers set.rows)
     (options : new.options ≡ session.peer.options) (told : Notes) (same : (c : Context) → Originates told c → Originates notes c) (kept : Keeps)
     (counted : Counts (entry session.peer.options.method (keeps_at w session.device).contexts) session.peer new told.counter) (put : Puts w v session.device kept)
-    (turn : (h : Home) → Shows h session.peer.options.method t (keeps_at w session.device) session.peer → MovesOnce t h session.peer new told (keeps_at w session.device) kept)
+    (turn : (h : HomePast) → Shows h session.peer.options.method t (keeps_at w session.device) session.peer → MovesOnce t h session.peer new told (keeps_at w session.device) kept)
     (left : (m : Method) → m ≢ session.peer.options.method → entry m kept.contexts ≡ entry m (keeps_at w session.device).contexts) where
   now_at : (m : Method) (place : ℕ) → peer_at m place (Some (record session { peer = new; peer_keys = won })) ≡ cond (session.device == place && same_method session.peer.options.method m) (place_of new) None
   now_at m place = ap (λ (o : Method). cond (session.device == place && same_method o m) (place_of new) None) (ap (λ (p : Peer). p.options.method) peers)
@@ -375,7 +375,7 @@ module _ (set : Setting) (w v : Net) (notes : Notes) (t : ℕ) (session : Sessio
 
 -- ---- deliveries
 
-to_peer_next : PeerLaws → (set : Setting) (w : Net) (d : Delivery) (told : Told) (o : Option Subscription) → slice_get w.sessions d.place ≡ Some d.session
+to_peer_next : PeerLaws → (set : Setting) (w : Net) (d : Delivery) (told : ToldEvent) (o : Option Subscription) → slice_get w.sessions d.place ≡ Some d.session
     → DeviceNext set w (to_peer set w d told o) told.notes (TellsNotes told (came_at_peer set w d told o))
 to_peer_next laws set w d told None there = still set w told.notes (TellsNotes told (came_at_peer set w d told None))
 to_peer_next laws set w d told (Some device) there =
@@ -407,13 +407,13 @@ to_peer_next laws set w d told (Some device) there =
           (λ k e. laws.leaves set.key device keeps p told.seen told.notes.usim told.inner k f.own e) m sub place placed;
     }
 
-to_server_next : (set : Setting) (w : Net) (d : Delivery) (told : Told) (o : Option ServerEnd) (T : Type 0) → slice_get w.sessions d.place ≡ Some d.session
+to_server_next : (set : Setting) (w : Net) (d : Delivery) (told : ToldEvent) (o : Option ServerEnd) (T : Type 0) → slice_get w.sessions d.place ≡ Some d.session
     → DeviceNext set w (to_server set w d told o) told.notes T
 to_server_next set w d told None T there = still set w told.notes T
 to_server_next set w d told (Some s) T there =
     server_next set w (to_server set w d told (Some s)) told.notes T d.place d.session (Some (server_turn set w s told).0) there refl refl refl
 
-server_delivered : (set : Setting) (w : Net) (told : Told) (packet : ℕ) (o : Option ℕ) (T : Type 0) → DeviceNext set w (delivered set w end.Server told (delivery_at w packet o)) told.notes T
+server_delivered : (set : Setting) (w : Net) (told : ToldEvent) (packet : ℕ) (o : Option ℕ) (T : Type 0) → DeviceNext set w (delivered set w end.Server told (delivery_at w packet o)) told.notes T
 server_delivered set w told packet None T = still set w told.notes T
 server_delivered set w told packet (Some place) T = by (slice_get w.sessions place) (packet_at w.packets packet) refl
   where
@@ -423,7 +423,7 @@ server_delivered set w told packet (Some place) T = by (slice_get w.sessions pla
     by None (Some sent) e = still set w told.notes T
     by None None e = still set w told.notes T
 
-peer_delivered : PeerLaws → (set : Setting) (w : Net) (told : Told) (packet : ℕ) (o : Option ℕ)
+peer_delivered : PeerLaws → (set : Setting) (w : Net) (told : ToldEvent) (packet : ℕ) (o : Option ℕ)
     → DeviceNext set w (delivered set w end.Peer told (delivery_at w packet o)) told.notes (TellsNotes told (came_delivered set w end.Peer told (packet_at w.packets packet) (delivery_at w packet o)))
 peer_delivered laws set w told packet None = still set w told.notes (TellsNotes told (came_delivered set w end.Peer told (packet_at w.packets packet) None))
 peer_delivered laws set w told packet (Some place) = by (slice_get w.sessions place) (packet_at w.packets packet) refl
@@ -472,7 +472,7 @@ over_options p (peer_state.Refusing cause) = refl
 no_note : (k : ℕ) → ◌≡◌ {A = Option CounterNote} None (Some (counts.Taken k)) → ⊥
 no_note k e = cc
 
-module _ (t : ℕ) (h : Home) (keeps : Keeps) (p : Peer) (shown : Shows h p.options.method t keeps p) (notes : Notes) (quiet : notes.counter ≡ None) where
+module _ (t : ℕ) (h : HomePast) (keeps : Keeps) (p : Peer) (shown : Shows h p.options.method t keeps p) (notes : Notes) (quiet : notes.counter ≡ None) where
   untaken : (k : ℕ) → notes.counter ≡ Some (counts.Taken k) → ⊥
   untaken k e = no_note k (sym quiet ∙ e)
 
@@ -583,7 +583,7 @@ copy_next set w notes T copy = record {
     copy_places m place zero = refl
     copy_places m place (suc i) = refl
 
-moved_next : PeerLaws → (set : Setting) (w : Net) (e : Event) (told : Told) → DeviceNext set w (moved set w e told) told.notes (TellsNotes told (came set w e told))
+moved_next : PeerLaws → (set : Setting) (w : Net) (e : Event) (told : ToldEvent) → DeviceNext set w (moved set w e told) told.notes (TellsNotes told (came set w e told))
 moved_next laws set w (event.Open opening) told =
     opened_next set w told.notes (TellsNotes told (came set w (event.Open opening) told)) opening (session_place w.sessions opening.session) (device_place set.rows w.devices opening.sub) refl
 moved_next laws set w (event.Start session) told =
@@ -603,7 +603,7 @@ moved_next laws set w (event.Tamper packet place byte) told =
 moved_next laws set w (event.Cut packet count) told =
     copy_next set w told.notes (TellsNotes told (came set w (event.Cut packet count) told)) (changed_in w.packets (event.Cut packet count))
 
-event_next : PeerLaws → (set : Setting) (w : Net) (e : Event) (told : Told) → DeviceNext set w (happened set w e told) told.notes (TellsNotes told (came set w e told))
+event_next : PeerLaws → (set : Setting) (w : Net) (e : Event) (told : ToldEvent) → DeviceNext set w (happened set w e told) told.notes (TellsNotes told (came set w e told))
 event_next laws set w e told = let n = moved_next laws set w e told in record { devices = n.devices; fine = n.fine; moves = n.moves }
 
 -- ---- runs

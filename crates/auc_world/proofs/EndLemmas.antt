@@ -19,7 +19,7 @@ use Rattle.auc_random.specs.Random.{rand_of}
 use Rattle.auc_request.specs.Request.{is_separated}
 use Rattle.auc_server.specs.Server.{ServerEnd}
 use Rattle.auc_server.specs.declared.options.ServerOptions.{ServerOptions}
-use Rattle.auc_sites.specs.Network.{Network, Turn, after_event}
+use Rattle.auc_sites.specs.Network.{Network, SitesTurn, after_event}
 use Rattle.auc_sites.specs.Run.{judgement_in}
 use Rattle.auc_sites.specs.declared.master.Judged.{Judged}
 use Rattle.auc_sites.specs.declared.master.Judged.TheVariants as judged
@@ -29,7 +29,7 @@ use Rattle.auc_record.specs.Event.{Came}
 use Rattle.auc_world.specs.Came.{came, came_at_peer, came_at_server, came_changed, came_delivered, came_given_up, came_in, came_opened, came_repeated, came_started, server_came_to_give_up, session_of}
 use Rattle.auc_record.specs.Draws.{DrawGives, OneGives}
 use Rattle.auc_world.specs.Given.{Authenticates, AuthenticatesIf, Before, EventGives, FivegFollows, GiveGives, JobGives, JobsGive, LineGives, PlainGives, RelayGives, VectorsFollow, behind, device_of_row, hxres_lines, judged_lines, kasme_line, outcome_of, packet_of, turned}
-use Rattle.auc_world.specs.Happened.{Delivery, Told, changed_in, delivery_in}
+use Rattle.auc_world.specs.Happened.{Delivery, ToldEvent, changed_in, delivery_in}
 use Rattle.auc_record.specs.Lines.{numbers_of}
 use Rattle.auc_world.specs.Net.{Net, device_place, other, packet_at, session_place}
 use Rattle.auc_subs.specs.Setting.{Setting}
@@ -78,15 +78,15 @@ given_up_at : (w : Net) (at' : End) (s : Session) → CameAt (Some at') (came_gi
 given_up_at w end.Server s = server_given_up_at w s.server
 given_up_at w end.Peer s = tt
 
-at_server : (set : Setting) (w : Net) (told : Told) (s : Option ServerEnd) → CameAt (Some end.Server) (came_at_server set w told s)
+at_server : (set : Setting) (w : Net) (told : ToldEvent) (s : Option ServerEnd) → CameAt (Some end.Server) (came_at_server set w told s)
 at_server set w told None = tt
 at_server set w told (Some s) = tt
 
-at_peer : (set : Setting) (w : Net) (d : Delivery) (told : Told) (device : Option Subscription) → CameAt (Some end.Peer) (came_at_peer set w d told device)
+at_peer : (set : Setting) (w : Net) (d : Delivery) (told : ToldEvent) (device : Option Subscription) → CameAt (Some end.Peer) (came_at_peer set w d told device)
 at_peer set w d told None = tt
 at_peer set w d told (Some device) = tt
 
-delivered_at : (set : Setting) (w : Net) (at' : End) (told : Told) (sent : Option SentPacket) (d : Option Delivery)
+delivered_at : (set : Setting) (w : Net) (at' : End) (told : ToldEvent) (sent : Option SentPacket) (d : Option Delivery)
     → CameAt (Some at') (came_delivered set w at' told sent d)
 delivered_at set w at' told None d = tt
 delivered_at set w at' told (Some sent) None = tt
@@ -103,7 +103,7 @@ changed_at_none packets (Some sent) None = tt
 changed_at_none packets (Some sent) (Some bytes) = tt
 
 -- what comes of an event is a step of its end
-pub came_at_end : (set : Setting) (w : Net) (e : Event) (told : Told) → CameAt (end_of e) (came set w e told)
+pub came_at_end : (set : Setting) (w : Net) (e : Event) (told : ToldEvent) → CameAt (end_of e) (came set w e told)
 came_at_end set w (event.Open opening) told = opened_at (session_place w.sessions opening.session) (device_place set.rows w.devices opening.sub)
 came_at_end set w (event.Start session) told =
     in_session (Some end.Server) (λ s. came_started w s.options s.server) (λ s. started_at w s.options s.server) (session_of w session)
@@ -218,7 +218,7 @@ lease_at set sub size (Some (judged.Again g)) lines gives = none_at lines gives
 lease_at set sub size (Some (judged.Old last)) lines gives = none_at lines gives
 lease_at set sub size (Some judged.New) lines gives = draw_at set sub size lines gives
 
-site_event_at : (set : Setting) (sub size : ℕ) (w : Network) (e : SiteEvent) (lines : List LineRecord) (turn : Turn)
+site_event_at : (set : Setting) (sub size : ℕ) (w : Network) (e : SiteEvent) (lines : List LineRecord) (turn : SitesTurn)
     → SiteEventGives set sub size w e lines turn → AreAt lines
 site_event_at set sub size w e lines turn gives =
     subst AreAt (sym gives.lines_are)
@@ -226,7 +226,7 @@ site_event_at set sub size w e lines turn gives =
     (lease_at set sub size (judgement_in w (event_of w e)) gives.drawn gives.draws)
     (further_at (further.Sites sub (note_of w e turn)) _ refl))
 
-sites_at : (set : Setting) (sub size : ℕ) (w : Network) (events : List SiteEvent) (lines : List LineRecord) (turns : List Turn)
+sites_at : (set : Setting) (sub size : ℕ) (w : Network) (events : List SiteEvent) (lines : List LineRecord) (turns : List SitesTurn)
     → SitesGo set sub size w events lines turns → AreAt lines
 sites_at set sub size w [] lines turns go = none_at lines go.0
 sites_at set sub size w (e ∷ events) lines [] go = absurd go

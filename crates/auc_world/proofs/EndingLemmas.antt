@@ -14,7 +14,7 @@ use Rattle.auc_world.proofs.PlainListLemmas.{position_stays, set_there}
 use Rattle.auc_world.specs.Came.{came, came_at_peer, came_at_server, came_delivered, came_in, came_started, packet_number, session_at, session_of}
 use Rattle.auc_world.specs.Ending.{EachDeliveryLeavesFewer, EachPlainSessionEnds, StartLeavesSixteen, deliveries_left, server_left, session_left}
 use Rattle.auc_world.specs.Given.{Before, EventGives, RelayGives, behind, packet_in, packet_of}
-use Rattle.auc_world.specs.Happened.{Delivery, Told, at_place, delivered, delivery_at, delivery_of, happened, in_session, keys_won, peer_turn, sent_by, server_turn, start, to_peer, to_server}
+use Rattle.auc_world.specs.Happened.{Delivery, ToldEvent, at_place, delivered, delivery_at, delivery_of, happened, in_session, keys_won, peer_turn, sent_by, server_turn, start, to_peer, to_server}
 use Rattle.auc_world.specs.Net.{Net, keeps_at, other, packet_at, session_place}
 use Rattle.auc_subs.specs.Setting.{Setting}
 use Rattle.auc_record.specs.declared.event.Event.{Event}
@@ -46,7 +46,7 @@ sends_fewer w s new turn packet (inr less) makes = less
 sends_fewer w s new turn packet (inl (cause, is, same)) makes =
     absurd (no_packet packet (sym (ap (λ (did : Step ServerWhy). packet_number w (sent_by did)) is) ∙ makes))
 
-module _ (law : EachTurnLeavesFewer) (set : Setting) (w next : Net) (number packet answer : ℕ) (told : Told) where
+module _ (law : EachTurnLeavesFewer) (set : Setting) (w next : Net) (number packet answer : ℕ) (told : ToldEvent) where
   -- to an end
   abbrev AnsweredAt : End → Type 0
   AnsweredAt at' = deliveries_left next number (other at') < deliveries_left w number at'

@@ -17,7 +17,7 @@ use Rattle.auc_vector.specs.declared.notes.NumberNote.TheVariants as number
 use Rattle.auc_record.specs.Event.{Came, event_number, number_released, number_with}
 use Rattle.auc_world.specs.Came.{asked_sub, asking_at, asking_in, asking_of, came, came_at_peer, came_at_server, came_delivered, came_given_up, came_in, came_opened, came_repeated, came_started, server_came_to_give_up, session_at, came_changed}
 use Rattle.auc_world.specs.Given.{IsCentreAsked}
-use Rattle.auc_world.specs.Happened.{Delivery, Told, at_place, delivered, delivery_at, delivery_of, give_up, in_session, moved, opened, drawn_in_turn, repeat, server_gives_up, server_turn, start, to_peer, to_server, changed_in, with_copy}
+use Rattle.auc_world.specs.Happened.{Delivery, ToldEvent, at_place, delivered, delivery_at, delivery_of, give_up, in_session, moved, opened, drawn_in_turn, repeat, server_gives_up, server_turn, start, to_peer, to_server, changed_in, with_copy}
 use Rattle.auc_world.specs.Net.{Net, device_place, packet_at, session_place}
 use Rattle.auc_subs.specs.Setting.{Setting}
 use Rattle.auc_record.specs.declared.event.Event.{Event}
@@ -69,7 +69,7 @@ turn_known set (Some asked) notes (Some (number.Drew n)) is =
 turn_known set (Some asked) notes (Some (number.Exhausted word)) is = All-nil (λ (x : Number). x.sub < length set.rows)
 turn_known set (Some asked) notes (Some (number.Withheld n stop)) is = All-nil (λ (x : Number). x.sub < length set.rows)
 
-server_releases : (set : Setting) (w : Net) (d : Delivery) (told : Told) (o : Option ServerEnd) → IsCentreAsked set (asking_at set w told o) told.notes
+server_releases : (set : Setting) (w : Net) (d : Delivery) (told : ToldEvent) (o : Option ServerEnd) → IsCentreAsked set (asking_at set w told o) told.notes
     → Releases set w (to_server set w d told o) (came_at_server set w told o)
 server_releases set w d told None is = stays set w w (came_at_server set w told None) refl refl
 server_releases set w d told (Some s) is =
@@ -77,20 +77,20 @@ server_releases set w d told (Some s) is =
     let note = (server_turn set w s told).1.notes.number in
     record { grows = ap (λ (more : List Number). w.released ++ more) (turn_numbers asked note); known = turn_known set asked told.notes note is }
 
-peer_releases : (set : Setting) (w : Net) (d : Delivery) (told : Told) (o : Option Subscription) → Releases set w (to_peer set w d told o) (came_at_peer set w d told o)
+peer_releases : (set : Setting) (w : Net) (d : Delivery) (told : ToldEvent) (o : Option Subscription) → Releases set w (to_peer set w d told o) (came_at_peer set w d told o)
 peer_releases set w d told None = stays set w (to_peer set w d told None) (came_at_peer set w d told None) refl refl
 peer_releases set w d told (Some device) = stays set w (to_peer set w d told (Some device)) (came_at_peer set w d told (Some device)) refl refl
 
-none_releases : (set : Setting) (w : Net) (at' : End) (told : Told) (sent : Option SentPacket) → Releases set w (delivered set w at' told None) (came_delivered set w at' told sent None)
+none_releases : (set : Setting) (w : Net) (at' : End) (told : ToldEvent) (sent : Option SentPacket) → Releases set w (delivered set w at' told None) (came_delivered set w at' told sent None)
 none_releases set w at' told None = stays set w w (came_delivered set w at' told None None) refl refl
 none_releases set w at' told (Some sent) = stays set w w (came_delivered set w at' told (Some sent) None) refl refl
 
-some_releases : (set : Setting) (w : Net) (at' : End) (told : Told) (sent : SentPacket) (d : Delivery) → IsCentreAsked set (asking_in set w at' told (Some d)) told.notes
+some_releases : (set : Setting) (w : Net) (at' : End) (told : ToldEvent) (sent : SentPacket) (d : Delivery) → IsCentreAsked set (asking_in set w at' told (Some d)) told.notes
     → Releases set w (delivered set w at' told (Some d)) (came_delivered set w at' told (Some sent) (Some d))
 some_releases set w end.Server told sent d is = server_releases set w d told d.session.server is
 some_releases set w end.Peer told sent d is = peer_releases set w d told (slice_get w.devices d.session.device)
 
-delivery_releases : (set : Setting) (w : Net) (at' : End) (told : Told) (packet place : ℕ) (x : Option Session) (y : Option SentPacket)
+delivery_releases : (set : Setting) (w : Net) (at' : End) (told : ToldEvent) (packet place : ℕ) (x : Option Session) (y : Option SentPacket)
     → IsCentreAsked set (asking_in set w at' told (delivery_of packet place x y)) told.notes
     → Releases set w (delivered set w at' told (delivery_of packet place x y)) (came_delivered set w at' told y (delivery_of packet place x y))
 delivery_releases set w at' told packet place (Some session) (Some sent) is =
@@ -99,7 +99,7 @@ delivery_releases set w at' told packet place (Some session) None is = none_rele
 delivery_releases set w at' told packet place None (Some sent) is = none_releases set w at' told (Some sent)
 delivery_releases set w at' told packet place None None is = none_releases set w at' told None
 
-delivered_releases : (set : Setting) (w : Net) (at' : End) (told : Told) (packet : ℕ) (o : Option ℕ) → IsCentreAsked set (asking_in set w at' told (delivery_at w packet o)) told.notes
+delivered_releases : (set : Setting) (w : Net) (at' : End) (told : ToldEvent) (packet : ℕ) (o : Option ℕ) → IsCentreAsked set (asking_in set w at' told (delivery_at w packet o)) told.notes
     → Releases set w (delivered set w at' told (delivery_at w packet o)) (came_delivered set w at' told (packet_at w.packets packet) (delivery_at w packet o))
 delivered_releases set w at' told packet None is = none_releases set w at' told (packet_at w.packets packet)
 delivered_releases set w at' told packet (Some place) is = delivery_releases set w at' told packet place (slice_get w.sessions place) (packet_at w.packets packet) is
@@ -142,7 +142,7 @@ open_releases set w opening None (Some place) = stays set w (opened w opening No
 copy_releases : (set : Setting) (w : Net) (sent : Option SentPacket) (copy : Option (List ℕ)) → Releases set w (with_copy w copy) (came_changed w.packets sent copy)
 copy_releases set w sent copy = stays set w (with_copy w copy) (came_changed w.packets sent copy) refl (changed_is_silent w.packets sent copy).released
 
-pub moved_releases : (set : Setting) (w : Net) (e : Event) (told : Told) → IsCentreAsked set (asking_of set w e told) told.notes → Releases set w (moved set w e told) (came set w e told)
+pub moved_releases : (set : Setting) (w : Net) (e : Event) (told : ToldEvent) → IsCentreAsked set (asking_of set w e told) told.notes → Releases set w (moved set w e told) (came set w e told)
 moved_releases set w (event.Open opening) told is = open_releases set w opening (session_place w.sessions opening.session) (device_place set.rows w.devices opening.sub)
 moved_releases set w (event.Start session) told is =
     session_releases set w (λ place s. start w place s s.server) (λ s. came_started w s.options s.server) (session_place w.sessions session) (λ place s. start_releases set w place s s.server)

@@ -23,7 +23,7 @@ use Rattle.auc_world.specs.Agreement.{AreReleasedOnce, AreSized, AreTold, Decryp
 use Rattle.auc_world.specs.Came.{Presented, came, presented_by}
 use Rattle.auc_record.specs.Event.{asked_in, event_number, number_in}
 use Rattle.auc_world.specs.Given.{Before, EventGives, IsUsimAsked, JobGives, LineGives, PlainGives, RelayGives, behind, packet_of}
-use Rattle.auc_world.specs.Happened.{Told}
+use Rattle.auc_world.specs.Happened.{ToldEvent}
 use Rattle.auc_record.specs.Lines.{numbers_of, released_by}
 use Rattle.auc_world.specs.Net.{Net, other, place_with}
 use Rattle.auc_subs.specs.Setting.{Setting}
@@ -85,7 +85,7 @@ then_runs set w mid next front rest first more = record {
 }
 
 -- what is told of the device that a packet reached
-told_is : (set : Setting) (before : Before) (o : Option Presented) (told : Told) → IsUsimAsked set before o told → DecryptsIn told o
+told_is : (set : Setting) (before : Before) (o : Option Presented) (told : ToldEvent) → IsUsimAsked set before o told → DecryptsIn told o
 told_is set before None told is = tt
 told_is set before (Some p) told is = is.decrypts
 

@@ -20,7 +20,7 @@ use Rattle.auc_vector.specs.declared.turn.Step.{Step}
 use Rattle.auc_vector.specs.declared.turn.Step.TheVariants as step
 use Rattle.auc_record.specs.Event.{Came, device_in}
 use Rattle.auc_world.specs.Came.{Presented, came, came_at_peer, came_at_server, came_delivered, came_given_up, came_in, came_opened, came_repeated, came_started, presented_by, presented_in, presented_at, server_came_to_give_up, session_of}
-use Rattle.auc_world.specs.Happened.{Delivery, Told, at_place, delivered, delivery_at, delivery_of, give_up, happened, in_session, new_session, opened, peer_turn, drawn_in_turn, repeat, server_gives_up, server_turn, start, to_peer, to_server, with_peer, with_server, changed_in}
+use Rattle.auc_world.specs.Happened.{Delivery, ToldEvent, at_place, delivered, delivery_at, delivery_of, give_up, happened, in_session, new_session, opened, peer_turn, drawn_in_turn, repeat, server_gives_up, server_turn, start, to_peer, to_server, with_peer, with_server, changed_in}
 use Rattle.auc_world.specs.Net.{Net, device_place, keeps_at, packet_at, session_place}
 use Rattle.auc_record.specs.declared.event.Event.{Event}
 use Rattle.auc_record.specs.declared.event.Event.TheVariants as event
@@ -82,7 +82,7 @@ opened_stays Q w opening (Some first) place all own = all
 opened_stays Q w opening None None all own = all
 opened_stays Q w opening None (Some place) all own = All-push (λ s. Q s.sub s.device) w.sessions (new_session opening place) all (own place refl)
 
-delivered_stays : (Q : ℕ → ℕ → Type 0) (set : Setting) (w : Net) (at' : End) (told : Told) (packet : ℕ) (o : Option ℕ) → AreAt Q w.sessions
+delivered_stays : (Q : ℕ → ℕ → Type 0) (set : Setting) (w : Net) (at' : End) (told : ToldEvent) (packet : ℕ) (o : Option ℕ) → AreAt Q w.sessions
     → AreAt Q (delivered set w at' told (delivery_at w packet o)).sessions
 delivered_stays Q set w at' told packet None all = none at'
   where
@@ -119,7 +119,7 @@ OpensAt Q set w (event.GiveUp session at') = Unit {0}
 OpensAt Q set w (event.Tamper packet place byte) = Unit {0}
 OpensAt Q set w (event.Cut packet count) = Unit {0}
 
-pub places_stay : (Q : ℕ → ℕ → Type 0) (set : Setting) (w : Net) (e : Event) (told : Told) → AreAt Q w.sessions → OpensAt Q set w e → AreAt Q (happened set w e told).sessions
+pub places_stay : (Q : ℕ → ℕ → Type 0) (set : Setting) (w : Net) (e : Event) (told : ToldEvent) → AreAt Q w.sessions → OpensAt Q set w e → AreAt Q (happened set w e told).sessions
 places_stay Q set w (event.Open opening) told all own =
     opened_stays Q w opening (session_place w.sessions opening.session) (device_place set.rows w.devices opening.sub) all own
 places_stay Q set w (event.Start session) told all own =
@@ -150,7 +150,7 @@ opens_at P set w (event.GiveUp session at') own = tt
 opens_at P set w (event.Tamper packet place byte) own = tt
 opens_at P set w (event.Cut packet count) own = tt
 
-pub sessions_stay : (P : ℕ → Type 0) (set : Setting) (w : Net) (e : Event) (told : Told) → AreOf P w.sessions → Opens P e → AreOf P (happened set w e told).sessions
+pub sessions_stay : (P : ℕ → Type 0) (set : Setting) (w : Net) (e : Event) (told : ToldEvent) → AreOf P w.sessions → Opens P e → AreOf P (happened set w e told).sessions
 sessions_stay P set w e told all own = places_stay (λ sub place. P sub) set w e told all (opens_at P set w e own)
 
 -- ---- the device that received a packet
@@ -171,7 +171,7 @@ came_in_of P does None each = tt
 came_in_of P does (Some session) each = none_of P (device_in (does session)) (each session)
 
 -- it is that of a session
-pub device_is_of : (P : ℕ → Type 0) (set : Setting) (w : Net) (e : Event) (told : Told) → AreOf P w.sessions → IsOf P (device_in (came set w e told))
+pub device_is_of : (P : ℕ → Type 0) (set : Setting) (w : Net) (e : Event) (told : ToldEvent) → AreOf P w.sessions → IsOf P (device_in (came set w e told))
 device_is_of P set w (event.Open opening) told all = by (session_place w.sessions opening.session) (device_place set.rows w.devices opening.sub)
   where
     by : (old place : Option ℕ) → IsOf P (device_in (came_opened old place))
@@ -232,7 +232,7 @@ abbrev pub IsPresentedAt : (ℕ → ℕ → Type 0) → Option Presented → Typ
 IsPresentedAt Q None = Unit {0}
 IsPresentedAt Q (Some p) = Q p.delivery.session.sub p.delivery.session.device
 
-pub presented_is_at : (Q : ℕ → ℕ → Type 0) (w : Net) (e : Event) (told : Told) → AreAt Q w.sessions → IsPresentedAt Q (presented_by w e told)
+pub presented_is_at : (Q : ℕ → ℕ → Type 0) (w : Net) (e : Event) (told : ToldEvent) → AreAt Q w.sessions → IsPresentedAt Q (presented_by w e told)
 presented_is_at Q w (event.Open opening) told all = tt
 presented_is_at Q w (event.Start session) told all = tt
 presented_is_at Q w (event.Repeat session) told all = tt
@@ -261,7 +261,7 @@ abbrev pub IsPresentedTo : (ℕ → Type 0) → Option Presented → Type 0
 IsPresentedTo P None = Unit {0}
 IsPresentedTo P (Some p) = P p.delivery.session.sub
 
-pub presented_is_of : (P : ℕ → Type 0) (w : Net) (e : Event) (told : Told) → AreOf P w.sessions → IsPresentedTo P (presented_by w e told)
+pub presented_is_of : (P : ℕ → Type 0) (w : Net) (e : Event) (told : ToldEvent) → AreOf P w.sessions → IsPresentedTo P (presented_by w e told)
 presented_is_of P w e told all = by (presented_by w e told) (presented_is_at (λ sub place. P sub) w e told all)
   where
     by : (o : Option Presented) → IsPresentedAt (λ sub place. P sub) o → IsPresentedTo P o

@@ -275,5 +275,5 @@ giving_up_counts store p state.Waiting quiet = closes store p quiet _ refl refl 
 giving_up_counts store p (state.Answered keys) quiet = closes store p quiet _ refl refl refl refl ended_waits refl
 giving_up_counts store p (state.Refusing cause) quiet = closes store p quiet _ refl refl refl refl ended_waits refl
 
-pub new_is_quiet : (o : peer_told.Told) → IsQuiet (new_peer o)
+pub new_is_quiet : (o : peer_told.ToldSession) → IsQuiet (new_peer o)
 new_is_quiet o = record { named = All-nil (λ (u : Used). username [] ≡ u.identity); waits = λ e. tt; first = λ c e. absurd (no_context c e) }

@@ -26,7 +26,7 @@ use Rattle.auc_server.specs.declared.server.Resumed.{Resumed}
 use Rattle.auc_server.specs.declared.setting.HomeRow.{HomeRow}
 use Rattle.auc_vector.specs.declared.notes.Notes.{Notes}
 use Rattle.auc_world.specs.Agreement.{Happening, Noted, Occurs, after, after_one}
-use Rattle.auc_world.specs.Happened.{Delivery, Told, at_place, at_session, delivered, delivery_at, delivery_of, give_up, happened, in_session, keys_won, moved, new_session, opened, peer_turn, repeat, server_gives_up, server_turn, start, to_peer, to_server, changed_in, with_copy}
+use Rattle.auc_world.specs.Happened.{Delivery, ToldEvent, at_place, at_session, delivered, delivery_at, delivery_of, give_up, happened, in_session, keys_won, moved, new_session, opened, peer_turn, repeat, server_gives_up, server_turn, start, to_peer, to_server, changed_in, with_copy}
 use Rattle.auc_world.specs.Net.{Net, device_place, keeps_at, packet_at, same_method, session_place}
 use Rattle.auc_world.specs.Places.{EachEventMovesHomesOnce, EachMoves, HomeMoves, IsHomeMove, home_places, only, server_at, server_leaves}
 use Rattle.auc_world.specs.Resumption.{counters_in, counters_resumed, resumed_for}
@@ -258,7 +258,7 @@ set_fits sessions t changed f all = All-set (λ (session : Session). FitsIn sess
 fits_at : (sessions : List Session) (t : ℕ) (session : Session) (o : Option ServerEnd) → AllFit sessions → slice_get sessions t ≡ Some session → session.server ≡ o → FitsIn o
 fits_at sessions t session o all there is = subst FitsIn is (at (λ (x : Session). FitsIn x.server) sessions t session all there)
 
-to_server_next : EachTurnFits → (set : Setting) (w : Net) (d : Delivery) (told : Told) (o : Option ServerEnd) → d.session.server ≡ o → slice_get w.sessions d.place ≡ Some d.session
+to_server_next : EachTurnFits → (set : Setting) (w : Net) (d : Delivery) (told : ToldEvent) (o : Option ServerEnd) → d.session.server ≡ o → slice_get w.sessions d.place ≡ Some d.session
     → HomeNext set w (to_server set w d told o) told.notes
 to_server_next law set w d told None is there = still set w told.notes
 to_server_next law set w d told (Some s) is there =
@@ -285,14 +285,14 @@ peer_next set w v notes t session changed there now homes server =
       moves = λ h m sub place placed. peer_moves set w v notes t session changed there now alike homes server m sub place;
     }
 
-to_peer_next : (set : Setting) (w : Net) (d : Delivery) (told : Told) (o : Option Subscription) → slice_get w.sessions d.place ≡ Some d.session → HomeNext set w (to_peer set w d told o) told.notes
+to_peer_next : (set : Setting) (w : Net) (d : Delivery) (told : ToldEvent) (o : Option Subscription) → slice_get w.sessions d.place ≡ Some d.session → HomeNext set w (to_peer set w d told o) told.notes
 to_peer_next set w d told None there = still set w told.notes
 to_peer_next set w d told (Some device) there =
     let turn = peer_turn set device (keeps_at w d.session.device) d.session told in
     peer_next set w (to_peer set w d told (Some device)) told.notes d.place d.session
     (record d.session { peer = turn.0; peer_keys = keys_won d.session.peer_keys turn.1.step }) there refl refl refl
 
-server_delivered : EachTurnFits → (set : Setting) (w : Net) (told : Told) (packet : ℕ) (o : Option ℕ) → HomeNext set w (delivered set w end.Server told (delivery_at w packet o)) told.notes
+server_delivered : EachTurnFits → (set : Setting) (w : Net) (told : ToldEvent) (packet : ℕ) (o : Option ℕ) → HomeNext set w (delivered set w end.Server told (delivery_at w packet o)) told.notes
 server_delivered law set w told packet None = still set w told.notes
 server_delivered law set w told packet (Some place) = by (slice_get w.sessions place) (packet_at w.packets packet) refl
   where
@@ -302,7 +302,7 @@ server_delivered law set w told packet (Some place) = by (slice_get w.sessions p
     by None (Some sent) e = still set w told.notes
     by None None e = still set w told.notes
 
-peer_delivered : (set : Setting) (w : Net) (told : Told) (packet : ℕ) (o : Option ℕ) → HomeNext set w (delivered set w end.Peer told (delivery_at w packet o)) told.notes
+peer_delivered : (set : Setting) (w : Net) (told : ToldEvent) (packet : ℕ) (o : Option ℕ) → HomeNext set w (delivered set w end.Peer told (delivery_at w packet o)) told.notes
 peer_delivered set w told packet None = still set w told.notes
 peer_delivered set w told packet (Some place) = by (slice_get w.sessions place) (packet_at w.packets packet) refl
   where
@@ -395,7 +395,7 @@ copy_next set w notes copy = record {
     copy_places m place zero = refl
     copy_places m place (suc i) = refl
 
-moved_next : EachTurnFits → (set : Setting) (w : Net) (e : Event) (told : Told) → HomeNext set w (moved set w e told) told.notes
+moved_next : EachTurnFits → (set : Setting) (w : Net) (e : Event) (told : ToldEvent) → HomeNext set w (moved set w e told) told.notes
 moved_next law set w (event.Open opening) told =
     opened_next set w told.notes opening (session_place w.sessions opening.session) (device_place set.rows w.devices opening.sub)
 moved_next law set w (event.Start session) told = session_next set w told.notes session (λ t s. start w t s s.server) (λ t s there. start_next set w told.notes t s s.server refl there)
@@ -406,7 +406,7 @@ moved_next law set w (event.GiveUp session at') told = session_next set w told.n
 moved_next law set w (event.Tamper packet place byte) told = copy_next set w told.notes (changed_in w.packets (event.Tamper packet place byte))
 moved_next law set w (event.Cut packet count) told = copy_next set w told.notes (changed_in w.packets (event.Cut packet count))
 
-event_next : EachTurnFits → (set : Setting) (w : Net) (e : Event) (told : Told) → HomeNext set w (happened set w e told) told.notes
+event_next : EachTurnFits → (set : Setting) (w : Net) (e : Event) (told : ToldEvent) → HomeNext set w (happened set w e told) told.notes
 event_next law set w e told = let n = moved_next law set w e told in record { alike = n.alike; fits = n.fits; moves = n.moves }
 
 -- ---- runs

@@ -23,7 +23,7 @@ use Rattle.auc_peer.specs.Messages.{client_error}
 use Rattle.auc_peer.specs.Rows.{peer_row, waiting}
 use Rattle.auc_peer.specs.Subscription.{Subscription}
 use Rattle.auc_peer.specs.Table.{by_counter, client, context_of, counter_bytes, counter_noted, disclosed, kept_by, noted, own_code, peer_does, peer_step, reauthenticated, resumed_by, resuming, small, taken, with_inner}
-use Rattle.auc_peer.specs.Told.{Told}
+use Rattle.auc_peer.specs.Told.{ToldSession}
 use Rattle.auc_peer.specs.declared.decrypted.Decrypted.{Decrypted}
 use Rattle.auc_peer.specs.declared.decrypted.Decrypted.TheVariants as decrypted
 use Rattle.auc_peer.specs.declared.peer.Peer.{Peer}
@@ -154,7 +154,7 @@ request_may laws m realm id iv r packets real sized nonce name block =
     (is_small laws.may_be_hidden r.context.k_encr iv (reauth_in realm r) sized.k_encr block (reauth_encryptable realm r real.short real.bytes nonce.size nonce.bytes name)) (checkcode_hash m packets)
 
 -- its row
-sound_row : (o : Told) (m : Method) (realm : List ℕ) (id : ℕ) (iv : List ℕ) (r : Resumed) (check mac : List ℕ)
+sound_row : (o : ToldSession) (m : Method) (realm : List ℕ) (id : ℕ) (iv : List ℕ) (r : Resumed) (check mac : List ℕ)
     → waiting (record o { method = m }) (reading.Read (with_mac (reauth_draft m realm id iv r check) mac)) ≡ peer_rows.Reauthentication
 sound_row o method.Aka realm id iv r check mac = refl
 sound_row o method.Prime realm id iv r check mac = refl
@@ -338,7 +338,7 @@ challenges_anyway set opening number s home keeps id next of r =
     let z = (client q seen cause None checked).0 in
     let answer = packet_text (client_error q.options.method (id_of seen)) in
     let answer_is : answer ≡ packet_text (client_error m id) =
-    ap (λ (x : Told). packet_text (client_error x.method (id_of seen))) (same ∙ r.waits.options_are) ∙ ap (λ (i : ℕ). packet_text (client_error m i)) (ap id_in is.head) in
+    ap (λ (x : ToldSession). packet_text (client_error x.method (id_of seen))) (same ∙ r.waits.options_are) ∙ ap (λ (i : ℕ). packet_text (client_error m i)) (ap id_in is.head) in
     let way = peer_sends set Again number (with_ends s r.q r.p) device keeps bytes 1 1 next took z (noted None) answer checked quiet_notes (ap (λ (x : PeerRow). kept_by x r.p None keeps) row_is) (turn_is ∙ refused) (omega arith) in
     absurd (error_ends set opening number s home keeps id next r.q z r.text r.packets r.r of.laws r.awaits
     (subst (λ (b : List ℕ). OnWay set Again number end.Server (with_ends s r.q z) device keeps b 1 next) answer_is way)))

@@ -19,7 +19,7 @@ use Rattle.auc_peer.specs.Messages.{response_bytes, sync_failure}
 use Rattle.auc_peer.specs.Rows.{ended_by, is_last, peer_row, repeats, row_headed, row_in}
 use Rattle.auc_peer.specs.Subscription.{Subscription}
 use Rattle.auc_peer.specs.Table.{accepted, accepting, by_answer, client, context_from, genuine, in_state, keys_at, keys_for, master_at, network_of, noted, opened, own_code, peer_does, peer_step, succeeded, text_or_none, with_inner, with_next}
-use Rattle.auc_peer.specs.Told.{Told}
+use Rattle.auc_peer.specs.Told.{ToldSession}
 use Rattle.auc_peer.specs.Turn.{Decrypts, Decryption, decryption_by, decryption_noted, decryption_under}
 use Rattle.auc_peer.specs.declared.decrypted.Decrypted.{Decrypted}
 use Rattle.auc_peer.specs.declared.decrypted.Decrypted.TheVariants as decrypted
@@ -77,7 +77,7 @@ sends_sync key opening device keeps p seen text packets id rand autn sqn inner w
     ) in
     record {
       z = (sends id opening.method).0;
-      turn_is = ap (λ (r : Row). peer_does key device keeps p seen r note inner) row_is ∙ ap (λ (i : ℕ). sends i p.options.method) (ap id_in head) ∙ ap (λ (x : Told). sends id x.method) w.options_are;
+      turn_is = ap (λ (r : Row). peer_does key device keeps p seen r note inner) row_is ∙ ap (λ (i : ℕ). sends i p.options.method) (ap id_in head) ∙ ap (λ (x : ToldSession). sends id x.method) w.options_are;
       waits = λ later differ. record {
         options_are = w.options_are;
         waiting_is = refl;
@@ -136,7 +136,7 @@ keys_found opening device p seen text packets id realm rand autn given mac keys 
     let code = server_code m packets in
     let hidden = attrs_given realm keys.k_encr given in
     let list = list_with m opening.name opening.bidding rand autn hidden code mac in
-    ap (λ (x : Told). keys_for x.method (network_of x.method (attrs_in seen.reading)) c (text_or_none p.identity) ik ck) h.waits.options_are
+    ap (λ (x : ToldSession). keys_for x.method (network_of x.method (attrs_in seen.reading)) c (text_or_none p.identity) ik ck) h.waits.options_are
     ∙ ap (λ (r : Reading). keys_for m (network_of m (attrs_in r)) c (text_or_none p.identity) ik ck) h.is.packet_is
     ∙ ap (λ (o : Option (List ℕ)). keys_for m (network_of m list) c (text_or_none o) ik ck) h.waits.identity_is
     ∙ keys_taken m opening.name opening.bidding hidden code mac c text ik ck ∙ h.keys_are
@@ -150,7 +150,7 @@ code_found opening device p seen text packets id realm rand autn given mac keys 
 
 pub own_is : (opening : SessionLine) (p : Peer) (text : List ℕ) (packets : List (List ℕ)) (id : ℕ) → Waits opening p text packets id → own_code p ≡ server_code opening.method packets
 own_is opening p text packets id w =
-    ap (λ (x : Told). value_bytes (code_of x.method p.packets)) w.options_are ∙ ap (λ (l : List (List ℕ)). value_bytes (code_of opening.method l)) w.packets_are
+    ap (λ (x : ToldSession). value_bytes (code_of x.method p.packets)) w.options_are ∙ ap (λ (l : List (List ℕ)). value_bytes (code_of opening.method l)) w.packets_are
     ∙ checkcode_is opening.method packets
 
 pub same_code : (code : List ℕ) → differs code (Some code) ≡ false
@@ -169,7 +169,7 @@ opens laws opening device p seen text packets id realm rand autn given mac keys 
     let by : Bool → Option Decryption = λ b. if b then None else Some (record { k_encr = keys.k_encr; list = attrs_in seen.reading }) in
     let decryption : decryption_noted device p seen (Some c) (Some (usim.Accepted sqn)) ≡ Some (record { k_encr = keys.k_encr; list = list }) =
     ap (decryption_by p seen c) (acceptance_is device.secret rand autn) ∙ ap (decryption_under p seen) own
-    ∙ ap (λ (x : Told). if not (is_sealed x.method keys.k_aut [] seen) then None else by (differs (own_code p) (checkcode seen))) h.waits.options_are
+    ∙ ap (λ (x : ToldSession). if not (is_sealed x.method keys.k_aut [] seen) then None else by (differs (own_code p) (checkcode seen))) h.waits.options_are
     ∙ ap (λ (b : Bool). if not b then None else by (differs (own_code p) (checkcode seen))) h.right
     ∙ ap (λ (l : List ℕ). by (differs l (checkcode seen))) (own_is opening p text packets id h.waits)
     ∙ ap (λ (o : Option (List ℕ)). by (differs code o)) (code_found opening device p seen text packets id realm rand autn given mac keys h)
@@ -210,7 +210,7 @@ responds laws key opening device keeps p seen text packets id realm rand autn gi
       turn_is = ap (λ (r : Row). peer_does key device keeps p seen r (Some (usim.Accepted sqn)) inner) (challenged_row opening device p seen text packets id realm rand autn given mac keys h)
           ∙ ap (λ (a : Answer). by_answer p seen c a inner) accepts
           ∙ ap (λ (x : KeySet). accepted p seen c res taken_sqn x master inner) own
-          ∙ ap (λ (x : Told). if not (is_sealed x.method keys.k_aut [] seen) then client p seen why.WrongMac note false else genuine taking seen res taken_sqn keys master inner) h.waits.options_are
+          ∙ ap (λ (x : ToldSession). if not (is_sealed x.method keys.k_aut [] seen) then client p seen why.WrongMac note false else genuine taking seen res taken_sqn keys master inner) h.waits.options_are
           ∙ ap (λ (b : Bool). if not b then client p seen why.WrongMac note false else genuine taking seen res taken_sqn keys master inner) h.right
           ∙ ap (λ (l : List ℕ). tested (differs l (checkcode seen))) mine
           ∙ ap (λ (o : Option (List ℕ)). tested (differs code o)) found
@@ -219,7 +219,7 @@ responds laws key opening device keeps p seen text packets id realm rand autn gi
           ∙ ap (λ (i : ℕ). sends i (checkcode seen) (own_code p) p.options.method) (ap id_in h.is.head)
           ∙ ap (λ (o : Option (List ℕ)). sends id o (own_code p) p.options.method) found
           ∙ ap (λ (l : List ℕ). sends id (Some code) l p.options.method) mine
-          ∙ ap (λ (x : Told). sends id (Some code) code x.method) h.waits.options_are;
+          ∙ ap (λ (x : ToldSession). sends id (Some code) code x.method) h.waits.options_are;
       answered_is = refl;
       last_id = eq-eqb id id refl;
       new = λ bytes success. unlike bytes seen.bytes 0 (λ same. no_request (sym success ∙ same ∙ h.first));

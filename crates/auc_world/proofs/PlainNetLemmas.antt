@@ -33,7 +33,7 @@ use Rattle.auc_world.proofs.PlainToldLemmas.{IsQuiet, IsSizedAt, IsSpared, Stage
 use Rattle.auc_world.specs.Came.{AreReceived, Presented, RepliesAt, RepliesIn, TellsNotes, asked_sub, asking_at, asking_in, by_peer, by_server, came, came_at_peer, came_at_server, came_delivered, came_in, came_started, packet_number, presented_at, presented_in, received_at, received_by, session_at, session_of, vector_sent}
 use Rattle.auc_record.specs.Event.{Came}
 use Rattle.auc_world.specs.Given.{Before, IsCentreAsked, IsUsimAsked, PlainGives, RelayGives, UsimNotes, behind, packet_of, past_before}
-use Rattle.auc_world.specs.Happened.{Delivery, Told, at_place, delivered, delivery_at, delivery_in, delivery_of, in_session, kept_after, keys_won, moved, peer_turn, drawn_in_turn, sent_by, start, to_peer, to_server, with_peer, with_server}
+use Rattle.auc_world.specs.Happened.{Delivery, ToldEvent, at_place, delivered, delivery_at, delivery_in, delivery_of, in_session, kept_after, keys_won, moved, peer_turn, drawn_in_turn, sent_by, start, to_peer, to_server, with_peer, with_server}
 use Rattle.auc_world.specs.Net.{Net, inputs_of_peer, inputs_of_server, keeps_at, keeps_or, packet_at, posted, session_place}
 use Rattle.auc_world.specs.Plain.{sqn_reported}
 use Rattle.auc_record.specs.declared.event.Event.{Event}
@@ -154,7 +154,7 @@ peer_new s turn = record s { peer = turn.0; peer_keys = keys_won s.peer_keys tur
 -- a peer received a packet: what it received it as, what its USIM answered, what the line tells and which lines are left, and
 -- what comes of its turn, if the lines that are left tell something at a stage
 pub record PeerTook (set : Setting) (stage : Stage) (number : ℕ) (s : Session) (device : Subscription) (keeps : Keeps) (bytes : List ℕ) (syncs : ℕ) (next : Net) : Type 0 where
-  pub told : Told
+  pub told : ToldEvent
   pub received : IsReceived told.seen
   pub are : told.seen.bytes ≡ bytes
   pub row : Row
@@ -283,7 +283,7 @@ server_new s q = record s { server = Some q }
 -- a server received a packet: what it received it as, what it made of a reply, what the centre answered, what the line tells and
 -- which lines are left, and what comes of its turn
 pub record ServerTook (set : Setting) (stage : Stage) (number : ℕ) (s : Session) (device : Subscription) (keeps : Keeps) (bytes : List ℕ) (q : ServerEnd) (syncs : ℕ) (next : Net) : Type 0 where
-  pub told : Told
+  pub told : ToldEvent
   pub received : IsReceived told.seen
   pub are : told.seen.bytes ≡ bytes
   pub homes : List HomeRow

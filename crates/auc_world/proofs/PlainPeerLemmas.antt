@@ -20,7 +20,7 @@ use Rattle.auc_peer.specs.Messages.{identified as identity_answer, identity_resp
 use Rattle.auc_peer.specs.Rows.{of_kind, peer_row, repeats, row_headed, row_in, waiting}
 use Rattle.auc_peer.specs.Subscription.{Subscription}
 use Rattle.auc_peer.specs.Table.{new_peer, noted, peer_does, peer_step}
-use Rattle.auc_peer.specs.Told.{Told}
+use Rattle.auc_peer.specs.Told.{ToldSession}
 use Rattle.auc_peer.specs.declared.decrypted.Decrypted.{Decrypted}
 use Rattle.auc_peer.specs.declared.identity.FirstIdentity.{FirstIdentity}
 use Rattle.auc_peer.specs.declared.peer.Challenge.{Challenge}
@@ -72,7 +72,7 @@ pub record SendsIdentity (opening : SessionLine) (text : List ℕ) (packets : Li
   pub turn_is : turn ≡ (z, record { notes = noted None; step = step.Sent bytes; checked = false })
   pub waits : WaitsOn opening z text packets id
 
-pub first_row : (o : Told) (seen : Seen) (id : ℕ) → Is seen (identity_request id) → peer_row (new_peer o) seen ≡ row.First
+pub first_row : (o : ToldSession) (seen : Seen) (id : ℕ) → Is seen (identity_request id) → peer_row (new_peer o) seen ≡ row.First
 first_row o seen id is = ap (row_headed o state.Waiting None seen) is.head ∙ ap (waiting o) is.packet_is
 
 pub identifies : (key : List ℕ) (opening : SessionLine) (device : Subscription) (keeps : Keeps) (seen : Seen) (n : Option UsimNote) (inner : Decrypted) (id : ℕ) → Is seen (identity_request id)
@@ -115,13 +115,13 @@ pub awaited : (opening : SessionLine) (p : Peer) (seen : Seen) (text : List ℕ)
 awaited opening p seen text packets id w head second =
     let m = opening.method in
     let o = peer_options opening in
-    ap (λ (x : Told). row_in x p.state p.last seen) w.options_are ∙ ap (λ (s : PeerState). row_in o s p.last seen) w.waiting_is ∙ ap (row_headed o state.Waiting p.last seen) head
+    ap (λ (x : ToldSession). row_in x p.state p.last seen) w.options_are ∙ ap (λ (s : PeerState). row_in o s p.last seen) w.waiting_is ∙ ap (row_headed o state.Waiting p.last seen) head
     ∙ ap (λ (b : Bool). if b then row.Again else of_kind o state.Waiting p.last seen (head_as 1 id (Some (method_type m))) (Some (method_type m))) (w.new seen.bytes second)
     ∙ ap (λ (b : Bool). if not b then row.Ignore reason.OtherType else waiting o seen.reading) (own_kind m)
 
 -- ---- an AKA-Identity request
 
-asks_for : (o : Told) (m : Method) (id : ℕ) (kind : IdentityRequest) → waiting o (reading.Read (aka_identity m id kind)) ≡ row.Identity kind
+asks_for : (o : ToldSession) (m : Method) (id : ℕ) (kind : IdentityRequest) → waiting o (reading.Read (aka_identity m id kind)) ≡ row.Identity kind
 asks_for o m id request.Any = refl
 asks_for o m id request.Fullauth = refl
 asks_for o m id request.Permanent = refl
@@ -160,7 +160,7 @@ identifies_again key opening device keeps p seen n inner text packets id kind ma
     record {
       z = (sends m id).0;
       turn_is = ap (λ (r : Row). peer_does key device keeps p seen r n inner) (identity_row opening p seen text packets id kind w is e)
-          ∙ ap (λ (i : ℕ). sends p.options.method i) (ap id_in is.head) ∙ ap (λ (x : Told). sends x.method id) w.options_are;
+          ∙ ap (λ (i : ℕ). sends p.options.method i) (ap id_in is.head) ∙ ap (λ (x : ToldSession). sends x.method id) w.options_are;
       waits = λ later differ. record {
         options_are = w.options_are;
         waiting_is = refl;

@@ -53,7 +53,7 @@ use Rattle.auc_world.proofs.PlainTakenLemmas.{Renews}
 use Rattle.auc_world.proofs.PlainToldLemmas.{Free, IsQuiet}
 use Rattle.auc_world.proofs.PlainWalkLemmas.{EndsSo, IsSettled, at_end, ends_here, ends_so, settled_stays, turn_ends}
 use Rattle.auc_world.specs.Agreement.{IsRealm}
-use Rattle.auc_world.specs.Happened.{Told, first_of, peer_options, sent_by, server_options}
+use Rattle.auc_world.specs.Happened.{ToldEvent, first_of, peer_options, sent_by, server_options}
 use Rattle.auc_world.specs.Net.{Net}
 use Rattle.auc_world.specs.Plain.{EachResumedSessionSucceeds, HasResumed, HasSameContext, sqn_reported}
 use Rattle.auc_world.specs.declared.net.Session.{Session}
@@ -230,7 +230,7 @@ module _ (set : Setting) (opening : SessionLine) (number : ℕ) (s : Session) (d
     abbrev took : ServerTook set Free number (with_ends s q p) device keeps bytes q 1 next
     took = server_takes set Free number (with_ends s q p) device keeps bytes q 1 next refl way
 
-    abbrev told : Told
+    abbrev told : ToldEvent
     told = took.told
 
     abbrev does : Row → ServerEnd × Turn ServerWhy

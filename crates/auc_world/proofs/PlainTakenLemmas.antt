@@ -20,7 +20,7 @@ use Rattle.auc_peer.specs.Messages.{reauth_bytes as reply_bytes}
 use Rattle.auc_peer.specs.Rows.{is_last, peer_row, repeats}
 use Rattle.auc_peer.specs.Subscription.{Subscription}
 use Rattle.auc_peer.specs.Table.{by_counter, client, context_named, context_of, counter_bytes, disclosed, own_code, peer_does, peer_step, reauthenticated, resumed_by, resuming, small, sound, taken, text_or_none, with_inner}
-use Rattle.auc_peer.specs.Told.{Told}
+use Rattle.auc_peer.specs.Told.{ToldSession}
 use Rattle.auc_peer.specs.Turn.{Decryption, Decrypts, IsInner, decryption_made, decryption_resumed}
 use Rattle.auc_peer.specs.declared.decrypted.Decrypted.{Decrypted}
 use Rattle.auc_peer.specs.declared.decrypted.Decrypted.TheVariants as decrypted
@@ -109,7 +109,7 @@ module _ (opening : SessionLine) (keeps : Keeps) (p : Peer) (seen : Seen) (text 
   context_is : context_of keeps p ≡ Some own
   context_is =
       ap (λ (o : Option (List ℕ)). context_named o (entry p.options.method keeps.contexts)) h.waits.identity_is
-      ∙ ap (λ (x : Told). if_named (username text) (entry x.method keeps.contexts)) h.waits.options_are
+      ∙ ap (λ (x : ToldSession). if_named (username text) (entry x.method keeps.contexts)) h.waits.options_are
       ∙ ap (if_named (username text)) h.same.has
       ∙ ap (λ (b : Bool). if b then Some own else None) ((bytes_eq-Decides own.identity (username text)).1 (h.same.identity ∙ h.named))
 
@@ -118,7 +118,7 @@ module _ (opening : SessionLine) (keeps : Keeps) (p : Peer) (seen : Seen) (text 
 
   sealed_is : is_sealed p.options.method own.k_aut [] seen ≡ true
   sealed_is =
-      ap (λ (x : Told). is_sealed x.method own.k_aut [] seen) h.waits.options_are ∙ ap (λ (k : List ℕ). is_sealed opening.method k [] seen) h.same.k_aut ∙ h.right
+      ap (λ (x : ToldSession). is_sealed x.method own.k_aut [] seen) h.waits.options_are ∙ ap (λ (k : List ℕ). is_sealed opening.method k [] seen) h.same.k_aut ∙ h.right
 
   code_is : own_code p ≡ code
   code_is = own_is opening p text packets id h.waits
@@ -143,7 +143,7 @@ module _ (opening : SessionLine) (keeps : Keeps) (p : Peer) (seen : Seen) (text 
 
   open_is : is_open r.context.counter (entry p.options.method keeps.contexts) ≡ true
   open_is =
-      ap (λ (x : Told). is_open r.context.counter (entry x.method keeps.contexts)) h.waits.options_are ∙ ap (is_open r.context.counter) h.same.has
+      ap (λ (x : ToldSession). is_open r.context.counter (entry x.method keeps.contexts)) h.waits.options_are ∙ ap (is_open r.context.counter) h.same.has
       ∙ ap (λ (n : ℕ). nat_le n r.context.counter) h.same.counter ∙ itself_open r.context.counter
 
   -- the counter is accepted
@@ -184,7 +184,7 @@ module _ (opening : SessionLine) (keeps : Keeps) (p : Peer) (seen : Seen) (text 
   response_is key inner =
       let bytes : Method → ℕ → List ℕ → List ℕ → Option (List ℕ) → List ℕ → List ℕ =
       λ m i e a o l. reply_bytes m i e a (iv_of key) r.nonce r.context.counter false (is_there o) l in
-      ap (λ (x : Told). bytes x.method (id_of seen) own.k_encr own.k_aut (code_in seen) (own_code p)) h.waits.options_are
+      ap (λ (x : ToldSession). bytes x.method (id_of seen) own.k_encr own.k_aut (code_in seen) (own_code p)) h.waits.options_are
       ∙ ap (λ (i : ℕ). bytes opening.method i own.k_encr own.k_aut (code_in seen) (own_code p)) id_is
       ∙ ap (λ (k : List ℕ). bytes opening.method id k own.k_aut (code_in seen) (own_code p)) h.same.k_encr
       ∙ ap (λ (k : List ℕ). bytes opening.method id r.context.k_encr k (code_in seen) (own_code p)) h.same.k_aut

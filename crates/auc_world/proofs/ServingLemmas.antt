@@ -21,7 +21,7 @@ use Rattle.auc_server.specs.Laws.{Fits}
 use Rattle.auc_server.specs.declared.reply.Reply.TheVariants as replies
 use Rattle.auc_server.specs.declared.setting.HomeRow.{HomeRow}
 use Rattle.auc_vector.specs.declared.why.ServerWhy.{ServerWhy}
-use Rattle.auc_vector.specs.Notes.{Asked, Asking}
+use Rattle.auc_vector.specs.Notes.{AskedCentre, Asking}
 use Rattle.auc_vector.specs.declared.notes.Notes.{Notes}
 use Rattle.auc_vector.specs.declared.notes.NumberNote.{NumberNote}
 use Rattle.auc_vector.specs.declared.notes.NumberNote.TheVariants as number
@@ -31,8 +31,8 @@ use Rattle.auc_world.proofs.ActingLemmas.{numbered}
 use Rattle.auc_world.proofs.HomeLemmas.{asked_same}
 use Rattle.auc_world.specs.Came.{AreReceived, AsksAt, RepliesAt, asked_sub, asking_at, by_server, came_at_server, packet_number, received_by, vector_sent}
 use Rattle.auc_record.specs.Event.{Came}
-use Rattle.auc_world.specs.Happened.{Delivery, Told, breach_at, delivery_at, drawn_in_turn, sent_by, server_finds, to_server, with_server}
-use Rattle.auc_world.specs.InnerWorld.{Serves, number_after, refusal_of, released_for, state_of}
+use Rattle.auc_world.specs.Happened.{Delivery, ToldEvent, breach_at, delivery_at, drawn_in_turn, sent_by, server_finds, to_server, with_server}
+use Rattle.auc_world.specs.InnerWorld.{ServesPacket, number_after, refusal_of, released_for, state_of}
 use Rattle.auc_world.specs.Net.{Net, inputs_of_server, judged, packet_at, posted}
 use Rattle.auc_world.specs.World.{AreOfSame, WorldState}
 use Rattle.auc_record.specs.declared.event.Note.{Note}
@@ -44,7 +44,7 @@ use Rattle.auc_world.specs.declared.net.SentPacket.{SentPacket}
 use Rattle.auc_world.specs.declared.net.Session.{Session}
 
 -- what is told where nothing was received
-abbrev pub nothing_told : Told
+abbrev pub nothing_told : ToldEvent
 nothing_told = record { seen = record { bytes = []; reading = reading.Fault refusal.Short; place = None }; notes = silent; inner = decrypted.Unreadable; reply = replies.Wrong }
 
 -- without a finding the breach stays
@@ -121,8 +121,8 @@ module _ {S : Type 0} (goes : S → ℕ → List Entry → List (ℕ × Stop) �
 
   -- the server hasn't started
   pub serves_nobody : (before : S) → ((a : S) (i : ℕ) → goes a i [] [] a) → session.server ≡ None
-      → (new : WorldState) → new ≡ old → Serves goes kept top set old d0 before new (Err refused.NoSuchEnd) before
-  serves_nobody before stays none new same = subst (λ (w : WorldState). Serves goes kept top set old d0 before w (Err refused.NoSuchEnd) before) (sym same) (record {
+      → (new : WorldState) → new ≡ old → ServesPacket goes kept top set old d0 before new (Err refused.NoSuchEnd) before
+  serves_nobody before stays none new same = subst (λ (w : WorldState). ServesPacket goes kept top set old d0 before w (Err refused.NoSuchEnd) before) (sym same) (record {
     told = nothing_told;
     is = ap (came_at_server set old.net nothing_told) (sym none);
     leads = (λ j. record old.net { broken = unjudged packets broken j })
@@ -130,18 +130,18 @@ module _ {S : Type 0} (goes : S → ℕ → List Entry → List (ℕ × Stop) �
     received = subst (λ (s : Option ServerEnd). AreReceived (received_by sent_packet.bytes s) nothing_told.seen) (sym none) tt;
     notes = tt;
     replies = subst (RepliesAt nothing_told) (sym none) tt;
-    centre = subst (λ (s : Option ServerEnd). Asked goes kept top (asking_at set old.net nothing_told s) nothing_told.notes before before) (sym none) ((λ i. stays before i), (λ i. refl));
+    centre = subst (λ (s : Option ServerEnd). AskedCentre goes kept top (asking_at set old.net nothing_told s) nothing_told.notes before before) (sym none) ((λ i. stays before i), (λ i. refl));
     drawn = subst (AsksAt set old.net nothing_told) (sym none) tt;
     devices = refl;
   })
 
-  reported_of : (a : Option Asking) (notes : Notes) (before after : S) → Asked goes kept top a notes before after → IsReported a notes
+  reported_of : (a : Option Asking) (notes : Notes) (before after : S) → AskedCentre goes kept top a notes before after → IsReported a notes
   reported_of None notes before after asked = tt
   reported_of (Some request) notes before after asked = (kept before request.sub, asked.resynced)
 
   module _ (s new : ServerEnd) (turn : Turn ServerWhy) (before after : S) (bytes : List ℕ) (is : session.server ≡ Some s) (of_packet : bytes ≡ sent_packet.bytes)
       (later : List HomeRow) (steps : Steps goes kept top set homes s bytes before new turn later after) (alike : AreOfSame homes later) (fits : Fits s) where
-    abbrev told : Told
+    abbrev told : ToldEvent
     told = record { seen = steps.seen; notes = turn.notes; inner = decrypted.Unreadable; reply = steps.reply }
 
     abbrev asks : Option Asking
@@ -171,7 +171,7 @@ module _ {S : Type 0} (goes : S → ℕ → List Entry → List (ℕ × Stop) �
         → sessions' ≡ slice_set sessions place (record session { server = Some new })
         → (vector : Option Vector) → vector ≡ vector_sent turn.notes.number (challenged_of new)
         → (note : Note) → note ≡ record { notes = turn.notes; step = did.Server turn.step; packet = posted_as; asked = asked; device = None; vector = vector }
-        → Serves goes kept top set old d0 before (state_of packets' sessions' released' homes' broken' devices) (Ok note) after
+        → ServesPacket goes kept top set old d0 before (state_of packets' sessions' released' homes' broken' devices) (Ok note) after
     serves read looked packets' sessions' noted released' served homes' broken' inputs inputs_before sent asked posted_as is_read is_looked is_noted is_served is_homes is_before is_inputs is_sent is_packets is_posted is_asked is_released is_broken is_sessions vector is_vector note is_note =
         let for_whom : asked ≡ asked_sub asks = is_asked ∙ ap (λ (h : List HomeRow). asked_after set h new turn.notes.resync turn.notes.number) is_served
         ∙ asked_same set homes later new turn.notes.resync turn.notes.number alike ∙ asked_for in
@@ -200,15 +200,15 @@ module _ {S : Type 0} (goes : S → ℕ → List Entry → List (ℕ × Stop) �
           received = subst (λ (o : Option ServerEnd). AreReceived (received_by sent_packet.bytes o) steps.seen) (sym is) (steps.received, steps.of ∙ of_packet);
           notes = sym (ap (λ (n : Note). n.notes) is_note);
           replies = subst (RepliesAt told) (sym is) steps.replies;
-          centre = subst (λ (o : Option ServerEnd). Asked goes kept top (asking_at set old.net told o) turn.notes before after) (sym is) steps.asked;
+          centre = subst (λ (o : Option ServerEnd). AskedCentre goes kept top (asking_at set old.net told o) turn.notes before after) (sym is) steps.asked;
           drawn = subst (AsksAt set old.net told) (sym is) steps.drawn;
           devices = refl;
         }
 
   -- the same of the network as it is seen
   pub serves_now : slice_get sessions place ≡ Some session → packet_at packets packet ≡ Some sent_packet → (now : WorldState) → old ≡ now
-      → (new : WorldState) (before after : S) (came : Came) → Serves goes kept top set old d0 before new came after
-      → (d : Delivery) → delivery_at now.net packet (Some place) ≡ Some d → Serves goes kept top set now d before new came after
+      → (new : WorldState) (before after : S) (came : Came) → ServesPacket goes kept top set old d0 before new came after
+      → (d : Delivery) → delivery_at now.net packet (Some place) ≡ Some d → ServesPacket goes kept top set now d before new came after
   serves_now there here now is new before after came served =
-      subst (λ (w : WorldState). (d : Delivery) → delivery_at w.net packet (Some place) ≡ Some d → Serves goes kept top set w d before new came after) is
-      (λ d found. subst (λ (e : Delivery). Serves goes kept top set old e before new came after) (is_delivery old.net place packet session sent_packet d there here found) served)
+      subst (λ (w : WorldState). (d : Delivery) → delivery_at w.net packet (Some place) ≡ Some d → ServesPacket goes kept top set w d before new came after) is
+      (λ d found. subst (λ (e : Delivery). ServesPacket goes kept top set old e before new came after) (is_delivery old.net place packet session sent_packet d there here found) served)

@@ -2,7 +2,7 @@
 use Rattle.std.proofs.Common.{◌≡◌, ℕ, suc, List, [], ◌∷◌, ◌++◌, Some, refl, sym, ap, ◌∙◌, subst, append-nil, append_assoc, eq-eqb}
 use Rattle.std.specs.Prelude.{if◌then◌else◌}
 use Rattle.auc_lines.specs.declared.sites.SiteEvent.{SiteEvent}
-use Rattle.auc_sites.specs.Network.{Network, Turn, after_event, after_turns}
+use Rattle.auc_sites.specs.Network.{Network, SitesTurn, after_event, after_turns}
 use Rattle.auc_vector.specs.declared.centre.CentreRefusal.{CentreRefusal}
 use Rattle.auc_vector.specs.declared.centre.CentreRefusal.TheVariants as refusal
 use Rattle.auc_record.specs.Draws.{DrawGives}
@@ -15,19 +15,19 @@ use Rattle.auc_record.specs.declared.record.LineRecord.TheVariants.{Vector, With
 -- ---- one event more
 
 -- the network after one turn more
-pub turns_append : (w : Network) (turns : List Turn) (turn : Turn) → after_turns w (turns ++ turn ∷ []) ≡ after_event (after_turns w turns) turn.event turn.numbers turn.end
+pub turns_append : (w : Network) (turns : List SitesTurn) (turn : SitesTurn) → after_turns w (turns ++ turn ∷ []) ≡ after_event (after_turns w turns) turn.event turn.numbers turn.end
 turns_append w [] turn = refl
 turns_append w (t ∷ turns) turn = turns_append (after_event w t.event t.numbers t.end) turns turn
 
 -- some events, and one more behind them
-pub sites_append : (set : Setting) (sub size : ℕ) (w : Network) (events : List SiteEvent) (lines : List LineRecord) (turns : List Turn) (e : SiteEvent) (own : List LineRecord) (turn : Turn)
+pub sites_append : (set : Setting) (sub size : ℕ) (w : Network) (events : List SiteEvent) (lines : List LineRecord) (turns : List SitesTurn) (e : SiteEvent) (own : List LineRecord) (turn : SitesTurn)
     → SitesGo set sub size w events lines turns → SiteEventGives set sub size (after_turns w turns) e own turn → SitesGo set sub size w (events ++ e ∷ []) (lines ++ own) (turns ++ turn ∷ [])
 sites_append set sub size w [] lines turns e own turn (none, nothing) gives =
-    subst (λ (ts : List Turn). SitesGo set sub size w (e ∷ []) (lines ++ own) (ts ++ turn ∷ [])) (sym nothing) (
+    subst (λ (ts : List SitesTurn). SitesGo set sub size w (e ∷ []) (lines ++ own) (ts ++ turn ∷ [])) (sym nothing) (
       own,
       [],
       ap (λ (ls : List LineRecord). ls ++ own) none ∙ sym (append-nil own),
-      subst (λ (ts : List Turn). SiteEventGives set sub size (after_turns w ts) e own turn) nothing gives,
+      subst (λ (ts : List SitesTurn). SiteEventGives set sub size (after_turns w ts) e own turn) nothing gives,
       (refl, refl),
     )
 sites_append set sub size w (first ∷ events) lines [] e own turn go gives = absurd go

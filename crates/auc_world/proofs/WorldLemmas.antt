@@ -20,7 +20,7 @@ use Rattle.auc_world.proofs.HomeLemmas.{held_alike}
 use Rattle.auc_record.specs.Event.{Came}
 use Rattle.auc_world.specs.Came.{came_in, came_opened, of_opening, session_at, session_of}
 use Rattle.auc_world.specs.Happened.{at_place, at_session, new_session, opened}
-use Rattle.auc_world.specs.InnerWorld.{Acts, AreNumbered, ArePlaced, IsKept, Stands, came_of, device_with, net_of, state_of, with_session}
+use Rattle.auc_world.specs.InnerWorld.{Acts, AreNumbered, ArePlaced, IsKept, SessionStands, came_of, device_with, net_of, state_of, with_session}
 use Rattle.auc_subs.specs.declared.row.Row.{Row}
 use Rattle.auc_world.specs.Net.{Net, device_place, place_with, session_place}
 use Rattle.auc_world.specs.World.{AreOfSame, HasHeld, IsName, WorldState}
@@ -67,7 +67,7 @@ place_by_number numbers sessions number numbered = rw (numbered, first_number se
 -- ---- a network in which one session changes
 
 -- a network in which nothing was posted and the session stays is the same
-pub stays : (w : Net) (place : ℕ) (packets : List SentPacket) (session : Session) → Stands w place packets session → w ≡ with_session w place packets session
+pub stays : (w : Net) (place : ℕ) (packets : List SentPacket) (session : Session) → SessionStands w place packets session → w ≡ with_session w place packets session
 stays w place packets session at' =
     let same : w.sessions ≡ slice_set w.sessions place session = sym (set_same w.sessions place session at'.there) in
     λ j. record w { packets = at'.packets_are j; sessions = same j }
@@ -83,7 +83,7 @@ happens_there w number place session does found there = rw (found, there) refl
 
 module _ (w : Net) (number place : ℕ) (session changed : Session) (sent : List SentPacket) (what : Deed) (came : Came)
     (found : session_place w.sessions number ≡ Some place) (there : slice_get w.sessions place ≡ Some session) (acts : Acts what w.packets session sent changed came) where
-  stands : Stands w place w.packets session
+  stands : SessionStands w place w.packets session
   stands = record { packets_are = refl; there = there }
 
   pub came_there : came ≡ came_in (came_of w what) (session_of w number)

@@ -19,7 +19,7 @@ use Rattle.auc_subs.specs.Subscriber.{AreSubscribers, top_at}
 use Rattle.auc_subs.specs.declared.row.Row.{Row}
 use Rattle.auc_vector.specs.declared.turn.Outcome.TheVariants as outcome
 use Rattle.auc_world.specs.Came.{AreReceived, Presented, bytes_named, presented_by}
-use Rattle.auc_world.specs.Happened.{Told, found, happened}
+use Rattle.auc_world.specs.Happened.{ToldEvent, found, happened}
 use Rattle.auc_world.specs.Net.{Finding, Net, device_place, inputs_of_peer, inputs_of_server, other}
 use Rattle.auc_lines.specs.declared.part.End.{End}
 use Rattle.auc_record.specs.declared.event.Event.{Event}
@@ -37,7 +37,7 @@ use Rattle.auc_world.specs.declared.net.Session.{Session}
 
 -- what befalls a network: an event, or the release of a number outside the sessions
 pub data Happening : Type 0 where
-  Occurs : Event → Told → Happening
+  Occurs : Event → ToldEvent → Happening
   Noted : Number → Happening
 
 abbrev pub after_one : Setting → Net → Happening → Net
@@ -52,12 +52,12 @@ after set w (h ∷ hs) = after set (after_one set w h) hs
 -- ---- what is told
 
 -- the peer that a packet reached has decrypted what was encrypted in it
-abbrev pub DecryptsIn : Told → Option Presented → Type 0
+abbrev pub DecryptsIn : ToldEvent → Option Presented → Type 0
 DecryptsIn told None = Unit {0}
 DecryptsIn told (Some p) = Decrypts p.decryption told.inner
 
 -- what is told of an event is so: what an end received, and what a peer decrypted
-pub record IsTold (w : Net) (e : Event) (told : Told) : Type 0 where
+pub record IsTold (w : Net) (e : Event) (told : ToldEvent) : Type 0 where
   pub received : AreReceived (bytes_named w e) told.seen
   pub decrypts : DecryptsIn told (presented_by w e told)
 

@@ -26,7 +26,7 @@ use Rattle.auc_vector.specs.declared.parts.Vector.{Vector}
 use Rattle.auc_vector.specs.declared.turn.Step.{Step}
 use Rattle.auc_vector.specs.declared.turn.Step.TheVariants as step
 use Rattle.auc_record.specs.Event.{Came}
-use Rattle.auc_world.specs.Happened.{Delivery, Told, changed_in, delivery_in, peer_turn, sent_by, server_turn}
+use Rattle.auc_world.specs.Happened.{Delivery, ToldEvent, changed_in, delivery_in, peer_turn, sent_by, server_turn}
 use Rattle.auc_world.specs.Net.{Net, device_place, keeps_at, packet_at, session_place}
 use Rattle.auc_record.specs.declared.event.Event.{Event}
 use Rattle.auc_record.specs.declared.event.Event.TheVariants as event
@@ -79,23 +79,23 @@ of_opening = record { notes = silent; step = did.Opened; packet = None; asked = 
 -- ---- deliveries
 
 -- whom a server that received something asks the centre for
-abbrev pub asking_at : Setting → Net → Told → Option ServerEnd → Option Asking
+abbrev pub asking_at : Setting → Net → ToldEvent → Option ServerEnd → Option Asking
 asking_at set w told None = None
 asking_at set w told (Some s) = asking (server_row set w.homes s told.seen told.reply)
 
-abbrev pub came_at_server : Setting → Net → Told → Option ServerEnd → Came
+abbrev pub came_at_server : Setting → Net → ToldEvent → Option ServerEnd → Came
 came_at_server set w told None = Err refused.NoSuchEnd
 came_at_server set w told (Some s) =
     let turn = server_turn set w s told in
     Ok (by_server w turn.1.notes turn.1.step (asking_at set w told (Some s)) (vector_sent turn.1.notes.number (challenged_of turn.0)))
 
-abbrev pub came_at_peer : Setting → Net → Delivery → Told → Option Subscription → Came
+abbrev pub came_at_peer : Setting → Net → Delivery → ToldEvent → Option Subscription → Came
 came_at_peer set w d told None = Err refused.NoSuchEnd
 came_at_peer set w d told (Some device) =
     let turn = peer_turn set device (keeps_at w d.session.device) d.session told in Ok (by_peer w turn.1.notes turn.1.step (Some d.session.sub))
 
 -- the packet is looked for before the end
-abbrev pub came_delivered : Setting → Net → End → Told → Option SentPacket → Option Delivery → Came
+abbrev pub came_delivered : Setting → Net → End → ToldEvent → Option SentPacket → Option Delivery → Came
 came_delivered set w at' told None d = Err refused.NoSuchPacket
 came_delivered set w at' told (Some sent) None = Err refused.NoSuchEnd
 came_delivered set w end.Server told (Some sent) (Some d) = came_at_server set w told d.session.server
@@ -157,7 +157,7 @@ came_changed packets (Some sent) (Some bytes) = Ok (by_network packets bytes)
 
 -- ---- an event
 
-abbrev pub came : Setting → Net → Event → Told → Came
+abbrev pub came : Setting → Net → Event → ToldEvent → Came
 came set w (event.Open opening) told = came_opened (session_place w.sessions opening.session) (device_place set.rows w.devices opening.sub)
 came set w (event.Start session) told = came_in (λ s. came_started w s.options s.server) (session_of w session)
 came set w (event.Deliver session at' packet) told = came_delivered set w at' told (packet_at w.packets packet) (delivery_in w session packet)
@@ -191,45 +191,45 @@ AreReceived None seen = Unit {0}
 AreReceived (Some bytes) seen = IsReceived seen × (seen.bytes ≡ bytes)
 
 -- the answers that are told are those of the note
-abbrev pub TellsNotes : Told → Came → Type 0
+abbrev pub TellsNotes : ToldEvent → Came → Type 0
 TellsNotes told (Ok note) = told.notes ≡ note.notes
 TellsNotes told (Err why) = Unit {0}
 
 -- whom the centre is asked for
-abbrev pub asking_in : Setting → Net → End → Told → Option Delivery → Option Asking
+abbrev pub asking_in : Setting → Net → End → ToldEvent → Option Delivery → Option Asking
 asking_in set w at' told None = None
 asking_in set w end.Server told (Some d) = asking_at set w told d.session.server
 asking_in set w end.Peer told (Some d) = None
 
-abbrev pub asking_of : Setting → Net → Event → Told → Option Asking
+abbrev pub asking_of : Setting → Net → Event → ToldEvent → Option Asking
 asking_of set w (event.Deliver session at' packet) told = asking_in set w at' told (delivery_in w session packet)
 asking_of set w other told = None
 
 -- a number is asked for exactly if the server's turn needs one
-abbrev pub AsksAt : Setting → Net → Told → Option ServerEnd → Type 0
+abbrev pub AsksAt : Setting → Net → ToldEvent → Option ServerEnd → Type 0
 AsksAt set w told None = Unit {0}
 AsksAt set w told (Some s) = AsksAsNeeded (server_row set w.homes s told.seen told.reply) told.notes
 
-abbrev pub AsksIn : Setting → Net → End → Told → Option Delivery → Type 0
+abbrev pub AsksIn : Setting → Net → End → ToldEvent → Option Delivery → Type 0
 AsksIn set w at' told None = Unit {0}
 AsksIn set w end.Server told (Some d) = AsksAt set w told d.session.server
 AsksIn set w end.Peer told (Some d) = Unit {0}
 
-abbrev pub AsksWhatItNeeds : Setting → Net → Event → Told → Type 0
+abbrev pub AsksWhatItNeeds : Setting → Net → Event → ToldEvent → Type 0
 AsksWhatItNeeds set w (event.Deliver session at' packet) told = AsksIn set w at' told (delivery_in w session packet)
 AsksWhatItNeeds set w other told = Unit {0}
 
 -- what a server that received something made of the reply to its re-authentication
-abbrev pub RepliesAt : Told → Option ServerEnd → Type 0
+abbrev pub RepliesAt : ToldEvent → Option ServerEnd → Type 0
 RepliesAt told None = Unit {0}
 RepliesAt told (Some s) = Replies s.state told.seen.reading told.reply
 
-abbrev pub RepliesIn : End → Told → Option Delivery → Type 0
+abbrev pub RepliesIn : End → ToldEvent → Option Delivery → Type 0
 RepliesIn at' told None = Unit {0}
 RepliesIn end.Server told (Some d) = RepliesAt told d.session.server
 RepliesIn end.Peer told (Some d) = Unit {0}
 
-abbrev pub TellsReply : Net → Event → Told → Type 0
+abbrev pub TellsReply : Net → Event → ToldEvent → Type 0
 TellsReply w (event.Deliver session at' packet) told = RepliesIn at' told (delivery_in w session packet)
 TellsReply w other told = Unit {0}
 
@@ -240,7 +240,7 @@ pub record Presented : Type 0 where
   pub challenge : Option Challenge
   pub decryption : Option Decryption
 
-abbrev pub presented_at : Net → Delivery → Told → Option Subscription → Option Presented
+abbrev pub presented_at : Net → Delivery → ToldEvent → Option Subscription → Option Presented
 presented_at w d told None = None
 presented_at w d told (Some device) = Some (record {
   delivery = d;
@@ -249,11 +249,11 @@ presented_at w d told (Some device) = Some (record {
   decryption = decryption_made device (keeps_at w d.session.device) d.session.peer told.seen (peer_row d.session.peer told.seen) told.notes.usim;
 })
 
-abbrev pub presented_in : Net → End → Told → Option Delivery → Option Presented
+abbrev pub presented_in : Net → End → ToldEvent → Option Delivery → Option Presented
 presented_in w at' told None = None
 presented_in w end.Server told (Some d) = None
 presented_in w end.Peer told (Some d) = presented_at w d told (slice_get w.devices d.session.device)
 
-abbrev pub presented_by : Net → Event → Told → Option Presented
+abbrev pub presented_by : Net → Event → ToldEvent → Option Presented
 presented_by w (event.Deliver session at' packet) told = presented_in w at' told (delivery_in w session packet)
 presented_by w other told = None

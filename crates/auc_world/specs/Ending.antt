@@ -6,7 +6,7 @@ use Rattle.auc_server.specs.Ending.{packets_left}
 use Rattle.auc_server.specs.Server.{ServerEnd}
 use Rattle.auc_world.specs.Came.{came, session_of}
 use Rattle.auc_world.specs.Given.{Before, PlainGives, packet_in}
-use Rattle.auc_world.specs.Happened.{Told, happened}
+use Rattle.auc_world.specs.Happened.{ToldEvent, happened}
 use Rattle.auc_world.specs.Net.{Net, other}
 use Rattle.auc_subs.specs.Setting.{Setting}
 use Rattle.auc_record.specs.declared.event.Event.TheVariants as event
@@ -30,12 +30,12 @@ deliveries_left w session end.Peer = 2 * session_left (session_of w session) + 2
 
 -- sixteen, after a session was started
 abbrev pub StartLeavesSixteen : Type 0
-StartLeavesSixteen = (set : Setting) (w : Net) (session packet : ℕ) (told : Told) → packet_in (came set w (event.Start session) told) ≡ Some packet
+StartLeavesSixteen = (set : Setting) (w : Net) (session packet : ℕ) (told : ToldEvent) → packet_in (came set w (event.Start session) told) ≡ Some packet
     → deliveries_left (happened set w (event.Start session) told) session end.Peer ≡ 16
 
 -- fewer, after a delivery to an end that answers
 abbrev pub EachDeliveryLeavesFewer : Type 0
-EachDeliveryLeavesFewer = (set : Setting) (w : Net) (session packet answer : ℕ) (at' : End) (told : Told)
+EachDeliveryLeavesFewer = (set : Setting) (w : Net) (session packet answer : ℕ) (at' : End) (told : ToldEvent)
     → packet_in (came set w (event.Deliver session at' packet) told) ≡ Some answer
     → deliveries_left (happened set w (event.Deliver session at' packet) told) session (other at') < deliveries_left w session at'
 

@@ -44,7 +44,7 @@ use Rattle.auc_vector.specs.declared.notes.UsimNote.{UsimNote}
 use Rattle.auc_record.specs.Draws.{DrawGives, OneGives}
 use Rattle.auc_world.specs.Came.{AreReceived, Presented, TellsNotes, TellsReply, asking_of, bytes_named, came, presented_by}
 use Rattle.auc_record.specs.Event.{Came}
-use Rattle.auc_world.specs.Happened.{Told, happened}
+use Rattle.auc_world.specs.Happened.{ToldEvent, happened}
 use Rattle.auc_world.specs.Net.{Net, other}
 use Rattle.auc_world.specs.Sim.{SimGives}
 use Rattle.auc_world.specs.Sites.{SitesGives}
@@ -281,19 +281,19 @@ UsimNotes secret row past (Some challenge) (Some note) =
 
 -- the device of a session's subscriber received a packet: its USIM answered, by all that it had accepted; and what was
 -- decrypted is what was encrypted
-pub record AsksUsim (set : Setting) (before : Before) (p : Presented) (told : Told) : Type 0 where
+pub record AsksUsim (set : Setting) (before : Before) (p : Presented) (told : ToldEvent) : Type 0 where
   pub row : Row
   pub there : slice_get set.rows p.delivery.session.sub ≡ Some row
   pub answers : UsimNotes p.device.secret row (past_before before row p.delivery.session.sub) p.challenge told.notes.usim
   pub decrypts : Decrypts p.decryption told.inner
 
-abbrev pub IsUsimAsked : Setting → Before → Option Presented → Told → Type 0
+abbrev pub IsUsimAsked : Setting → Before → Option Presented → ToldEvent → Type 0
 IsUsimAsked set before None told = Unit {0}
 IsUsimAsked set before (Some p) told = AsksUsim set before p told
 
 -- what an event gives in a job's network, and the network after it
 pub record EventGives (set : Setting) (before : Before) (net : Net) (e : Event) (lines : List LineRecord) (next : Net) : Type 0 where
-  pub told : Told
+  pub told : ToldEvent
   pub lines_are : lines ≡ record_of.Event (record { event = e; result = came set net e told }) ∷ []
   pub leads : next ≡ happened set net e told
   pub received : AreReceived (bytes_named net e) told.seen

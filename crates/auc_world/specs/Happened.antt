@@ -43,7 +43,7 @@ use Rattle.auc_world.specs.declared.net.Session.{Session}
 
 -- what is told of an event: what an end received, what the centre or the USIM answered, what a peer decrypted, and which
 -- reply to a re-authentication a server did
-pub record Told : Type 0 where
+pub record ToldEvent : Type 0 where
   pub seen : Seen
   pub notes : Notes
   pub inner : Decrypted
@@ -106,17 +106,17 @@ abbrev pub delivery_in : Net → ℕ → ℕ → Option Delivery
 delivery_in w session packet = delivery_at w packet (session_place w.sessions session)
 
 -- the turns of the two ends
-abbrev pub server_turn : Setting → Net → ServerEnd → Told → ServerEnd × Turn ServerWhy
+abbrev pub server_turn : Setting → Net → ServerEnd → ToldEvent → ServerEnd × Turn ServerWhy
 server_turn set w s told = server_step set w.homes s told.seen told.reply told.notes
 
-abbrev pub peer_turn : Setting → Subscription → Keeps → Session → Told → Peer × Turn PeerWhy
+abbrev pub peer_turn : Setting → Subscription → Keeps → Session → ToldEvent → Peer × Turn PeerWhy
 peer_turn set device keeps session told = peer_step set.key device keeps session.peer told.seen told.notes.usim told.inner
 
 -- what the device of a session keeps after a turn of the session's peer
-abbrev pub kept_after : Keeps → Session → Told → Turn PeerWhy → Keeps
+abbrev pub kept_after : Keeps → Session → ToldEvent → Turn PeerWhy → Keeps
 kept_after keeps session told turn = kept_by (peer_row session.peer told.seen) session.peer turn.notes.counter keeps
 
-abbrev pub to_server : Setting → Net → Delivery → Told → Option ServerEnd → Net
+abbrev pub to_server : Setting → Net → Delivery → ToldEvent → Option ServerEnd → Net
 to_server set w d told None = w
 to_server set w d told (Some s) =
     let turn = server_turn set w s told in
@@ -124,7 +124,7 @@ to_server set w d told (Some s) =
       homes = homes_after set w.homes s told.seen told.reply told.notes;
     }
 
-abbrev pub to_peer : Setting → Net → Delivery → Told → Option Subscription → Net
+abbrev pub to_peer : Setting → Net → Delivery → ToldEvent → Option Subscription → Net
 to_peer set w d told None = w
 to_peer set w d told (Some device) =
     let turn = peer_turn set device (keeps_at w d.session.device) d.session told in
@@ -132,7 +132,7 @@ to_peer set w d told (Some device) =
       stores = slice_set w.stores d.session.device (kept_after (keeps_at w d.session.device) d.session told turn.1);
     }
 
-abbrev pub delivered : Setting → Net → End → Told → Option Delivery → Net
+abbrev pub delivered : Setting → Net → End → ToldEvent → Option Delivery → Net
 delivered set w at' told None = w
 delivered set w end.Server told (Some d) = to_server set w d told d.session.server
 delivered set w end.Peer told (Some d) = to_peer set w d told (slice_get w.devices d.session.device)
@@ -141,7 +141,7 @@ delivered set w end.Peer told (Some d) = to_peer set w d told (slice_get w.devic
 abbrev pub breach_at : Delivery → End → Breach
 breach_at d at' = record { session = d.session.number; end = at'; packet = d.packet }
 
-abbrev pub server_finds : Setting → Net → Delivery → Told → Option ServerEnd → Option Finding
+abbrev pub server_finds : Setting → Net → Delivery → ToldEvent → Option ServerEnd → Option Finding
 server_finds set w d told None = None
 server_finds set w d told (Some s) = Some (record {
   checked = (server_turn set w s told).1.checked;
@@ -150,7 +150,7 @@ server_finds set w d told (Some s) = Some (record {
   delivery = breach_at d end.Server;
 })
 
-abbrev pub peer_finds : Setting → Net → Delivery → Told → Option Subscription → Option Finding
+abbrev pub peer_finds : Setting → Net → Delivery → ToldEvent → Option Subscription → Option Finding
 peer_finds set w d told None = None
 peer_finds set w d told (Some device) = Some (record {
   checked = (peer_turn set device (keeps_at w d.session.device) d.session told).1.checked;
@@ -159,7 +159,7 @@ peer_finds set w d told (Some device) = Some (record {
   delivery = breach_at d end.Peer;
 })
 
-abbrev pub found_by : Setting → Net → End → Told → Option Delivery → Option Finding
+abbrev pub found_by : Setting → Net → End → ToldEvent → Option Delivery → Option Finding
 found_by set w at' told None = None
 found_by set w end.Server told (Some d) = server_finds set w d told d.session.server
 found_by set w end.Peer told (Some d) = peer_finds set w d told (slice_get w.devices d.session.device)
@@ -184,7 +184,7 @@ first_of identity.Held = first.Held
 first_of identity.Permanent = first.Permanent
 first_of (identity.Text text) = first.Text text
 
-abbrev pub peer_options : SessionLine → peer_told.Told
+abbrev pub peer_options : SessionLine → peer_told.ToldSession
 peer_options opening = record {
   session = opening.session;
   method = opening.method;
@@ -260,7 +260,7 @@ with_copy w bytes = record w { packets = w.packets ++ copies bytes }
 -- ---- an event
 
 -- sessions and packets after an event; a refused event changes nothing
-abbrev pub moved : Setting → Net → Event → Told → Net
+abbrev pub moved : Setting → Net → Event → ToldEvent → Net
 moved set w (event.Open opening) told = opened w opening (session_place w.sessions opening.session) (device_place set.rows w.devices opening.sub)
 moved set w (event.Start session) told = at_session w session (λ place s. start w place s s.server)
 moved set w (event.Deliver session at' packet) told = delivered set w at' told (delivery_in w session packet)
@@ -270,9 +270,9 @@ moved set w (event.Tamper packet place byte) told = with_copy w (changed_in w.pa
 moved set w (event.Cut packet count) told = with_copy w (changed_in w.packets (event.Cut packet count))
 
 -- what an end finds in an event
-abbrev pub found : Setting → Net → Event → Told → Option Finding
+abbrev pub found : Setting → Net → Event → ToldEvent → Option Finding
 found set w (event.Deliver session at' packet) told = found_by set w at' told (delivery_in w session packet)
 found set w other told = None
 
-abbrev pub happened : Setting → Net → Event → Told → Net
+abbrev pub happened : Setting → Net → Event → ToldEvent → Net
 happened set w e told = record (moved set w e told) { broken = judged w.packets w.broken (found set w e told) }

@@ -13,12 +13,12 @@ use Rattle.auc_released.specs.declared.numbers.Number.{Number}
 use Rattle.auc_subs.specs.Setting.{Setting}
 use Rattle.auc_server.specs.declared.setting.HomeRow.{HomeRow}
 use Rattle.auc_subs.specs.Subscriber.{same_identity}
-use Rattle.auc_vector.specs.Notes.{Asked}
+use Rattle.auc_vector.specs.Notes.{AskedCentre}
 use Rattle.auc_vector.specs.declared.notes.NumberNote.{NumberNote}
 use Rattle.auc_vector.specs.declared.notes.NumberNote.TheVariants as number
 use Rattle.auc_world.specs.Came.{AreReceived, AsksAt, RepliesAt, TellsNotes, asking_at, came_at_peer, came_at_server, came_given_up, came_repeated, came_started, presented_at, received_by}
 use Rattle.auc_record.specs.Event.{Came}
-use Rattle.auc_world.specs.Happened.{Delivery, Told, changed_at, delivery_in, give_up, peer_finds, repeat, server_finds, start, to_peer, to_server}
+use Rattle.auc_world.specs.Happened.{Delivery, ToldEvent, changed_at, delivery_in, give_up, peer_finds, repeat, server_finds, start, to_peer, to_server}
 use Rattle.auc_world.specs.Net.{Net, judged, packet_at}
 use Rattle.auc_world.specs.World.{AreHanded, HasHeld, IsWorld, WorldState}
 use Rattle.auc_world.specs.declared.acting.Deed.{Deed}
@@ -95,14 +95,14 @@ abbrev pub with_session : Net → ℕ → List SentPacket → Session → Net
 with_session w place packets session = record w { packets = packets; sessions = slice_set w.sessions place session }
 
 -- the session stands at the place of a network with these packets
-pub record Stands (w : Net) (place : ℕ) (packets : List SentPacket) (session : Session) : Type 0 where
+pub record SessionStands (w : Net) (place : ℕ) (packets : List SentPacket) (session : Session) : Type 0 where
   pub packets_are : w.packets ≡ packets
   pub there : slice_get w.sessions place ≡ Some session
 
 -- what an end did by itself, in each network in which its session stands; a challenged subscriber stays one of the homes
 pub record Acts (what : Deed) (packets : List SentPacket) (session : Session) (sent : List SentPacket) (changed : Session) (came : Came) : Type 0 where
-  pub is : (w : Net) (place : ℕ) → Stands w place packets session → came ≡ came_of w what session
-  pub leads : (w : Net) (place : ℕ) → Stands w place packets session → net_of w what place session ≡ with_session w place sent changed
+  pub is : (w : Net) (place : ℕ) → SessionStands w place packets session → came ≡ came_of w what session
+  pub leads : (w : Net) (place : ℕ) → SessionStands w place packets session → net_of w what place session ≡ with_session w place sent changed
   pub number : changed.number ≡ session.number
   pub options : changed.options ≡ session.options
   pub held : (homes : List HomeRow) → HasHeld homes session.server → HasHeld homes changed.server
@@ -144,20 +144,20 @@ released_for (Some sub) (Some (number.Drew n)) = record { sub = sub; n = n } ∷
 released_for _ _ = []
 
 -- what a server in the session of a place makes of a packet
-pub record Serves {S : Type 0} (goes : S → ℕ → List Entry → List (ℕ × Stop) → S → Type 0) (kept : S → ℕ → Option ℕ) (top : S → ℕ → ℕ) (set : Setting) (old : WorldState) (d : Delivery) (before : S) (new : WorldState) (result : Came) (after : S) : Type 0 where
-  pub told : Told
+pub record ServesPacket {S : Type 0} (goes : S → ℕ → List Entry → List (ℕ × Stop) → S → Type 0) (kept : S → ℕ → Option ℕ) (top : S → ℕ → ℕ) (set : Setting) (old : WorldState) (d : Delivery) (before : S) (new : WorldState) (result : Came) (after : S) : Type 0 where
+  pub told : ToldEvent
   pub is : result ≡ came_at_server set old.net told d.session.server
   pub leads : new.net ≡ record (to_server set old.net d told d.session.server) { broken = judged old.net.packets old.net.broken (server_finds set old.net d told d.session.server) }
   pub received : AreReceived (received_by d.bytes d.session.server) told.seen
   pub notes : TellsNotes told result
   pub replies : RepliesAt told d.session.server
-  pub centre : Asked goes kept top (asking_at set old.net told d.session.server) told.notes before after
+  pub centre : AskedCentre goes kept top (asking_at set old.net told d.session.server) told.notes before after
   pub drawn : AsksAt set old.net told d.session.server
   pub devices : new.devices ≡ old.devices
 
 -- what a peer in it makes of it
 pub record Answers (set : Setting) (old : WorldState) (d : Delivery) (new : WorldState) (result : Came) : Type 0 where
-  pub told : Told
+  pub told : ToldEvent
   pub is : result ≡ came_at_peer set old.net d told (slice_get old.net.devices d.session.device)
   pub leads : new.net ≡ record (to_peer set old.net d told (slice_get old.net.devices d.session.device)) { broken = judged old.net.packets old.net.broken (peer_finds set old.net d told (slice_get old.net.devices d.session.device)) }
   pub received : AreReceived (received_by d.bytes (slice_get old.net.devices d.session.device)) told.seen

@@ -4,7 +4,7 @@ use Rattle.std.specs.Prelude.{◌≡◌, ℕ, zero, suc, ◌==◌, ◌&&◌, tru
 use Rattle.auc_hmac.specs.declared.method.Method.{Method}
 use Rattle.auc_peer.specs.Places.{Originates, place_of}
 use Rattle.auc_reauth.specs.Device.{is_open}
-use Rattle.auc_reauth.specs.Machine.{Accept, Adopt, Challenge, Home, Lose, Move, Places, Resume, Used, Win}
+use Rattle.auc_reauth.specs.Machine.{Accept, Adopt, Challenge, HomePast, Lose, Move, Places, Resume, Used, Win}
 use Rattle.auc_reauth.specs.Store.{entry}
 use Rattle.auc_reauth.specs.declared.context.Context.{Context}
 use Rattle.auc_server.specs.Moves.{IsNewName, IsNewOrNone, moved_by, waiting, waiting_at}
@@ -51,7 +51,7 @@ device_places m place w (suc t) = peer_at m place (slice_get w.sessions t)
 -- ---- moves
 
 -- a home with these places, in which nothing was used so far
-abbrev pub only : Places → Home
+abbrev pub only : Places → HomePast
 only places = record { place = places; origins = []; given = []; used = [] }
 
 -- at most one move leads from some places to others, and what it uses was used since

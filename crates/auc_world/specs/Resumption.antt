@@ -16,7 +16,7 @@ use Rattle.auc_server.specs.Server.{ServerEnd, resumed_of}
 use Rattle.auc_subs.specs.Setting.{Setting}
 use Rattle.auc_server.specs.declared.server.Resumed.{Resumed}
 use Rattle.auc_vector.specs.declared.notes.CounterNote.TheVariants as counts
-use Rattle.auc_world.specs.Happened.{Delivery, Told, delivery_in, peer_turn}
+use Rattle.auc_world.specs.Happened.{Delivery, ToldEvent, delivery_in, peer_turn}
 use Rattle.auc_world.specs.Net.{Net, keeps_at, same_method}
 use Rattle.auc_world.specs.declared.net.Session.{Session}
 
@@ -79,15 +79,15 @@ counters_accepted m sub sessions = flat_map (accepted_of m sub) sessions
 -- ---- the identity of an acceptance
 
 -- a peer accepts a counter only under the identity of its device's context, as it stands at that moment (RFC 4187 §5.3)
-abbrev pub AcceptsItsOwn : Setting → Net → Delivery → Told → Option Subscription → Type 0
+abbrev pub AcceptsItsOwn : Setting → Net → Delivery → ToldEvent → Option Subscription → Type 0
 AcceptsItsOwn set w d told None = Unit {0}
 AcceptsItsOwn set w d told (Some device) =
     (counter : ℕ) → (peer_turn set device (keeps_at w d.session.device) d.session told).1.notes.counter ≡ Some (counts.Taken counter)
     → MayResume (keeps_at w d.session.device) d.session.peer counter
 
-abbrev pub AcceptsIn : Setting → Net → Told → Option Delivery → Type 0
+abbrev pub AcceptsIn : Setting → Net → ToldEvent → Option Delivery → Type 0
 AcceptsIn set w told None = Unit {0}
 AcceptsIn set w told (Some d) = AcceptsItsOwn set w d told (slice_get w.devices d.session.device)
 
 abbrev pub EachAcceptanceIsOwn : Type 0
-EachAcceptanceIsOwn = (set : Setting) (w : Net) (session packet : ℕ) (told : Told) → AcceptsIn set w told (delivery_in w session packet)
+EachAcceptanceIsOwn = (set : Setting) (w : Net) (session packet : ℕ) (told : ToldEvent) → AcceptsIn set w told (delivery_in w session packet)

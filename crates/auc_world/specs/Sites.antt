@@ -5,7 +5,7 @@ use Rattle.auc_lines.specs.Sites.{SitesValue}
 use Rattle.auc_lines.specs.declared.sites.SiteEvent.{SiteEvent}
 use Rattle.auc_lines.specs.declared.sites.SiteEvent.TheVariants as asked
 use Rattle.auc_sites.specs.Master.{judgement, last_grant, place_of}
-use Rattle.auc_sites.specs.Network.{Ask, Deliver, Draw, Event, MasterRestart, Network, Restart, Turn, after_event, start}
+use Rattle.auc_sites.specs.Network.{Ask, Deliver, Draw, Event, MasterRestart, Network, Restart, SitesTurn, after_event, start}
 use Rattle.auc_sites.specs.Reply.{reply_by}
 use Rattle.auc_sites.specs.Run.{judgement_in}
 use Rattle.auc_sites.specs.Site.{SiteState, answer_to, next_number}
@@ -60,7 +60,7 @@ refusal_in (record_of.Further said ∷ lines) = refusal_in lines
 refusal_in (record_of.Event r ∷ lines) = refusal_in lines
 
 -- the turn of an event in which these draws were made for a subscriber
-abbrev pub turn_of : Network → ℕ → SiteEvent → List LineRecord → Turn
+abbrev pub turn_of : Network → ℕ → SiteEvent → List LineRecord → SitesTurn
 turn_of w sub e drawn = record { event = event_of w e; numbers = numbers_of sub drawn; end = refusal_in drawn }
 
 -- what is drawn for a request that was delivered, by what the master makes of it: the numbers of a lease, if it is new
@@ -90,7 +90,7 @@ outcome_of_grant g None = outcome.NotMine
 outcome_of_grant g (Some s) = outcome_of_answer (answer_to s g)
 
 -- what becomes of a packet that is delivered, if there is one
-abbrev pub outcome_of_packet : Network → Turn → Option Packet → SitesOutcome
+abbrev pub outcome_of_packet : Network → SitesTurn → Option Packet → SitesOutcome
 outcome_of_packet w t None = outcome.NoSuchPacket
 outcome_of_packet w t (Some (Asking r)) = outcome_of_reply (length w.packets + 1) (reply_by (judgement (last_grant w.last r) r) r t.numbers t.end)
 outcome_of_packet w t (Some (Granting g)) = outcome_of_grant g (slice_get w.sites (place_of g.request.site))
@@ -106,7 +106,7 @@ note_of_draw site None = note.Empty site
 note_of_draw site (Some s) = note_of_number site (next_number s)
 
 -- what is said of an event, in the network before it and with what was drawn in it
-abbrev pub note_of : Network → SiteEvent → Turn → SitesNote
+abbrev pub note_of : Network → SiteEvent → SitesTurn → SitesNote
 note_of w (asked.Ask site) t = note.Asked site (length w.packets + 1)
 note_of w (asked.Deliver packet) t = note.Delivered packet (outcome_of_packet w t (slice_get w.packets (packet_place w packet)))
 note_of w (asked.Draw site) t = note_of_draw site (slice_get w.sites (place_of site))
@@ -116,14 +116,14 @@ note_of w asked.MasterRestart t = note.MasterRestarted
 -- ---- the lines
 
 -- what an event gives: the draws that the master makes in it, and then what is said of it
-pub record SiteEventGives (set : Setting) (sub size : ℕ) (w : Network) (e : SiteEvent) (lines : List LineRecord) (turn : Turn) : Type 0 where
+pub record SiteEventGives (set : Setting) (sub size : ℕ) (w : Network) (e : SiteEvent) (lines : List LineRecord) (turn : SitesTurn) : Type 0 where
   pub drawn : List LineRecord
   pub draws : LeaseGives set sub size (judgement_in w (event_of w e)) drawn
   pub turn_is : turn ≡ turn_of w sub e drawn
   pub lines_are : lines ≡ drawn ++ record_of.Further (further.Sites sub (note_of w e turn)) ∷ []
 
 -- what events give from a network on, one after the other, and their turns
-abbrev pub SitesGo : Setting → ℕ → ℕ → Network → List SiteEvent → List LineRecord → List Turn → Type 0
+abbrev pub SitesGo : Setting → ℕ → ℕ → Network → List SiteEvent → List LineRecord → List SitesTurn → Type 0
 SitesGo set sub size w [] lines turns = (lines ≡ []) × (turns ≡ [])
 SitesGo set sub size w (e ∷ events) lines [] = ⊥
 SitesGo set sub size w (e ∷ events) lines (turn ∷ turns) = (front : List LineRecord) × (rest : List LineRecord) × (lines ≡ front ++ rest)
@@ -135,4 +135,4 @@ sites_start l = start (replicate l.sites 1)
 
 -- what a line gives
 abbrev pub SitesGives : Setting → SitesValue → List LineRecord → Type 0
-SitesGives set l lines = (turns : List Turn) × SitesGo set l.sub l.size (sites_start l) l.schedule lines turns
+SitesGives set l lines = (turns : List SitesTurn) × SitesGo set l.sub l.size (sites_start l) l.schedule lines turns

@@ -4,7 +4,7 @@ use Rattle.auc_edge.specs.declared.stop.Stop.{Stop}
 use Rattle.auc_history.specs.declared.entry.Entry.{Entry}
 use Rattle.auc_lines.specs.Part.{IsShortIdentity}
 use Rattle.auc_peer.specs.Subscription.{subscription_of}
-use Rattle.auc_peer.specs.Turn.{Asked as AsksDevice, Decrypts}
+use Rattle.auc_peer.specs.Turn.{AskedUsim as AsksDevice, Decrypts}
 use Rattle.auc_peer.specs.declared.device.Device.{Device}
 use Rattle.auc_server.specs.Laws.{Fits}
 use Rattle.auc_server.specs.Server.{ServerEnd, challenged_of, resumed_of}
@@ -15,10 +15,10 @@ use Rattle.auc_sqn.specs.Past.{Past, Remembers}
 use Rattle.auc_subs.specs.declared.row.Row.{Row}
 use Rattle.auc_usim.specs.Usim.{Memory, IsAnswer, past_after_answer}
 use Rattle.auc_usim.specs.declared.answer.Answer.{Answer}
-use Rattle.auc_vector.specs.Notes.{Asked}
+use Rattle.auc_vector.specs.Notes.{AskedCentre}
 use Rattle.auc_world.specs.Came.{AreReceived, AsksWhatItNeeds, Presented, TellsNotes, TellsReply, asking_of, bytes_named, came, presented_by}
 use Rattle.auc_record.specs.Event.{Came}
-use Rattle.auc_world.specs.Happened.{Told, happened}
+use Rattle.auc_world.specs.Happened.{ToldEvent, happened}
 use Rattle.auc_world.specs.Net.{Net, device_place}
 use Rattle.auc_record.specs.declared.event.Event.{Event}
 use Rattle.auc_record.specs.declared.event.Event.TheVariants as event
@@ -93,7 +93,7 @@ pub record Challenges (old : ℕ → Option Memory) (sub : ℕ) (rand autn : Lis
 -- ---- an event
 
 -- the USIM of the device that received a packet answered what it was handed; the other USIMs stay as they were
-pub record IsHanded (p : Presented) (told : Told) (old new : List Device) : Type 0 where
+pub record IsHanded (p : Presented) (told : ToldEvent) (old new : List Device) : Type 0 where
   pub before : Device
   pub there : slice_get old p.delivery.session.device ≡ Some before
   pub after : Device
@@ -106,19 +106,19 @@ pub record IsHanded (p : Presented) (told : Told) (old new : List Device) : Type
   pub decrypts : (past : Past) → Remembers before.usim.array past
       → Decrypts p.decryption told.inner
 
-abbrev pub AreHanded : Option Presented → Told → List Device → List Device → Type 0
+abbrev pub AreHanded : Option Presented → ToldEvent → List Device → List Device → Type 0
 AreHanded None told old new = new ≡ old
 AreHanded (Some p) told old new = IsHanded p told old new
 
 -- what an event comes to, and the network, the devices and the centre after it
 pub record Applies {S : Type 0} (goes : S → ℕ → List Entry → List (ℕ × Stop) → S → Type 0) (kept : S → ℕ → Option ℕ) (top : S → ℕ → ℕ) (set : Setting) (old : WorldState) (e : Event) (before : S) (new : WorldState) (result : Came) (after : S) : Type 0 where
-  pub told : Told
+  pub told : ToldEvent
   pub is : result ≡ came set old.net e told
   pub leads : new.net ≡ happened set old.net e told
   pub received : AreReceived (bytes_named old.net e) told.seen
   pub notes : TellsNotes told (came set old.net e told)
   pub replies : TellsReply old.net e told
   -- the centre was asked what the turn says, and answered as the notes tell
-  pub centre : Asked goes kept top (asking_of set old.net e told) told.notes before after
+  pub centre : AskedCentre goes kept top (asking_of set old.net e told) told.notes before after
   pub drawn : AsksWhatItNeeds set old.net e told
   pub usims : AreHanded (presented_by old.net e told) told old.devices new.devices

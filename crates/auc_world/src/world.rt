@@ -4,7 +4,7 @@ ghost use Rattle.std.specs.Prelude.{◌≡◌, ◌≤◌, ◌<◌, ◌++◌, ℕ
 ghost use Rattle.auc_world.specs.Came.{came_changed, came_in, came_opened, session_of, vector_sent};
 ghost use Rattle.auc_record.specs.Event.{asked_in};
 ghost use Rattle.auc_world.specs.Happened.{Delivery, at_session, delivery_at, opened, with_copy};
-ghost use Rattle.auc_world.specs.InnerWorld.{Answers, HasPlace, IsReached, IsUnreached, Serves, came_of, copy_by, net_of, number_after, released_for};
+ghost use Rattle.auc_world.specs.InnerWorld.{Answers, HasPlace, IsReached, IsUnreached, ServesPacket, came_of, copy_by, net_of, number_after, released_for};
 ghost use Rattle.auc_world.specs.Net.{device_place, packet_at, posted, session_place};
 ghost use Rattle.auc_lines.specs.Part.{IsShortIdentity};
 ghost use Rattle.auc_lines.specs.declared.part.End.TheVariants as end;
@@ -268,7 +268,7 @@ impl World {
         requires reached { IsReached self.old.net place packet }
 
         ensures served { IfOk result (λ came. (d : Delivery) → delivery_at self.old.net packet (Some place) ≡ Some d
-            → Serves C.goes C.kept C.top set.now self.old d centre.old self.new came centre.new) }
+            → ServesPacket C.goes C.kept C.top set.now self.old d centre.old self.new came centre.new) }
         ensures asked { IfOk result (λ came. IfSome (asked_in came) (λ sub. sub < length set.now.rows)) }
         ensures homes { AreOfSame self.old.net.homes self.new.net.homes }
         ensures devices { self.new.net.devices ≡ self.old.net.devices }

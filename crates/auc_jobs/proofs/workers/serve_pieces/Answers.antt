@@ -18,7 +18,7 @@ use Rattle.auc_jobs.specs.InnerClaims.{ClosesAs, HaveWorked, IsDone}
 use Rattle.auc_jobs.specs.InnerKeeping.{StaysNear, TellsStop}
 use Rattle.auc_jobs.specs.InnerPreparing.{AreReservable}
 use Rattle.auc_jobs.specs.InnerRound.{AreServed, GoesByLimits}
-use Rattle.auc_jobs.specs.InnerSharing.{Begins}
+use Rattle.auc_jobs.specs.InnerSharing.{IsAfter}
 use Rattle.auc_jobs.proofs.KeepingLemmas.{can_keep, have_worked, if_ok_map, opened_for, stays_near, stop_told, unserved_leaves, worked_leaves}
 use Rattle.auc_jobs.proofs.PreparingLemmas.{are_reservable}
 use Rattle.auc_jobs.proofs.workers.serve_pieces.Goals as goal
@@ -68,7 +68,7 @@ returns-in-Ok g c =
     let closes : IfOk result Closed = subst (λ (book : BookValue). IfOk result (ClosesAs round book worked.keeper)) c.work_all-worked.ensures.book c.settle.ensures.closes in
     record {
       served = if_ok_map Closed
-          (λ done. (early : List LineRecord) → Begins round early → AreServed round.set early round.state.kept round.state.words round.jobs done.jobs.records done.jobs.devices done.jobs.sessions done.words) result
+          (λ done. (early : List LineRecord) → IsAfter round early → AreServed round.set early round.state.kept round.state.words round.jobs done.jobs.records done.jobs.devices done.jobs.sessions done.words) result
           (λ done closed early begins.
           subst (λ (os : List ℕ). AreServed round.set early round.state.kept os round.jobs done.jobs.records done.jobs.devices done.jobs.sessions done.words) opens.numbers (closed.served early begins))
           closes;

@@ -1,6 +1,6 @@
 use Rattle.std.proofs.Common.{List, Option, subst, sym}
 use Rattle.auc_edge.specs.declared.stop.Stop.{Stop}
-use Rattle.auc_jobs.specs.Round.{Serves}
+use Rattle.auc_jobs.specs.Round.{ServesRound}
 use Rattle.auc_lines.specs.declared.part.Line.{Line}
 use Rattle.auc_world.specs.Round.{IsLawfulRound}
 use Rattle.auc_run.specs.Inner.{EachLeads}
@@ -56,7 +56,7 @@ returns-in-Ok-clause-made g c =
     let each : EachLeads g.D.Disk.seen g.D.Disk.may_leave g.D.Disk.moment g.D.Disk.left_since set c.args.stand.number state journal c.args.jobs.now round stop next after = λ from reserved at known on enough.
     round_leads g.D.Disk.seen g.D.Disk.may_leave g.D.Disk.moment g.D.Disk.left_since set from reserved at c.args.stand.number state next journal after c.args.jobs.now round stop known on enough
     (IfOk-ok c.serve_start-journal.result.result c.in-Ok.ran _ (cc c.in-Ok.is) c.serve_start-journal.ensures.number) c.serve_start-journal.ensures.subscribers c.serve_start-journal.ensures.all c.requires.subscribers
-    (subst (λ (jobs : List (List Line)). Serves g.D.Disk.seen g.D.Disk.may_leave g.D.Disk.moment g.D.Disk.left_since set known state jobs round stop journal next after) c.as_slice.ensures
+    (subst (λ (jobs : List (List Line)). ServesRound g.D.Disk.seen g.D.Disk.may_leave g.D.Disk.moment g.D.Disk.left_since set known state jobs round stop journal next after) c.as_slice.ensures
     (IfOk-ok c.serve_start-journal.result.result c.in-Ok.ran _ (cc c.in-Ok.is) c.serve_start-journal.ensures.served known on.stands)) in
     made_round g.D.Disk.seen g.D.Disk.may_leave g.D.Disk.moment g.D.Disk.left_since set c.args.settings.now.full c.args.stand.number state next journal after c.args.jobs.now stop round c.append_round-result.result c.args.stand.text c.append_round-result.new.text
     each (IfOk-ok c.serve_start-journal.result.result c.in-Ok.ran _ (cc c.in-Ok.is) c.serve_start-journal.ensures.next) (IfOk-ok c.serve_start-journal.result.result c.in-Ok.ran _ (cc c.in-Ok.is) c.serve_start-journal.ensures.ready)
@@ -74,7 +74,7 @@ returns-in-Ok-clause-ends g c =
     let each : EachLeads g.D.Disk.seen g.D.Disk.may_leave g.D.Disk.moment g.D.Disk.left_since set c.args.stand.number state journal c.args.jobs.now round stop next after = λ from reserved at known on enough.
     round_leads g.D.Disk.seen g.D.Disk.may_leave g.D.Disk.moment g.D.Disk.left_since set from reserved at c.args.stand.number state next journal after c.args.jobs.now round stop known on enough
     (IfOk-ok c.serve_start-journal.result.result c.in-Ok.ran _ (cc c.in-Ok.is) c.serve_start-journal.ensures.number) c.serve_start-journal.ensures.subscribers c.serve_start-journal.ensures.all c.requires.subscribers
-    (subst (λ (jobs : List (List Line)). Serves g.D.Disk.seen g.D.Disk.may_leave g.D.Disk.moment g.D.Disk.left_since set known state jobs round stop journal next after) c.as_slice.ensures
+    (subst (λ (jobs : List (List Line)). ServesRound g.D.Disk.seen g.D.Disk.may_leave g.D.Disk.moment g.D.Disk.left_since set known state jobs round stop journal next after) c.as_slice.ensures
     (IfOk-ok c.serve_start-journal.result.result c.in-Ok.ran _ (cc c.in-Ok.is) c.serve_start-journal.ensures.served known on.stands)) in
     covers_round g.D.Disk.seen g.D.Disk.may_leave g.D.Disk.moment g.D.Disk.left_since set c.args.stand.number state next journal after c.args.jobs.now round stop c.append_round-result.result each
 

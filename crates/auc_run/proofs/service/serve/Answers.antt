@@ -2,7 +2,7 @@ use Rattle.std.proofs.Common.{◌≡◌, ◌⊎◌, ℕ, List, Option, None, ref
 use Rattle.std.specs.Option.{option_copied}
 use Rattle.auc_edge.specs.Faults.{Rose}
 use Rattle.auc_run.specs.Crash.{MayHaveLeft, MayLeave}
-use Rattle.auc_run.specs.Service.{EndsUnserved, Serves}
+use Rattle.auc_run.specs.Service.{EndsUnserved, ServesBlocks}
 use Rattle.auc_input.specs.Words.{service_named}
 use Rattle.auc_run.proofs.RememberLemmas.{remembers_told}
 use Rattle.auc_run.proofs.ServiceTold.{read_named, read_refused, read_write, usage_unnamed}
@@ -23,7 +23,7 @@ returns-in-Err-clause-ran g c = λ subscribers named.
     let old = g.W.Wire.turns c.args.wire.now in
     let new = g.W.Wire.turns c.say_refusal-in-Err.new.wire in
     let same : option_copied c.in-Some.form.subscribers ≡ subscribers = cc (c.in-Some.ensures, named) in
-    subst (λ (s : Option (List ℕ)). Serves files s seen leaves ever c.say_refusal-in-Err.result old new ⊎ EndsUnserved files s seen c.say_refusal-in-Err.result old new) same
+    subst (λ (s : Option (List ℕ)). ServesBlocks files s seen leaves ever c.say_refusal-in-Err.result old new ⊎ EndsUnserved files s seen c.say_refusal-in-Err.result old new) same
     (service_told files (option_copied c.in-Some.form.subscribers) seen leaves ever c.in-Err.refusal c.say_refusal-in-Err.result old (g.W.Wire.turns c.serve_words-disk.new.wire) new
     (rw c.in-Err.is at c.serve_words-disk.ensures.ran) c.say_refusal-in-Err.ensures.tells c.say_refusal-in-Err.ensures.wordless c.say_refusal-in-Err.ensures.told)
 

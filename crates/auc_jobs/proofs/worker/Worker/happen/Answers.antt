@@ -4,7 +4,7 @@ use Rattle.auc_record.specs.declared.event.EventRecord.{EventRecord}
 use Rattle.auc_record.specs.declared.record.LineRecord.TheVariants.{Event as Happening}
 use Rattle.auc_world.specs.Given.{packet_in}
 use Rattle.auc_jobs.specs.InnerPlaying.{Leads}
-use Rattle.auc_jobs.specs.InnerServing.{Happens, Serves, before_at}
+use Rattle.auc_jobs.specs.InnerServing.{Happens, ServesLine, before_at}
 use Rattle.auc_jobs.specs.InnerUsims.{usim_of}
 use Rattle.auc_jobs.specs.InnerWorker.{WorkerState}
 use Rattle.auc_jobs.proofs.HappenLemmas.{event_serves}
@@ -13,11 +13,11 @@ use Rattle.auc_jobs.proofs.worker.Worker.happen.Goals as goal
 pub returns-clause-happened : goal.returns-clause-happened
 returns-clause-happened g c = λ early beside stands.
     let rows = c.in_ok-result.ensures.rows in
-    subst (λ (w : WorkerState g.row.C.Denot). Serves (λ i es ws. g.C.Centre.goes c.args.self.now.centre i es ws w.centre) c.args.self.now.set.rows (before_at early beside c.args.self.now.lines)
+    subst (λ (w : WorkerState g.row.C.Denot). ServesLine (λ i es ws. g.C.Centre.goes c.args.self.now.centre i es ws w.centre) c.args.self.now.set.rows (before_at early beside c.args.self.now.lines)
     (g.C.Centre.kept w.centre) c.args.self.now.released (usim_of c.args.self.now.set.rows w.world)
     (λ lines. Happens c.args.self.now.set (before_at early beside c.args.self.now.lines) c.args.self.now.world.net c.args.event c.packet_in-packet.result lines w.world.net) c.push.new.self)
     (sym c.self.view_is)
-    (subst (λ (o : Option ℕ). Serves (λ i es ws. g.C.Centre.goes c.args.self.now.centre i es ws c.apply.new.self.centre) c.args.self.now.set.rows (before_at early beside c.args.self.now.lines)
+    (subst (λ (o : Option ℕ). ServesLine (λ i es ws. g.C.Centre.goes c.args.self.now.centre i es ws c.apply.new.self.centre) c.args.self.now.set.rows (before_at early beside c.args.self.now.lines)
     (g.C.Centre.kept c.apply.new.self.centre) c.args.self.now.released (usim_of c.args.self.now.set.rows c.apply.new.self.world)
     (λ lines. Happens c.args.self.now.set (before_at early beside c.args.self.now.lines) c.args.self.now.world.net c.args.event o lines c.apply.new.self.world.net) c.push.new.self)
     (sym c.packet_in-packet.ensures)

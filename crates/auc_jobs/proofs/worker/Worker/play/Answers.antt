@@ -7,7 +7,7 @@ use Rattle.auc_world.specs.Given.{Before, PlainGives}
 use Rattle.auc_subs.specs.Setting.{Setting}
 use Rattle.auc_record.specs.declared.event.Event.TheVariants as event
 use Rattle.auc_record.specs.declared.record.LineRecord.{LineRecord}
-use Rattle.auc_jobs.specs.InnerServing.{Happens, Serves, before_at}
+use Rattle.auc_jobs.specs.InnerServing.{Happens, ServesLine, before_at}
 use Rattle.auc_jobs.specs.InnerUsims.{usim_of}
 use Rattle.auc_jobs.proofs.JobLemmas.{serves_as}
 use Rattle.auc_jobs.proofs.PlayLemmas.{PlaysOn, if_made, play_more, plays_all, plays_fewer, plays_first}
@@ -41,7 +41,7 @@ pub loop-made-preserved : goal.loop-made-preserved
 loop-made-preserved g c = record {
   same = goes_on_more _ _ _ c.args.self.now c.loop-made.self c.happen-in-Some.new.self c.loop-made.invariant.same c.in_ok-made-2.ensures.same;
   played = λ early beside stands.
-      subst (λ (e : End). Serves (λ i es ws. g.C.Centre.goes c.args.self.now.centre i es ws c.happen-in-Some.new.self.centre) c.args.self.now.set.rows
+      subst (λ (e : End). ServesLine (λ i es ws. g.C.Centre.goes c.args.self.now.centre i es ws c.happen-in-Some.new.self.centre) c.args.self.now.set.rows
       (before_at early beside c.args.self.now.lines) (g.C.Centre.kept c.happen-in-Some.new.self.centre) c.args.self.now.released (usim_of c.args.self.now.set.rows c.happen-in-Some.new.self.world)
       (PlaysOn c.args.self.now.set (before_at early beside c.args.self.now.lines) c.args.self.now.world.net c.args.session c.happen-in-Some.new.self.world.net e c.in_ok-made-2.made) c.happen-in-Some.new.self.lines)
       (sym c.other-end.ensures)

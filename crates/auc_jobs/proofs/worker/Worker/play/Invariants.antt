@@ -1,7 +1,7 @@
 use Rattle.std.proofs.Common.{List}
 use Rattle.auc_world.specs.Ending.{deliveries_left}
 use Rattle.auc_record.specs.declared.record.LineRecord.{LineRecord}
-use Rattle.auc_jobs.specs.InnerServing.{Serves, before_at}
+use Rattle.auc_jobs.specs.InnerServing.{ServesLine, before_at}
 use Rattle.auc_jobs.specs.InnerUsims.{usim_of}
 use Rattle.auc_jobs.specs.InnerWorker.{GoesOnWith, WorkerStands}
 use Rattle.auc_jobs.proofs.PlayLemmas.{PlaysOn, if_made}
@@ -11,7 +11,7 @@ abbrev pub invariant-loop-made : goal.invariant-loop-made
 invariant-loop-made g l = record {
   same : GoesOnWith (g.C.Centre.name l.fn.self.centre) (g.C.Centre.name l.self.centre) l.fn.self l.self;
   played : (early : List LineRecord) (beside : List LineRecord) → WorkerStands g.C.Centre.kept early beside l.fn.self
-      → Serves (λ i es ws. g.C.Centre.goes l.fn.self.centre i es ws l.self.centre) l.fn.self.set.rows (before_at early beside l.fn.self.lines) (g.C.Centre.kept l.self.centre) l.fn.self.released
+      → ServesLine (λ i es ws. g.C.Centre.goes l.fn.self.centre i es ws l.self.centre) l.fn.self.set.rows (before_at early beside l.fn.self.lines) (g.C.Centre.kept l.self.centre) l.fn.self.released
       (usim_of l.fn.self.set.rows l.self.world) (PlaysOn l.fn.self.set (before_at early beside l.fn.self.lines) l.fn.self.world.net l.session l.self.world.net l.end l.made) l.self.lines;
 }
 

@@ -1,7 +1,7 @@
 use Rattle.std.proofs.Common.{◌≡◌, [], ◌∷◌, ◌++◌, ◌∙◌, ap, sym, subst}
 use Rattle.auc_record.specs.declared.record.GiveVerdict.{GiveVerdict}
 use Rattle.auc_record.specs.declared.record.LineRecord.TheVariants.{Give}
-use Rattle.auc_jobs.specs.InnerServing.{before_at, GivesVerdict, Serves}
+use Rattle.auc_jobs.specs.InnerServing.{before_at, GivesVerdict, ServesLine}
 use Rattle.auc_jobs.specs.InnerUsims.{usim_of, verdict_by}
 use Rattle.auc_jobs.specs.InnerWorker.{WorkerState}
 use Rattle.auc_jobs.proofs.LineLemmas.{some_at}
@@ -23,7 +23,7 @@ returns-clause-given g c = λ early beside stands.
     let same : inside ≡ record c.args.self.now { world = c.answered.new.self.world } = c.self.view_is ∙ c.in_ok-answer.ensures.rest in
     let lines = ap (λ (v : GiveVerdict). inside.lines ++ Give c.args.sub c.args.n v ∷ []) c.verdict-verdict.ensures
     ∙ ap (λ (w : WorkerState g.row.C.Denot). w.lines ++ Give c.args.sub c.args.n answer ∷ []) same in
-    subst (λ (w : WorkerState g.row.C.Denot). Serves (λ i es ws. g.C.Centre.goes c.args.self.now.centre i es ws w.centre) c.args.self.now.set.rows
+    subst (λ (w : WorkerState g.row.C.Denot). ServesLine (λ i es ws. g.C.Centre.goes c.args.self.now.centre i es ws w.centre) c.args.self.now.set.rows
     (before_at early beside c.args.self.now.lines) (g.C.Centre.kept w.centre) c.args.self.now.released (usim_of c.args.self.now.set.rows w.world)
     (GivesVerdict c.args.self.now.set (before_at early beside c.args.self.now.lines) c.args.sub c.args.n answer) c.push.new.self) (sym same)
     (serves_give (λ i es ws. g.C.Centre.goes c.args.self.now.centre i es ws c.args.self.now.centre) c.args.self.now.set early beside c.args.self.now.lines c.push.new.self

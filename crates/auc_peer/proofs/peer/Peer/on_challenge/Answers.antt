@@ -6,7 +6,7 @@ use Rattle.auc_usim.specs.declared.answer.Answer.{Answer}
 use Rattle.auc_vector.specs.declared.notes.UsimNote.{UsimNote}
 use Rattle.auc_peer.specs.Subscription.{subscription_of}
 use Rattle.auc_peer.specs.Table.{by_answer, challenged}
-use Rattle.auc_peer.specs.Turn.{Asked, Decrypts, decryption_by, decryption_noted, inner_of}
+use Rattle.auc_peer.specs.Turn.{AskedUsim, Decrypts, decryption_by, decryption_noted, inner_of}
 use Rattle.auc_peer.proofs.SendLemmas.{Sends, answer_sends}
 use Rattle.auc_peer.proofs.peer.Peer.on_challenge.Goals as goal
 
@@ -24,7 +24,7 @@ returns-clause-usim c =
     let usim = c.args.device.now.usim in
     let challenge = c.args.challenge in
     let after = c.ask-answer.new.self.usim.array in
-    subst (λ (n : Option UsimNote). Asked (subscription_of c.args.device.now) (Some challenge) n usim.array after) (sym c.on_answer.ensures.note)
+    subst (λ (n : Option UsimNote). AskedUsim (subscription_of c.args.device.now) (Some challenge) n usim.array after) (sym c.on_answer.ensures.note)
     (λ past remembers. subst (λ (a : Answer). IsAnswer usim.secret usim.array.bits usim.array.age past challenge.rand challenge.autn a × Remembers after (past_after_answer usim.array.bits past a)) (c.ask-answer.ensures.noted past remembers)
     (c.ask-answer.ensures.answer past remembers, c.ask-answer.ensures.past past remembers))
 

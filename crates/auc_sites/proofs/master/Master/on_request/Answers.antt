@@ -6,12 +6,12 @@ use Rattle.auc_sites.specs.declared.master.Judged.{Judged}
 use Rattle.auc_sites.specs.declared.master.Judged.TheVariants.{Again, Old, New}
 use Rattle.auc_sites.specs.declared.master.Reply.{Reply}
 use Rattle.auc_sites.specs.declared.request.Request.{Request}
-use Rattle.auc_sites.specs.Drawing.{Goes, Kept, Top}
+use Rattle.auc_sites.specs.Drawing.{Goes, KeptWords, Top}
 use Rattle.auc_sites.specs.Master.{judgement, last_grant}
 use Rattle.auc_sites.specs.Reply.{AsksBy, Replies, last_after, reply_by}
 use Rattle.auc_sites.proofs.master.Master.on_request.Goals as goal
 
-replies_by : {S : Type 0} (goes : Goes S) (kept : Kept S) (top : Top S) (sub size : ℕ)
+replies_by : {S : Type 0} (goes : Goes S) (kept : KeptWords S) (top : Top S) (sub size : ℕ)
     (old new : List (Option Grant)) (r : Request) (j : Judged) (numbers : List ℕ) (end : Option CentreRefusal) (reply : Reply) (before after : S)
     → judgement (last_grant old r) r ≡ j → AsksBy goes kept top sub size j numbers end before after → reply ≡ reply_by j r numbers end → new ≡ last_after old reply
     → Replies goes kept top sub size old r before reply new after
