@@ -9,13 +9,16 @@ whatever an earlier run on this machine passed, and builds the program for the k
 on the machine meanwhile. --write puts the figures into README.md and CONTRIBUTING.md, each between its marks; the script `auc`
 reads them there. --log says where the build's output goes; otherwise it goes to standard error.
 
---reckon builds nothing. It reckons from the minutes of each crate in CONTRIBUTING.md what a build takes on N processors, from
-4 on, with 6 GB of memory for each, and prints when which crates are proved. The order is that of tools/launcher/staging.py. A
-second job takes two fifths off a proof's time. rt takes 2 seconds, and 0.6 for each crate that it finds among what is kept.
+--reckon builds nothing. It reckons from the minutes of each crate in CONTRIBUTING.md what a build takes on N processors with
+memory enough, and prints when which crate is proved. The order is that of rt: of the crates whose libraries are proved, first the
+one that begins the longest chain of crates. rt measures a chain in lines of sources, and --reckon in minutes. rt divides the idle
+processors by the proofs and tests that are ready, and gives a proof as many jobs, at least one and at most four. So a crate that is
+ready alone gets half of the idle processors, since its tests are ready too. A second job takes two fifths off a proof's time.
 
 The exit status is 0 if the program was built.
 """
 import argparse
+import heapq
 import os
 import subprocess
 import sys
@@ -23,14 +26,11 @@ import tempfile
 import time
 from pathlib import Path
 
-from repository import TOP, version_of, with_those_below, write_part
+from repository import TOP, uses_of, version_of, write_part
 from ends import run_main
-from launcher import costs, staging
+from launcher import costs
 
 PART = "bench/first_build.py"
-RT, RT_FOR_EACH = 2 / 60, 0.6 / 60
-# With fewer processors one `rt ci` proves all.
-LEAST = 4
 
 
 def options():
@@ -39,8 +39,8 @@ def options():
     parser.add_argument("--log", type=Path, help="where the build's output goes")
     parser.add_argument("--reckon", type=int, metavar="N", help="build nothing, and reckon for N processors")
     given = parser.parse_args()
-    if given.reckon is not None and given.reckon < LEAST:
-        parser.error(f"--reckon takes a number of processors, from {LEAST} on")
+    if given.reckon is not None and given.reckon < 1:
+        parser.error("--reckon takes a number of processors, from 1 on")
     return given
 
 
@@ -55,37 +55,53 @@ def measured(log):
         return child.returncode, (usage.ru_utime + usage.ru_stime) / 60, (time.monotonic() - began) / 60
 
 
+def chains(uses, minutes):
+    """The minutes of the longest chain of crates that each one begins, the next always using the one before."""
+    found = {}
+    for crate in reversed(costs.crates_of_program()):
+        found[crate] = minutes[crate] + max((it for above, it in found.items() if crate in uses[above]), default=0)
+    return found
+
+
 class Reckoning:
-    """A build by a clock of its own: the minutes by it, and those of processor time."""
+    """A build by a clock of its own: the idle processors, the crates that are left, the ends of the proofs at work, the minutes by
+    the clock, and those of processor time."""
 
     def __init__(self, processors):
-        memory = processors * costs.LARGE_PROVER
-        self.plan = staging.Plan(staging.Room(processors, costs.jobs_of_one(processors), memory))
-        self.memory, self.now, self.work = memory, 0, 0
+        self.idle, self.uses, self.minutes = processors, uses_of(TOP), costs.minutes_by_crate()
+        self.chains, self.left, self.proved = chains(self.uses, self.minutes), costs.crates_of_program(), set()
+        self.ends, self.now, self.work = [], 0, 0
 
-    def stage(self, crates, jobs, taken):
-        """When each of these crates passes if one rt begins them now, and takes so many others."""
-        at = self.now + RT + RT_FOR_EACH * taken
-        self.work += at - self.now
-        for crate in crates:
-            minutes = costs.shortened(self.plan.minutes[crate], jobs)
-            self.work += jobs * minutes
-            at += minutes
-            yield at, crate
-        print(f"{self.now:5.1f} to {at:4.1f}: {' '.join(crates)}{f', {jobs} jobs' if jobs > 1 else ''}")
+    def ready(self):
+        """The crates that can begin, in rt's order."""
+        ready = [it for it in self.left if self.proved.issuperset(self.uses[it])]
+        return sorted(ready, key=self.chains.get, reverse=True)
+
+    def begin(self, crate, jobs):
+        """Begins a proof, and says when it ends."""
+        minutes = costs.shortened(self.minutes[crate], jobs)
+        self.left.remove(crate)
+        self.idle -= jobs
+        self.work += jobs * minutes
+        heapq.heappush(self.ends, (self.now + minutes, jobs, crate))
+        print(f"{self.now:5.1f} to {self.now + minutes:4.1f}: {crate}{f', {jobs} jobs' if jobs > 1 else ''}")
+
+    def begin_all(self):
+        """Begins what is ready, as far as the processors go."""
+        ready = self.ready()
+        for place, crate in enumerate(ready):
+            # This proof and those after it wait for processors, and so do the tests of each ready crate.
+            waiting = 2 * len(ready) - place
+            if self.idle > 0:
+                self.begin(crate, max(1, min(costs.MOST, self.idle // waiting)))
 
     def run(self):
-        plan, passing = self.plan, []
-        while True:
-            for it in [] if plan.is_row() else plan.begin(self.memory):
-                passing += self.stage(it.crates, it.jobs, len(with_those_below(it.crates, plan.uses)) - len(it.crates))
-            if not passing:
-                break
-            passing.sort()
-            self.now, crate = passing.pop(0)
-            plan.passed.add(crate)
-        left = plan.left()
-        self.now = max(at for at, _ in self.stage(left, plan.room.of_one, len(plan.passed)))
+        self.begin_all()
+        while self.ends:
+            self.now, jobs, crate = heapq.heappop(self.ends)
+            self.idle += jobs
+            self.proved.add(crate)
+            self.begin_all()
 
 
 def reckon(processors):

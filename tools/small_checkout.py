@@ -30,7 +30,7 @@ echo "$*" >>"$CALLS"
 [ -z "$RT_NAP" ] || { echo $$ >"$RT_PID"; exec sleep "$RT_NAP"; }
 while [ -n "$RT_GATE" ] && [ ! -e "$RT_GATE" ]; do sleep 0.05; done
 [ -z "$RT_EDITS" ] || echo more >>"$RT_EDITS"
-[ -z "$RT_FAILS" ] || exit 1
+[ -z "$RT_FAILS" ] || { echo "rt: auc_low NOT PROVED"; exit 1; }
 case $1 in
     ci) printf 'jobs=%s\\n' "$RT_JOBS" >>"$CALLS"; find . -type f | LC_ALL=C sort >"$RT_FILES"
         printf 'rt: auc_low is kept: earlier\\n'; sleep ${RT_PAUSE-0.6}; printf '== auc_cli\\n'
@@ -51,31 +51,6 @@ echo "rattle-link $*" >>"$CALLS"
 while [ "$1" != -o ]; do shift; done
 { cat "${LINKED-$RT_PROGRAM}"; echo "# $2"; } >"$2"
 chmod +x "$2"
-"""
-# A stand-in for an rt that keeps in the folder KEPT what `rt ci NAME` passed. It notes its words and jobs when it begins and
-# when it ends, and each crate that it proves. It waits at the crates RT_NAPS, and fails at the crate RT_FAILS once one waits.
-KEEPING_RT = """#!/bin/sh
-[ "$1" != --help ] || { echo "rt ci NAME.. the same for these. ${RT_HELP-What passes is kept}" >&2; exit; }
-if [ "$1" = ci ]; then shift; fi
-echo "begun $* jobs=$RT_JOBS" >>"$CALLS"
-case $* in "" | --anew) names=$(sed 's/:.*//' crates.txt | tac) ;; *) names=$* ;; esac
-for it in $names; do
-    entry=$KEPT/$it-$(cat crates/$it/src/anew 2>/dev/null)
-    [ -z "$RT_BLIND" ] || entry=$KEPT/$it-
-    if [ -e "$entry" ] && [ "$1" != --anew ]; then echo "rt: $it is kept: by an earlier run"; continue; fi
-    while [ "$it" = "$RT_FAILS" ] && [ -n "$RT_NAPS" ] && [ ! -s "$RT_PID" ]; do sleep 0.05; done
-    [ "$it" != "$RT_FAILS" ] || { printf '== %s\\nrt: %s NOT PROVED\\n' $it $it; exit 1; }
-    case " $RT_NAPS " in *" $it "*) echo $$ >>"$RT_PID"; exec sleep 60 ;; esac
-    sleep 0.1
-    echo "proved $it" >>"$CALLS"
-    touch "$entry"
-    printf '== %s\\nrt: %s proved\\n' $it $it
-done
-echo "ended $*" >>"$CALLS"
-case $* in
-    "" | --anew) mkdir -p crates/auc_cli/out; cp "$RT_PROGRAM" crates/auc_cli/out/auc_cli; echo "1 passed, 0 failed" ;;
-    *) echo "rt: $* and the crates below passed${RT_KEEPS-, and that is kept}. This is not the gate" ;;
-esac
 """
 # A program that writes which of its first nine descriptors are open.
 OPEN = """#!/bin/sh

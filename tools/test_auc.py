@@ -366,6 +366,7 @@ class Builds(Checkout):
         self.assertRegex(self.noted()[2], r": vector ")
         self.assertRegex(ran.stderr, r"(side by side|one crate after the other): 60 minutes of processor time, about \d+ minutes in")
         self.assertEqual([int(it) for it in re.findall(r"(\d+) percent", ran.stderr)], [96, 100])
+        self.assertEqual((self.out / "build.log").read_text(), "rt: auc_low is kept: earlier\n== auc_cli\nhello\n")
         self.assertEqual(self.auc("run", "x").stderr, "")
         self.assertEqual(len(self.noted()), 5, "the second call builds nothing")
 
@@ -376,6 +377,23 @@ class Builds(Checkout):
         self.assertEqual(len(self.noted()), 3, "a current program isn't built again")
         self.assertEqual(self.auc("prove", "--anew").returncode, 0)
         self.assertEqual(self.noted()[3:5], ["ci --anew", "jobs="])
+
+    def test_one_rt_ci_proves_all_with_the_jobs_that_were_asked_for(self):
+        for words, said, jobs in (
+            ([], "ci", ""), (["--jobs", "1"], "ci", 1), (["--anew"], "ci --anew", ""), (["--jobs", "4", "--anew"], "ci --anew", 4),
+        ):
+            self.calls.write_text("")
+            (self.out / "proved/auc").unlink(missing_ok=True)
+            self.assertEqual(self.auc("prove", *words, RT_PAUSE=0).returncode, 0, words)
+            self.assertEqual((len(self.noted()), self.noted()[:2]), (3, [said, f"jobs={jobs}"]), words)
+
+    def test_a_crate_that_is_not_proved_gives_no_program_and_the_log_says_so(self):
+        ran = self.auc("prove", RT_FAILS=1)
+        self.assertEqual((ran.returncode, ran.stdout), (70, ""))
+        self.assertIn(f"the program was not built; see {self.out}/build.log", ran.stderr)
+        self.assertEqual((self.out / "build.log").read_text(), "rt: auc_low NOT PROVED\n")
+        self.assertEqual(self.noted(), ["ci"], "nothing is called after that")
+        self.assertFalse((self.out / "proved/auc").exists())
 
     def test_a_kit_whose_gate_leaves_no_program_builds_it_after_that(self):
         self.assertEqual(self.auc("run", "x", SAYS="hello", RT_LEAVES_NONE=1).stdout, "hello\n")
@@ -439,6 +457,7 @@ class Builds(Checkout):
         child.stderr.close()
         self.assertEqual(child.wait(SECONDS), 70)
         self.assert_ends(pid)
+        self.assertEqual(list((self.room / "tmp").iterdir()), [], "nothing is left behind")
 
     def test_the_builder_ends_however_the_script_ends(self):
         for number in (signal.SIGTERM, signal.SIGINT, signal.SIGKILL):

@@ -1,9 +1,9 @@
 """Proves and builds the program.
 
 `rt ci` proves each crate that the program stands on and builds the program. What an earlier run on this machine passed isn't
-proved again, and so stages prove the crates before that, which takes less time. It works on a copy of these crates alone,
-without their must-fail edits: the gate tries those. The new program is then run at the first test set of TS 35.208, and moved
-to its place at the very end, so the old one stays until then.
+proved again, unless --anew asks for it. It works on a copy of these crates alone, without their must-fail edits: the gate tries
+those. The new program is then run at the first test set of TS 35.208, and moved to its place at the very end, so the old one
+stays until then.
 
 That program is for the kit's default processor. If this one has more, the program is built for it, too, and kept beside the
 first one: tools/launcher/processor.py.
@@ -22,8 +22,8 @@ import time
 from dataclasses import dataclass
 from pathlib import Path
 
-from . import compiling, costs, processor, sources, staging
-from .following import Builders
+from . import compiling, costs, processor, sources
+from .following import Builder
 from .places import CRATE, OUT, TOP, Stopped, say
 
 PROVED = OUT / "proved/auc"
@@ -102,25 +102,6 @@ def copy_crates(to):
         shutil.copytree(crate, to / "crates" / name, ignore=lambda at, _, left=left: left.get(str(at), ()))
 
 
-def pass_crates(given, builders):
-    """Whether the crates passed, by the verdict of one `rt ci` over all. If that is faster, stages prove them before."""
-    # What an earlier build passed is likely to be kept; a given number of jobs has to hold even if it isn't.
-    earlier = None if given.anew or given.jobs else last()
-    plan = staging.Plan(staging.room(given.jobs), staging.passed_for(earlier) if earlier else ())
-    is_anew = given.anew
-    if plan.is_faster() and staging.can_be_used():
-        try:
-            if is_anew:
-                staging.mark(builders.folder / "crates")
-            staging.prove(plan, builders, is_anew, leaves_row=not given.jobs)
-            is_anew = False
-        except staging.Failed:
-            return False
-        except staging.NotKept:
-            builders.end()
-    return builders.run(["ci", "--anew"] if is_anew else ["ci"], given.jobs)
-
-
 def announce(jobs, choice):
     measured = costs.build(is_for_two=choice.cpu != processor.DEFAULT)
     how = f"{jobs} jobs side by side" if jobs > 1 else "one crate after the other"
@@ -146,22 +127,23 @@ def passes_trial(program, log):
         return False
 
 
-def default_program(given, builders, crate):
+def default_program(given, builder, crate):
     """The program for the default, proved and built in the folder of its crate."""
-    made, is_proved = crate / "out" / CRATE.name, pass_crates(given, builders)
+    made = crate / "out" / CRATE.name
+    is_proved = builder.run(["ci", *(["--anew"] if given.anew else [])], given.jobs)
     if is_proved and not made.exists():
         # (the gate of this kit leaves no program)
-        builders.run(["run", "--", *TRIAL], given.jobs, crate)
-    if not is_proved or not passes_trial(made, builders.log):
+        builder.run(["run", "--", *TRIAL], given.jobs, crate)
+    if not is_proved or not passes_trial(made, builder.log):
         raise Stopped(f"the program was not built; see {LOG}. If the memory ran out, `./auc prove --jobs 1` takes less")
     return made
 
 
-def program_for(cpu, given, builders, crate):
+def program_for(cpu, given, builder, crate):
     """The program for another processor, from what the default one was built from; nothing if it couldn't be built."""
     say(f"now {CRATE.name} is proved once more, and the program compiled for {cpu}")
-    made = compiling.built(cpu, crate, builders, min(costs.MOST, given.jobs or costs.jobs_here()))
-    if made and passes_trial(made, builders.log):
+    made = compiling.built(cpu, crate, builder, min(costs.MOST, given.jobs or costs.jobs_here()))
+    if made and passes_trial(made, builder.log):
         return made
     say(f"the program could not be built for {cpu}, so it is that for {processor.DEFAULT}; see {LOG}")
     return None
@@ -172,11 +154,11 @@ def prove(given, cpu):
     began = time.time_ns()
     with contextlib.ExitStack() as stack:
         room, log = stack.enter_context(leaving_nothing()), stack.enter_context(LOG.open("w", encoding="utf-8"))
-        builders = stack.enter_context(Builders(room / "repository", passable(room / "aside"), log))
-        copy_crates(builders.folder)
-        crate = builders.folder / "crates" / CRATE.name
-        keep(default_program(given, builders, crate), PROVED, began)
-        other = program_for(cpu, given, builders, crate) if cpu != processor.DEFAULT else None
+        builder = stack.enter_context(Builder(room / "repository", passable(room / "aside"), log))
+        copy_crates(builder.folder)
+        crate = builder.folder / "crates" / CRATE.name
+        keep(default_program(given, builder, crate), PROVED, began)
+        other = program_for(cpu, given, builder, crate) if cpu != processor.DEFAULT else None
         if other:
             keep(other, place_of(cpu), began)
 

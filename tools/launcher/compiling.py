@@ -71,11 +71,11 @@ def is_proved(lines, cpu):
     return found is not None and found[1] == cpu
 
 
-def built(cpu, crate, builders, jobs):
+def built(cpu, crate, builder, jobs):
     """The program for that processor, built in the folder of its crate; nothing if it couldn't be."""
     folder = kit()
-    is_built, lines = builders.followed(builders.start(to_prove(folder, cpu, jobs), folder=crate))
+    is_built, lines = builder.followed(to_prove(folder, cpu, jobs), folder=crate)
     if not is_built or not is_proved(lines, cpu):
         return None
-    is_linked, _ = builders.followed(builders.start(to_link(folder, cpu), folder=crate))
+    is_linked, _ = builder.followed(to_link(folder, cpu), folder=crate)
     return crate / "out" / cpu if is_linked and os.access(crate / "out" / cpu, os.X_OK) else None

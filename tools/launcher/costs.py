@@ -10,11 +10,10 @@ from .places import TOP
 TABLE = re.compile(r"<!-- begin: bench/gate\.py -->\n(.*?)<!-- end: bench/gate\.py -->", re.S)
 MEASURED = re.compile(r"it took (\d+) minutes of\s+processor time\b[^.]*?(\d+) minutes on (\d+)\s+free processors")
 PROGRAM = "auc_cli"
-# The memory for one prover, in KiB, and for one of the crates that take most.
-PROVER, LARGE_PROVER = 3 * 1024 * 1024, 6 * 1024 * 1024
-LARGE = ("auc_jobs", "auc_run", "auc_transcript", "auc_world")
-# What each further job for one proof adds to its memory, and the part of its time that more jobs don't shorten.
-MORE, ALONE = 0.6, 0.2
+# The memory for one prover, in KiB.
+PROVER = 3 * 1024 * 1024
+# The part of a proof's time that more jobs don't shorten.
+ALONE = 0.2
 # The most jobs that rt gives one proof.
 MOST = 4
 
@@ -39,12 +38,6 @@ def crates_of_program():
     return found
 
 
-def uses_of_program():
-    """These crates in this order, each with those of them that it uses."""
-    used, crates = uses(), crates_of_program()
-    return {it: [below for below in used[it] if below in used] for it in crates}
-
-
 def page():
     return (TOP / "CONTRIBUTING.md").read_text(encoding="utf-8")
 
@@ -65,11 +58,6 @@ def minutes_by_crate():
 def shortened(minutes, jobs):
     """What a proof of these minutes takes with so many jobs."""
     return minutes * (ALONE + (1 - ALONE) / jobs)
-
-
-def memory(crate, jobs):
-    """The memory that a crate's proof takes with so many jobs, in KiB."""
-    return int((LARGE_PROVER if crate in LARGE else PROVER) * (1 + MORE * (jobs - 1)))
 
 
 class Build(NamedTuple):
@@ -123,8 +111,3 @@ def free_memory():
 def jobs_here():
     """How many jobs a build has on this machine: one a processor, as far as the memory goes."""
     return max(1, min(processors(), free_memory() // PROVER))
-
-
-def jobs_of_one(processors):
-    """How many jobs rt gives a crate's proof, of so many processors, if nothing else is ready but the crate's tests."""
-    return max(1, min(MOST, processors // 2))

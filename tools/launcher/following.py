@@ -1,12 +1,11 @@
-"""Runs the kit's commands, several at once if need be, and follows each to its end. Its whole lines go to the log as they come,
-and the share of the work that is done to standard error."""
+"""Runs the kit's commands, and follows each to its end. What it writes goes to the log, and the share of the work that is done to
+standard error."""
 import os
 import re
 import select
 import signal
 import subprocess
 import sys
-import tempfile
 
 from . import costs
 from .places import Stopped, say
@@ -54,33 +53,12 @@ class Progress:
 
 
 class Builder:
-    """A command that was started in a folder. What it writes goes to a file in the folder `room`, and there it may put things
-    aside. Without a number of jobs it takes the processors and the memory that are there."""
-
-    def __init__(self, words, folder, jobs, room):
-        environment = {**os.environ, "TMPDIR": str(room), **({"RT_JOBS": str(jobs)} if jobs else {})}
-        file, name = tempfile.mkstemp(suffix=".log", dir=room)
-        how = {"cwd": folder, "env": environment, "stdin": subprocess.DEVNULL, "stdout": file, "stderr": file}
-        self.process = subprocess.Popen(words, preexec_fn=end_with_parent, **how)
-        os.close(file)
-        self.status, self.output, self.rest = None, open(name, "rb"), b""
-
-    def new_lines(self):
-        """The whole lines that it wrote since the last call, and what is left if it has ended. Then its status is there."""
-        self.status = self.process.poll()
-        *lines, self.rest = (self.rest + self.output.read()).split(b"\n")
-        if self.status is not None:
-            self.output.close()
-            lines += [self.rest] if self.rest else []
-        return [it.decode(errors="replace") for it in lines]
-
-
-class Builders:
-    """The builders that run, each in this folder unless another one is given, and the log of all."""
+    """Runs commands, one after the other, each in this folder unless another one is given. They may put things aside in the
+    folder `room`."""
 
     def __init__(self, folder, room, log):
         self.folder, self.room, self.log = folder, room, log
-        self.running, self.progress, self.listener = [], Progress(), Listener()
+        self.process, self.progress, self.listener = None, Progress(), Listener()
 
     def __enter__(self):
         return self
@@ -88,38 +66,45 @@ class Builders:
     def __exit__(self, *_):
         self.end()
 
-    def start(self, words, jobs=None, folder=None):
-        self.running.append(Builder(words, folder or self.folder, jobs, self.room))
-        return self.running[-1]
+    def start(self, words, jobs, folder):
+        environment = {**os.environ, "TMPDIR": str(self.room), **({"RT_JOBS": str(jobs)} if jobs else {})}
+        how = {"cwd": folder, "env": environment, "stdin": subprocess.DEVNULL, "stdout": self.log, "stderr": self.log}
+        self.process = subprocess.Popen(words, preexec_fn=end_with_parent, **how)
 
-    def wait(self):
-        """Waits a moment: each builder with its new lines. One that has ended is there for the last time."""
+    def has_ended(self):
+        """Waits a moment: whether the command has ended."""
         if self.listener.is_gone(EVERY):
             raise Stopped("standard error was closed, so the build was ended")
-        heard = [(it, it.new_lines()) for it in self.running]
-        self.running = [it for it in self.running if it.status is None]
-        for line in (line for _, lines in heard for line in lines):
-            print(line, file=self.log)
-            self.progress.hear(line)
-        self.log.flush()
-        self.progress.tell()
-        return heard
+        return self.process.poll() is not None
 
-    def followed(self, builder):
-        """Follows one to its end: whether it ended well, and its lines."""
-        lines = []
-        while builder.status is None:
-            lines += dict(self.wait())[builder]
-        return builder.status == 0, lines
+    def lines(self, log):
+        """The lines that the command writes to the log, until it has ended. The last one may be a part of a line."""
+        lines, rest, is_over = [], b"", False
+        while not is_over:
+            is_over = self.has_ended()
+            *new, rest = (rest + log.read()).split(b"\n")
+            new = [it.decode(errors="replace") for it in new]
+            for line in new:
+                self.progress.hear(line)
+            self.progress.tell()
+            lines += new
+        return [*lines, rest.decode(errors="replace")]
+
+    def followed(self, words, jobs=None, folder=None):
+        """Runs a command to its end: whether it ended well, and its lines. Without a number of jobs it takes the processors and
+        the memory that are there."""
+        with open(self.log.name, "rb") as log:
+            log.seek(0, os.SEEK_END)
+            self.start(words, jobs, folder or self.folder)
+            lines = self.lines(log)
+        return self.process.returncode == 0, lines
 
     def run(self, words, jobs=None, folder=None):
         """Runs rt to its end: whether it ended well."""
-        return self.followed(self.start(["rt", *words], jobs, folder))[0]
+        return self.followed(["rt", *words], jobs, folder)[0]
 
     def end(self):
-        """Ends those that run."""
-        for it in self.running:
-            it.process.terminate()
-        for it in self.running:
-            it.process.wait()
-        self.running = []
+        """Ends the command, if one runs."""
+        if self.process and self.process.poll() is None:
+            self.process.terminate()
+            self.process.wait()

@@ -33,12 +33,7 @@ def checksum():
     return lines.hexdigest()
 
 
-def changed_after(program):
-    """The sources that were changed after the program was made."""
-    made = program.stat().st_mtime_ns
-    return [path for path in files() if (TOP / path).stat().st_mtime_ns > made]
-
-
 def are_older_than(program):
     """Whether no source was changed after the program was made."""
-    return not changed_after(program)
+    made = program.stat().st_mtime_ns
+    return all((TOP / path).stat().st_mtime_ns <= made for path in files())
