@@ -2,7 +2,7 @@
 """Tries must-fail edits, those of the gate (crates/NAME/must-fail) and the others (edits/NAME): the prover has to refuse
 each of them.
 
-    bench/edits.py [--jobs N] [--write] [--alone] [--anew] [--here] [--missing | NAME ..]
+    bench/edits.py [--jobs N] [--write] [--alone] [--anew] [--here] [--missing] [NAME ..]
     bench/edits.py --released
     bench/edits.py --applies
 
@@ -13,8 +13,8 @@ different functions of a crate are tried together, in one check that tells of ea
 one. A line says of each edit what its try came to, its seconds of processor time (of a check of many, its share), and what
 the prover told. An edit that an earlier `rt must-fail` tried on the same files is kept by rt, and isn't tried again; --anew
 tries it too. --here begins with what `rt check` kept in this checkout, and checks only the crates that are tried and not
-those below them. --missing tries the crates that --released lists. --jobs says how many provers work side by side: RT_JOBS,
-or else one a processor, as far as each finds 5 GB of memory.
+those below them. --missing tries the edits that --released lists, and no others of their crates. --jobs says how many provers
+work side by side: RT_JOBS, or else one a processor, as far as each finds 5 GB of memory.
 
 --write keeps what was seen in docs/EDITS.md, crate by crate as each ends. It leaves the rows of crates that weren't tried,
 drops those of edits that are gone, and has `not tried` for new ones.
@@ -60,7 +60,7 @@ def options():
     parser.add_argument("--alone", action="store_true", help="try no edits together")
     parser.add_argument("--anew", action="store_true", help="also try what an earlier run tried")
     parser.add_argument("--here", action="store_true", help="begin with what rt check kept in this checkout")
-    parser.add_argument("--missing", action="store_true", help="only the crates that --released lists")
+    parser.add_argument("--missing", action="store_true", help="only the edits that --released lists")
     parser.add_argument("--released", action="store_true", help="only compare docs/EDITS.md with the files")
     parser.add_argument("--applies", action="store_true", help="only test that each edit can be applied")
     return parser.parse_args()
@@ -192,6 +192,9 @@ class Trial:
         self.clone, self.given, self.names = clone, given, names
         self.uses, self.version = uses_of(clone), version_of(clone)
         self.edits = {it: verdicts.edits_of(clone, it) for it in names}
+        if given.missing:
+            lacking = verdicts.lacking(TOP)
+            self.edits = {it: [edit for edit in edits if edit.name in lacking[it]] for it, edits in self.edits.items()}
         self.sums = {it: verdicts.files_sum(clone, it, self.uses) for it in names}
         self.sections, self.last_run = verdicts.read_page(TOP)
         self.counts, self.lock, self.sampler = [], threading.Lock(), provers.Sampler(os.getpid())
@@ -264,7 +267,9 @@ class Trial:
         lines = {it[1]: it[0] for it in re.findall(r"(?m)^(rt: must-fail \w+/([\w.-]+)\.edit: .*)$", said)}
         lines |= {it: "refused, as it must be: a goal of its own function is open" for it in together}
         seconds = {it: f"{much:.0f}" for it, much in together.items()} | self.seconds_of(crate, left)
-        was, rows = self.sections.get(crate, verdicts.Section()), {}
+        was = self.sections.get(crate, verdicts.Section())
+        # (what an earlier run saw on the same files stays)
+        rows = dict(was.rows) if was.files == self.sums[crate] else {}
         for edit in self.edits[crate]:
             old = was.rows.get(edit.name, verdicts.Row(""))
             row = verdicts.Row(edit.stands, verdicts.verdict_in(lines.get(edit.name, "")), text=edit.text)
@@ -273,9 +278,9 @@ class Trial:
             why = lines.get(edit.name, "").partition("as it must be: ")[2][:100]
             shown = f"{crate:<15} {edit.name:<62} {seconds.get(edit.name, 'kept'):>4}   {row.verdict}"
             print(f"{shown}: {why}" if why else shown, flush=True)
-        refused = sum(it.is_refused() for it in rows.values())
-        self.counts.append((refused, len(rows) - refused))
-        if refused < len(rows):
+        refused = sum(rows[it.name].is_refused() for it in self.edits[crate])
+        self.counts.append((refused, len(self.edits[crate]) - refused))
+        if refused < len(self.edits[crate]):
             print(said, file=sys.stderr, flush=True)
         moment, took = time.strftime("%Y-%m-%d %H:%M"), f"{minutes:.1f}"
         if not seconds and was.files == self.sums[crate]:
@@ -310,7 +315,10 @@ def names_to_try(given):
     if unknown:
         print(f"there are no edits of {' '.join(unknown)}", file=sys.stderr)
         sys.exit(2)
-    names = list(verdicts.lacking(TOP)) if given.missing else given.names or list(every)
+    names = given.names or list(every)
+    if given.missing:
+        lacking = verdicts.lacking(TOP)
+        names = [it for it in names if it in lacking]
     if not names:
         print("all edits are refused on these files")
         sys.exit(0)
