@@ -1,6 +1,6 @@
 //! An attribute.
 
-use auc_edge::Octets;
+use auc_memory::Octets;
 
 /// An attribute, by its name in RFC 4187 §10 and RFC 9048 §3 and §4: its value, without length, reserved
 /// bytes and fill.

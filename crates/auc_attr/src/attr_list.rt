@@ -1,12 +1,12 @@
 //! Lists of attributes.
 
-ghost use Rattle.std.specs.Prelude.{◌≡◌, ◌++◌, [], ◌∷◌, ◌<◌, length, true, IfOk, OnOk, OnErr, slice_get};
+ghost use Rattle.std.specs.Prelude.{◌≡◌, ◌≤◌, ◌++◌, [], ◌∷◌, ◌<◌, length, true, IfOk, OnOk, OnErr, slice_get};
 ghost use Rattle.std.specs.Option.{option_copied};
 ghost use Rattle.auc_attr.specs.Item.{has};
-ghost use Rattle.auc_edge.specs.Reserved.{Reserved};
+ghost use Rattle.auc_memory.specs.Reserved.{Reserved};
 
 use crate::attr::Attr;
-use auc_edge::{Items, NoMemory, Places};
+use auc_memory::{Items, NoMemory, Places};
 use std::alloc::Global;
 use std::marker::Model;
 
@@ -42,6 +42,17 @@ impl AttrList {
         AttrList {
             attrs: places.into_items(),
         }
+    }
+
+    /// The list of one attribute, in a place that was taken before.
+    pub fn one(attr: Attr, places: Places<Attr>) -> AttrList
+        requires empty { places.written ≡ [] }
+        requires left { 1 ≤ places.left }
+        ensures { result ≡ attr ∷ [] }
+    {
+        let mut places = places;
+        places.put(attr);
+        AttrList::from_places(places)
     }
 
     /// Appends an attribute. If memory runs out, the attribute is dropped and the list stays as it was.

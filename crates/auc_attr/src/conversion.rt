@@ -9,7 +9,7 @@ ghost use Rattle.auc_attr.specs.InnerParts.{value_bytes};
 use crate::attr::Attr;
 use crate::table::{Row, Shape, Table, row_in};
 use crate::values::{array_of, number_of};
-use auc_edge::{NoMemory, Octets};
+use auc_memory::{NoMemory, Octets};
 use std::alloc::Global;
 
 /// The attribute of a type with a value.

@@ -4,11 +4,11 @@ ghost use Rattle.std.specs.Prelude.{◌≡◌, ◌≤◌, length, true};
 ghost use Rattle.auc_attr.specs.Item.{item};
 ghost use Rattle.auc_attr.specs.Spelling.{fits_item_in, may_stand_row, item_text_in};
 ghost use Rattle.auc_attr.specs.Table.{row_in};
-ghost use Rattle.auc_edge.specs.Reserved.{wrote};
+ghost use Rattle.auc_memory.specs.Reserved.{wrote};
 
 use crate::layout::{fits, layout_of, put_layout, size_of};
 use crate::table::{Table, row_in};
-use auc_edge::Room;
+use auc_memory::Room;
 
 /// Whether an attribute of a type has a spelling for a value.
 pub fn fits_item(table: Table, kind: u8, value: &[u8]) -> bool

@@ -1,7 +1,12 @@
 //! Laws of the grammar that no single call shows: of attributes of EAP-AKA, and of types and values by every table.
 
-ghost use Rattle.auc_attr.specs.Laws.{OneWalkIn, OneFaultIn, RefusedIsNotReadIn, WrittenIsReadIn, ReadIsWritableIn, FoundIsFramedIn, OneWalk, OneList, OneFault, RefusedIsNotRead, WrittenIsRead, ReadIsWritable, FoundIsFramed};
+ghost use Rattle.auc_attr.specs.Laws.{AreBytes, OneWalkIn, OneFaultIn, RefusedIsNotReadIn, WrittenIsReadIn, ReadIsWritableIn, FoundIsFramedIn, OneWalk, OneList, OneFault, RefusedIsNotRead, WrittenIsRead, ReadIsWritable, FoundIsFramed};
 ghost use Rattle.auc_attr.specs.declared.table.Table.{Table};
+
+/// Bytes are less than 256 each, which some laws require.
+pub fn are_bytes(bytes: &[u8])
+    ensures { AreBytes bytes.now }
+{}
 
 /// Bytes are one list of attributes and then end, or one list of attributes and then one fault.
 pub fn bytes_have_one_reading_or_one_fault()

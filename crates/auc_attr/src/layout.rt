@@ -4,11 +4,11 @@ ghost use Rattle.std.specs.Prelude.{◌≡◌, ◌+◌, ◌*◌, ◌≤◌, ◌<
 ghost use Rattle.std.specs.Int.{w16, to_be_bytes};
 ghost use Rattle.auc_attr.specs.Spelling.{fill, fits, shape_text};
 ghost use Rattle.auc_attr.specs.InnerParts.{front_bytes, layout_text};
-ghost use Rattle.auc_edge.specs.Reserved.{wrote};
+ghost use Rattle.auc_memory.specs.Reserved.{wrote};
 
 use crate::body::are_zeros;
 use crate::table::Shape;
-use auc_edge::Room;
+use auc_memory::Room;
 
 /// Two bytes or none, the value, and zero bytes.
 #[derive(Clone, Copy)]

@@ -39,11 +39,12 @@ pub use frame::{FrameFault, Framed, length_of, read_frame, read_frame_in};
 pub use front::{Found, item_at};
 pub use items::{fits_item, may_stand, put_item, size_of_item};
 pub use law::{
-    bytes_are_one_list, bytes_have_one_first_fault, bytes_have_one_first_fault_in_every_table,
-    bytes_have_one_reading_in_every_table, bytes_have_one_reading_or_one_fault,
-    found_frames_stand_there, found_frames_stand_there_in_every_table,
-    read_attributes_may_be_written, read_items_may_be_written, refused_bytes_are_not_read,
-    refused_bytes_are_not_read_in_any_table, written_attributes_are_read, written_items_are_read,
+    are_bytes, bytes_are_one_list, bytes_have_one_first_fault,
+    bytes_have_one_first_fault_in_every_table, bytes_have_one_reading_in_every_table,
+    bytes_have_one_reading_or_one_fault, found_frames_stand_there,
+    found_frames_stand_there_in_every_table, read_attributes_may_be_written,
+    read_items_may_be_written, refused_bytes_are_not_read, refused_bytes_are_not_read_in_any_table,
+    written_attributes_are_read, written_items_are_read,
 };
 pub use mac::{mac_place, mac_place_in};
 pub use reading::read_attrs;

@@ -3,7 +3,7 @@
 ghost use Rattle.std.specs.Prelude.{◌≡◌};
 ghost use Rattle.auc_attr.specs.declared.refusal.AttrRefusal.TheVariants as refusal;
 
-use auc_edge::NoMemory;
+use auc_memory::NoMemory;
 
 /// The first fault of bytes that are read as attributes.
 #[derive(Clone, Copy, Debug, PartialEq, Eq)]

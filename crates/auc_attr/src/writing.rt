@@ -3,7 +3,7 @@
 ghost use Rattle.std.specs.Prelude.{◌≡◌, ◌+◌, ◌^◌, ◌≤◌, ◌<◌, ◌++◌, ◌&&◌, length, true, IsTrue, ◌↔◌, OnOk, OnErr};
 ghost use Rattle.auc_attr.specs.Item.{item_of, is_named};
 ghost use Rattle.auc_attr.specs.Spelling.{fits_item, may_follow, writable, spelling, item_text};
-ghost use Rattle.auc_edge.specs.Reserved.{wrote};
+ghost use Rattle.auc_memory.specs.Reserved.{wrote};
 
 use crate::attr::Attr;
 use crate::attr_list::AttrList;
@@ -11,7 +11,7 @@ use crate::conversion::{is_named, parts_of};
 use crate::items::{fits_item, may_stand, put_item, size_of_item};
 use crate::seen::Seen;
 use crate::table::Table;
-use auc_edge::{NoMemory, Octets, Room};
+use auc_memory::{NoMemory, Octets, Room};
 
 /// Appends attributes to `out`, with zeros as reserved bytes and fill (RFC 4187 §8.1). If memory runs out,
 /// `out` stays as it was.

@@ -1,7 +1,7 @@
 -- Hearing a block: which pieces were heard, and what is answered.
 use Rattle.std.specs.Prelude.{◌≡◌, ◌⊎◌, ℕ, ◌<◌, ◌≤◌, ◌-◌, ◌^◌, Bool, IsTrue, List, [], ◌++◌, length, take, map, Option, Some, None}
 use Rattle.std.specs.List.{concat}
-use Rattle.auc_edge.specs.Faults.{Rose}
+use Rattle.auc_memory.specs.Faults.{Rose}
 use Rattle.auc_block.specs.Block.{first_block}
 use Rattle.auc_block.specs.Turns.{Turns}
 use Rattle.auc_block.specs.declared.next_block.NextBlock.{NextBlock}

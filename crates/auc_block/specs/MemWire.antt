@@ -1,7 +1,7 @@
 -- Wires in memory: what is to be heard, how much is taken at once, which calls fail, and all turns.
 use Rattle.std.specs.Prelude.{ℕ, ◌+◌, ◌-◌, ◌==◌, nat_lt, min, Bool, List, [], ◌∷◌, ◌++◌, length, take, drop, if◌then◌else◌}
 use Rattle.std.specs.List.{list_any}
-use Rattle.auc_edge.specs.Faults.{raised}
+use Rattle.auc_memory.specs.Faults.{raised}
 use Rattle.auc_block.specs.declared.turn.Turn.{Turn}
 use Rattle.auc_block.specs.declared.turn.Turn.TheVariants.{Heard, Said}
 

@@ -10,7 +10,7 @@ use crate::search::{Found, find_end};
 use crate::trouble::Trouble;
 use crate::waiting::{drop_front, hear_more};
 use crate::wire::Wire;
-use auc_edge::{NoMemory, Octets};
+use auc_memory::{NoMemory, Octets};
 use std::alloc::Global;
 
 /// How many bytes a block has at most, without its line `end`.

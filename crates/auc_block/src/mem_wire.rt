@@ -1,14 +1,14 @@
 //! Wires in memory.
 
 ghost use Rattle.std.specs.Prelude.{◌≡◌, ◌≤◌, ◌<◌, ◌⊎◌, ◌+◌, ◌++◌, ◌↔◌, ◌==◌, [], ◌∷◌, ℕ, Some, false, length, take, min, OnOk, OnErr, IfOk, IsOk, IsErr, IsTrue, MatchResult};
-ghost use Rattle.auc_edge.specs.Faults.{Rose, raised};
+ghost use Rattle.auc_memory.specs.Faults.{Rose, raised};
 ghost use Rattle.auc_block.specs.Turns.{Turns};
 ghost use Rattle.auc_block.specs.MemWire.{first_above, is_failing, next_end, next_piece, after_hear, after_say, after_fault};
 ghost use Rattle.auc_block.specs.declared.turn.Turn.TheVariants as turn;
 
 use crate::turn::Turn;
 use crate::wire::Wire;
-use auc_edge::{Failed, Items, NoMemory, Octets};
+use auc_memory::{Failed, Items, NoMemory, Octets};
 use std::alloc::Global;
 use std::marker::Model;
 

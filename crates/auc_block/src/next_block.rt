@@ -1,6 +1,6 @@
 //! What comes next on a wire.
 
-use auc_edge::Octets;
+use auc_memory::Octets;
 
 /// What was heard up to the end of a block, or up to the end of the input.
 #[derive(Drop)]

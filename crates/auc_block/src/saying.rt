@@ -1,11 +1,11 @@
 //! Saying a whole text.
 
 ghost use Rattle.std.specs.Prelude.{◌≡◌, ◌≤◌, OnOk, OnErr};
-ghost use Rattle.auc_edge.specs.Faults.{Rose};
+ghost use Rattle.auc_memory.specs.Faults.{Rose};
 ghost use Rattle.auc_block.specs.Turns.{Says, SaysFront};
 
 use crate::wire::Wire;
-use auc_edge::Failed;
+use auc_memory::Failed;
 
 /// Says all the bytes. If it fails, the first of them may have been said.
 pub fn say_whole<W: Wire>(wire: &mut W, bytes: &[u8]) -> Result<(), Failed>

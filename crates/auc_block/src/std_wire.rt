@@ -1,10 +1,10 @@
 //! Standard input and standard output as one wire.
 
 ghost use Rattle.std.specs.Prelude.{◌≡◌, ◌≤◌, ◌<◌, ◌⊎◌, None, false, length, IfOk, IsErr, MatchResult};
-ghost use Rattle.auc_edge.specs.Faults.{raised};
+ghost use Rattle.auc_memory.specs.Faults.{raised};
 
 use crate::wire::Wire;
-use auc_edge::Failed;
+use auc_memory::Failed;
 use std::io::{self, ErrorKind, Input, Print, Read, Write};
 use std::marker::Model;
 

@@ -3,7 +3,7 @@
 ghost use Rattle.std.specs.Prelude.{◌≡◌};
 ghost use Rattle.auc_block.specs.declared.trouble.Trouble.TheVariants as trouble;
 
-use auc_edge::{Failed, NoMemory};
+use auc_memory::{Failed, NoMemory};
 use std::alloc::AllocError;
 
 /// Why no block is answered.

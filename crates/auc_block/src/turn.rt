@@ -1,6 +1,6 @@
 //! Turns of a conversation.
 
-use auc_edge::Octets;
+use auc_memory::Octets;
 
 /// What one call of a wire moved.
 #[derive(Drop)]

@@ -1,12 +1,12 @@
 //! Wires, over which a conversation goes.
 
 ghost use Rattle.std.specs.Prelude.{◌≡◌, ◌≤◌, ◌<◌, ◌⊎◌, ◌↔◌, ℕ, Bool, List, [], ◌∷◌, Option, length, take, IfOk, OnOk, OnErr, IsTrue};
-ghost use Rattle.auc_edge.specs.Faults.{Rose};
+ghost use Rattle.auc_memory.specs.Faults.{Rose};
 ghost use Rattle.auc_block.specs.Turns.{Turns};
 ghost use Rattle.auc_block.specs.declared.turn.Turn.{Turn};
 ghost use Rattle.auc_block.specs.declared.turn.Turn.TheVariants as turn;
 
-use auc_edge::Failed;
+use auc_memory::Failed;
 
 /// An input and an output, whose calls have one order.
 pub trait Wire {

@@ -1,8 +1,8 @@
 //! Permanent identities, and the names of a server by another implementation.
 
-use auc_edge::Imsi;
 use auc_hmac::Method;
 use auc_ident::{Name, NameKind, Names, Ordinals, Spent, permanent, permanent_in, username};
+use auc_memory::Imsi;
 
 // RFC 4187 §4.1.1.6 and RFC 9048 §5.1, by hand: the leading digit and the IMSI.
 #[test]

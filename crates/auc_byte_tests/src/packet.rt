@@ -5,8 +5,8 @@ ghost use Rattle.std.specs.Prelude.{◌≡◌, []};
 
 use crate::digits::octets;
 use auc_attr::{Attr, AttrList, AttrRefusal, read_attrs};
-use auc_edge::{Octets, Room};
 use auc_hmac::Method;
+use auc_memory::{Octets, Room};
 use auc_packet::{
     Draft, Head, Packet, PacketRefusal, Subtype, head, is_malformed, is_missing, is_sealed,
     put_packet, put_sealed, read_packet, receive, write_packet,

@@ -6,8 +6,8 @@ ghost use Rattle.auc_cards.specs.Stores.{fresh_kept, kept_now, put_back, put_own
 ghost use Rattle.auc_cards.specs.Usims.{AreFresh, AreOfRows, ArePut, ArePutBack};
 
 use crate::devices::JobDevices;
-use auc_edge::NoMemory;
 use auc_ident::Ordinals;
+use auc_memory::NoMemory;
 use auc_peer::Device;
 use auc_reauth::{DeviceStore, Kept, ServerStore};
 use auc_server::HomeRow;

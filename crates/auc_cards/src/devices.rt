@@ -6,8 +6,8 @@ ghost use Rattle.auc_cards.specs.Devices.{device_of, home_of, job_devices};
 ghost use Rattle.auc_cards.specs.Known.{AreKnown};
 
 use crate::cards::{Card, Cards};
-use auc_edge::{NoMemory, Octets};
 use auc_lines::Line;
+use auc_memory::{NoMemory, Octets};
 use auc_peer::Device;
 use auc_server::{HomeRow, Setting};
 use auc_usim::Usim;

@@ -1,6 +1,6 @@
 -- What calls at a desk add to what its pass did.
 use Rattle.std.specs.Prelude.{◌≡◌, ◌⊎◌, ℕ, ◌<◌, List, ◌++◌, All, Contains, Option, map, slice_index}
-use Rattle.auc_edge.specs.declared.stop.Stop.{Stop}
+use Rattle.auc_memory.specs.declared.stop.Stop.{Stop}
 use Rattle.auc_history.specs.declared.entry.Entry.{Entry}
 use Rattle.auc_history.specs.History.{IsBefore, IsInOrder, drawn}
 use Rattle.auc_draw.specs.declared.rule.Deed.{Deed}

@@ -10,8 +10,10 @@ mod words;
 
 use auc_block::StdWire;
 use auc_disk::FileDisk;
-use auc_edge::{FileShelf, NoMemory, Octets, OpenGate, StdSink, fill_standard_streams};
+use auc_edge::{FileShelf, OpenGate, StdSink};
+use auc_memory::{NoMemory, Octets};
 use auc_run::{Status, run, serve};
+use auc_streams::fill_standard_streams;
 use std::process::ExitCode;
 use words::read_words;
 

@@ -1,6 +1,6 @@
 //! The words with which the program was called.
 
-use auc_edge::{Items, NoMemory, Octets};
+use auc_memory::{Items, NoMemory, Octets};
 use std::alloc::Global;
 use std::env::{Env, FillError};
 use std::str;

@@ -5,7 +5,7 @@ use Rattle.std.specs.Prelude.{◌==◌, ◌&&◌, nat_le, nat_lt, if◌then◌el
 use Rattle.std.specs.Str.{bytes_eq}
 use Rattle.std.proofs.lemmas.Bool.{and_from, and_parts, le-leb}
 use Rattle.std.proofs.lemmas.Bool.Decides.{nat_tests}
-use Rattle.auc_edge.specs.Identity.{Identity, is_imsi}
+use Rattle.auc_memory.specs.Identity.{Identity, is_imsi}
 use Rattle.auc_sqn.specs.Number.{max_seq}
 use Rattle.auc_journal.specs.Image.{Frame, Reading, are_entries, before, behind, count_in, entries_in, first_in, frames_in, header, is_body, is_frame, is_kind, kind_in, most, read_frames, read_image, reserved_in, same_identity, size_in, with_gate}
 use Rattle.auc_journal.specs.Limits.{AreLimits, AreSingle}

@@ -8,7 +8,7 @@ use Rattle.std.proofs.lemmas.List.{drop_at, take_more}
 use Rattle.std.proofs.lemmas.Grind.{flat_map-append}
 use Rattle.std.proofs.lemmas.Option.{get_or_from_slice_get}
 use Rattle.std.proofs.lemmas.Nat.{from_be_bytes-to_be_bytes_8}
-use Rattle.auc_edge.specs.Identity.{Identity, is_imsi}
+use Rattle.auc_memory.specs.Identity.{Identity, is_imsi}
 use Rattle.auc_journal.specs.Image.{Frame, Reading, before, behind, body_of, entry_in, entry_of, frames_in, header, is_body, is_frame, is_kind, most, read_frames, read_image, reserved_as, with_gate}
 use Rattle.auc_journal.specs.Limits.{AreLimits}
 use Rattle.auc_compact.specs.Compact.{IsAnew, compact_end, compact_image, open_frame}

@@ -1,7 +1,7 @@
 -- For `auc_run`: limits of the same frames, each identity once, are equally many.
 use Rattle.std.proofs.Common.{◌≡◌, ℕ, suc, ◌≤◌, max, Bool, true, false, List, [], ◌∷◌, length, refl, sym, ◌∙◌, ap, arith}
 use Rattle.std.specs.Prelude.{if◌then◌else◌}
-use Rattle.auc_edge.specs.Identity.{Identity}
+use Rattle.auc_memory.specs.Identity.{Identity}
 use Rattle.auc_journal.specs.Image.{Frame, reserved_in, same_identity}
 use Rattle.auc_journal.specs.Limits.{AreLimits, AreSingle}
 use Rattle.auc_journal.proofs.Facts.{same-same, same_is}

@@ -1,7 +1,7 @@
 -- The form `compact`: a journal anew, in which each identity stands once, in a frame of kind 1.
 use Rattle.std.specs.Prelude.{◌≡◌, ℕ, ◌+◌, ◌*◌, Bool, false, List, [], ◌∷◌, ◌++◌, codes, flat_map, length}
 use Rattle.std.specs.Str.{bytes_eq}
-use Rattle.auc_edge.specs.Identity.{Identity}
+use Rattle.auc_memory.specs.Identity.{Identity}
 use Rattle.auc_journal.specs.Image.{Frame, body_of, header, reserved_by}
 use Rattle.auc_journal.specs.Settled.{AtRest}
 

@@ -6,8 +6,8 @@ ghost use Rattle.auc_journal.specs.Limits.{AreLimits};
 ghost use Rattle.auc_compact.specs.Compact.{IsAnew, asks_compact, compact_image, open_frame};
 
 use crate::refusal::CompactRefusal;
-use auc_edge::{Imsi, NoMemory, Octets};
 use auc_journal::LimitList;
+use auc_memory::{Imsi, NoMemory, Octets};
 use std::alloc::Global;
 
 // How many bytes a journal has at most.

@@ -3,7 +3,7 @@
 ghost use Rattle.std.specs.Prelude.{◌≡◌};
 ghost use Rattle.auc_compact.specs.declared.refusal.CompactRefusal.TheVariants as refusal;
 
-use auc_edge::NoMemory;
+use auc_memory::NoMemory;
 
 /// Why a journal isn't written anew.
 #[derive(Clone, Copy)]

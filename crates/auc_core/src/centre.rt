@@ -5,7 +5,7 @@ ghost use Rattle.auc_core.specs.Step.{IsCore, Knows, Steps};
 ghost use Rattle.auc_sqn.specs.Number.{max_seq};
 
 use crate::event::{Event, Reply};
-use auc_edge::NoMemory;
+use auc_memory::NoMemory;
 use std::alloc::Global;
 use std::marker::Model;
 

@@ -1,7 +1,7 @@
 -- Disks: what a read gives, if the disk reveals that, and what a crash may leave.
 use Rattle.std.specs.Prelude.{◌≡◌, ◌⊎◌, ℕ, ◌+◌, ◌-◌, ◌≤◌, min, max, List, ◌++◌, length, take, drop, replicate, Option, Some, None, Result, OnOk, OnErr}
-use Rattle.auc_edge.specs.Faults.{Rose}
-use Rattle.auc_edge.specs.Shelf.{GivesFrom}
+use Rattle.auc_memory.specs.Faults.{Rose}
+use Rattle.auc_memory.specs.Buffer.{GivesFrom}
 
 -- the first n bytes of a file; if it is shorter, a filler byte stands in each missing place
 abbrev pub front : ℕ → ℕ → List ℕ → List ℕ

@@ -1,6 +1,6 @@
 -- Disks in memory: the image that one began with, its record of calls, which calls fail, and how it counts faults.
 use Rattle.std.specs.Prelude.{◌≡◌, ◌⊎◌, ℕ, ◌+◌, List, ◌∷◌, length, Bool, false}
-use Rattle.auc_edge.specs.Faults.{raised}
+use Rattle.auc_memory.specs.Faults.{raised}
 use Rattle.auc_disk.specs.Failing.{Failing, is_listed}
 use Rattle.auc_disk.specs.Replay.{Image, ImageSince, seen_after}
 use Rattle.auc_disk.specs.declared.call.Call.{Call}

@@ -1,6 +1,6 @@
 //! Calls that change what a crash may leave.
 
-use auc_edge::Octets;
+use auc_memory::Octets;
 
 /// A write of bytes at a place, with whether it succeeded; or a sync that succeeded.
 #[derive(Drop)]

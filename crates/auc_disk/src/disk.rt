@@ -3,7 +3,7 @@
 ghost use Rattle.std.specs.Prelude.{◌≡◌, ◌≤◌, ◌+◌, ◌^◌, ℕ, List, Option, Some, length, IfOk, OnOk};
 ghost use Rattle.auc_disk.specs.Disk.{Elapses, Follows, HasCause, IsLength, OnlyTold, Puts, ReadsAt, Torn};
 
-use auc_edge::Failed;
+use auc_memory::Failed;
 
 /// One file of a disk. Between two syncs a crash may leave any bytes in each written range and past the old
 /// end of the file, and a length between the old and the new one. Offsets and lengths count bytes.

@@ -4,7 +4,7 @@ ghost use Rattle.std.specs.Prelude.{◌≡◌, ◌++◌, [], ◌∷◌, OnOk, On
 ghost use Rattle.auc_disk.specs.Failing.{is_entry, is_listed};
 
 use crate::disk_call::DiskCall;
-use auc_edge::NoMemory;
+use auc_memory::NoMemory;
 use std::alloc::Global;
 use std::marker::Model;
 

@@ -1,10 +1,11 @@
 //! A file of the operating system as a disk.
 
 ghost use Rattle.std.specs.Prelude.{◌≡◌, ◌≤◌, None, IsErr, MatchResult, IfOk, length};
-ghost use Rattle.auc_edge.specs.Faults.{raised};
+ghost use Rattle.auc_memory.specs.Faults.{raised};
 
 use crate::disk::Disk;
-use auc_edge::{Failed, above_standard_streams};
+use auc_memory::{Failed, counted};
+use auc_streams::above_standard_streams;
 use std::fs::{File, OpenOptions};
 use std::io::{self, ErrorKind};
 use std::marker::Model;
@@ -106,21 +107,6 @@ fn open<R: Files<File = File>>(rt: &R) -> io::Result<File> {
     file.sync_all()?;
     File::open(rt, FOLDER)?.sync_all()?;
     Ok(file)
-}
-
-// The answer of a real call. If the call failed, a fault is counted.
-fn counted<T>(faults: &mut u64, answer: io::Result<T>) -> Result<T, Failed>
-    ensures { MatchResult answer
-        (λ value. (result ≡ Ok value) × (faults.new ≡ faults.old))
-        (λ _. IsErr result × (faults.new ≡ raised faults.old)) }
-{
-    match answer {
-        Ok(value) => Ok(value),
-        Err(_) => {
-            *faults = faults.saturating_add(1);
-            Err(Failed)
-        }
-    }
 }
 
 impl<R: Files<File = File>> Disk for FileDisk<R> {

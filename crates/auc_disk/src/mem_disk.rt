@@ -2,8 +2,8 @@
 
 ghost use Rattle.std.specs.Prelude.{◌≡◌, ◌≤◌, ◌+◌, ◌^◌, ℕ, List, [], ◌∷◌, Some, length, true, false, IfOk, OnOk, OnErr, IsTrue, IsErr};
 ghost use Rattle.std.specs.Result.{is_err};
-ghost use Rattle.auc_edge.specs.Faults.{raised};
-ghost use Rattle.auc_edge.specs.Shelf.{GivesFrom};
+ghost use Rattle.auc_memory.specs.Faults.{raised};
+ghost use Rattle.auc_memory.specs.Buffer.{GivesFrom};
 ghost use Rattle.auc_disk.specs.Disk.{Elapses, Follows, HasCause, IsLength, OnlyTold, Puts, ReadsAt, Torn};
 ghost use Rattle.auc_disk.specs.InnerReplay.{as_it_reads, counts_now, only_now, some_is};
 ghost use Rattle.auc_disk.specs.MemDisk.{AfterFailedWrite, LeavesNow, LeftSince, after_call, after_fault, after_len, after_record, calls_in, is_failing, made_of, one_more, seen_of};
@@ -16,7 +16,7 @@ use crate::disk::Disk;
 use crate::disk_call::DiskCall;
 use crate::fail_list::FailList;
 use crate::putting::{left_of, put};
-use auc_edge::{Failed, NoMemory, Octets};
+use auc_memory::{Failed, NoMemory, Octets};
 use std::alloc::Global;
 use std::collections::LinkedList;
 use std::marker::Model;

@@ -6,7 +6,7 @@ ghost use Rattle.auc_disk.specs.InnerReplay.{AreInRange};
 ghost use Rattle.auc_disk.specs.Replay.{image_by, left_by, seen_after};
 
 use crate::call::Call;
-use auc_edge::{NoMemory, Octets};
+use auc_memory::{NoMemory, Octets};
 use std::alloc::Global;
 use std::collections::LinkedList;
 

@@ -1,7 +1,7 @@
 //! What no clause says: that calls succeed while there is memory, and how a real file answers.
 
 use auc_disk::{Disk, DiskCall, FailList, FileDisk, MemDisk};
-use auc_edge::{Failed, Octets};
+use auc_memory::{Failed, Octets};
 use std::alloc::Global;
 use std::fs;
 use std::process::Abort;

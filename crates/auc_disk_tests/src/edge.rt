@@ -3,9 +3,10 @@
 ghost use Rattle.std.specs.Prelude.{◌≤◌, ◌^◌};
 
 use auc_edge::{
-    Failed, FileShelf, Gate, Imsi, Items, MemShelf, MemSink, Octets, ReadRefusal, Shelf, Sink,
-    StdSink, TurnGate, read_all, write_whole,
+    FileShelf, Gate, MemShelf, MemSink, ReadRefusal, Shelf, Sink, StdSink, TurnGate, read_all,
+    write_whole,
 };
+use auc_memory::{Failed, Imsi, Items, Octets};
 use std::alloc::Global;
 use std::fs;
 use std::process::Abort;

@@ -5,9 +5,9 @@ ghost use Rattle.auc_sqn.specs.Number.{max_seq};
 
 use auc_disk::{DiskCall, FailList, MemDisk};
 use auc_draw::Book;
-use auc_edge::{Imsi, Octets, Stop};
 use auc_journal::Journal;
 use auc_keeper::{Ensured, Keeper};
+use auc_memory::{Imsi, Octets, Stop};
 use auc_sqn::MAX_SEQ;
 use std::alloc::Global;
 use std::process::Abort;

@@ -4,8 +4,8 @@ ghost use Rattle.std.specs.Prelude.{◌≡◌, ◌≢◌, ◌<◌, ◌≤◌, �
 ghost use Rattle.auc_journal.specs.Journal.{reserved_at};
 
 use auc_disk::Disk;
-use auc_edge::{Failed, Imsi, NoMemory};
 use auc_journal::{AppendRefusal, Journal, OpenWhy};
+use auc_memory::{Failed, Imsi, NoMemory};
 use std::alloc::Global;
 
 const HEADER: [u8; 16] = *b"AUC-SQN-JOURNAL1";

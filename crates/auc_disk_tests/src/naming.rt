@@ -4,8 +4,8 @@ ghost use Rattle.std.specs.Prelude.{◌≡◌, ◌≤◌, true, false, length, A
 
 use crate::journal::{appends, disk_of, opened, other, own};
 use auc_disk::MemDisk;
-use auc_edge::{Imsi, Octets};
 use auc_journal::Journal;
+use auc_memory::{Imsi, Octets};
 use std::alloc::Global;
 use std::process::Abort;
 

@@ -16,7 +16,7 @@ use Rattle.auc_draw.specs.Deeds.{entries_of, kept_word, kept_of, kept_stop, stop
 use Rattle.auc_draw.specs.InnerPass.{noted, Notes}
 use Rattle.auc_draw.specs.declared.pass.Release.{Release}
 use Rattle.auc_draw.specs.declared.pass.Release.TheVariants.{Released, Above}
-use Rattle.auc_edge.specs.declared.stop.Stop.{Stop}
+use Rattle.auc_memory.specs.declared.stop.Stop.{Stop}
 use Rattle.atomic_table.specs.Seated.{TableId}
 use Rattle.auc_draw.specs.Values.{PassValue}
 use Rattle.auc_draw.specs.Pass.{IsWordKept, unless_kept, Draws, Jumps, Releases}

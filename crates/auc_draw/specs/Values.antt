@@ -1,7 +1,7 @@
 -- What contracts see of a book, of its passes and of a closed book.
 use Rattle.std.specs.Prelude.{ℕ, List, Option}
 use Rattle.atomic_table.specs.Seated.{TableId}
-use Rattle.auc_edge.specs.declared.stop.Stop.{Stop}
+use Rattle.auc_memory.specs.declared.stop.Stop.{Stop}
 use Rattle.auc_draw.specs.declared.rule.Deed.{Deed}
 
 -- a pass: its book, the subscribers' greatest numbers, what its steps did, and the number that ended its claims

@@ -15,7 +15,7 @@ use crate::keeper::KeeperPass;
 use crate::pass::Pass;
 use crate::rule::{JoinPass, Key, Rule, SplitLists, SplitPass, View};
 use atomic_table::{Seat, Shared, Table};
-use auc_edge::NoMemory;
+use auc_memory::NoMemory;
 use std::alloc::Global;
 use std::marker::Model;
 

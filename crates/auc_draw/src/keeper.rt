@@ -8,7 +8,7 @@ use crate::place::{stop_place, word_of};
 use crate::rule::View;
 use crate::step::{raise_limit, read_number, store_stop};
 use atomic_table::Seat;
-use auc_edge::Stop;
+use auc_memory::Stop;
 use std::marker::{Brand, Model};
 
 /// The keeper's pass, from which the passes are split and into which they are joined, and which raises the limits.

@@ -12,7 +12,7 @@ use crate::place::{stop_at, stop_place};
 use crate::rule::View;
 use crate::step::{add_one, move_up, read_limit, read_stop, take_number};
 use atomic_table::Seat;
-use auc_edge::Stop;
+use auc_memory::Stop;
 use std::marker::{Brand, Model};
 
 /// The answer to a draw.

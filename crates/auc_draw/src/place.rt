@@ -3,7 +3,7 @@
 ghost use Rattle.std.specs.Prelude.{◌≡◌, ◌≤◌, Some};
 ghost use Rattle.auc_draw.specs.InnerLimits.{stop_at, limit_at, stop_of, stop_word};
 
-use auc_edge::Stop;
+use auc_memory::Stop;
 
 /// The place of the stop word, after the numbers and the job word.
 pub(crate) fn stop_place(subs: usize) -> usize

@@ -1,8 +1,8 @@
 //! The rule of the shared words, and the kinds of step.
 
 use atomic_table::{Join, Play, Split, TableRule};
-use auc_edge::Stop;
 use auc_history::Entry;
+use auc_memory::Stop;
 use std::collections::LinkedList;
 use std::marker::{Brand, PhantomData};
 

@@ -1,4 +1,3 @@
 pub mod Facts
-mod IdentityLemmas
 mod ShelfLemmas
 mod SinkLemmas

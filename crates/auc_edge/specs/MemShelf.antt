@@ -3,7 +3,7 @@ use Rattle.std.specs.Prelude.{ℕ, List, length, Bool, ◌||◌, not, ◌==◌, 
 use Rattle.std.specs.Option.{is_some}
 use Rattle.std.specs.List.{list_any, position_or_len}
 use Rattle.std.specs.Str.{bytes_eq}
-use Rattle.auc_edge.specs.Faults.{raised}
+use Rattle.auc_memory.specs.Faults.{raised}
 use Rattle.auc_edge.specs.Shelf.{File, file_of}
 
 -- what a shelf in memory holds

@@ -1,7 +1,7 @@
 -- Outputs in memory: what was written, and which of the writes fail.
 use Rattle.std.specs.Prelude.{ℕ, List, ◌++◌, Bool, ◌==◌}
 use Rattle.std.specs.List.{list_any}
-use Rattle.auc_edge.specs.Faults.{raised}
+use Rattle.auc_memory.specs.Faults.{raised}
 
 -- what was written; how many writes failed; how many writes there were; which are to fail, the first being 1
 pub record SinkState : Type 0 where

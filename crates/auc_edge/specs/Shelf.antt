@@ -1,6 +1,7 @@
 -- Sets of files: what a shelf holds, if it reveals that, and what a read of a file gives.
-use Rattle.std.specs.Prelude.{◌≡◌, ℕ, ◌<◌, ◌≤◌, List, [], ◌∷◌, length, take, drop, Option, Some, None, if◌then◌else◌}
+use Rattle.std.specs.Prelude.{◌≡◌, ℕ, ◌<◌, List, [], ◌∷◌, length, Option, Some, None, if◌then◌else◌}
 use Rattle.std.specs.Str.{bytes_eq}
+use Rattle.auc_memory.specs.Buffer.{GivesFrom}
 
 -- a file: its name and its bytes
 pub record File : Type 0 where
@@ -12,13 +13,7 @@ abbrev pub file_of : List File → List ℕ → Option (List ℕ)
 file_of [] name = None
 file_of (file ∷ files) name = if bytes_eq file.name name then Some file.bytes else file_of files name
 
--- the buffer's first bytes are those of the file from an offset; if the buffer isn't empty, none are given only at the file's end
-pub record GivesFrom (bytes : List ℕ) (from count : ℕ) (buffer : List ℕ) : Type 0 where
-  pub within : count ≤ length (drop from bytes)
-  pub same : take count buffer ≡ take count (drop from bytes)
-  pub at_end : count ≡ 0 → 0 < length buffer → length bytes ≤ from
-
--- the same of a file that may be missing, which gives nothing
+-- a read gives the bytes of a file from an offset; a missing file gives nothing
 abbrev pub FileGives : Option (List ℕ) → ℕ → ℕ → List ℕ → Type 0
 FileGives None from count buffer = ⊥
 FileGives (Some bytes) from count buffer = GivesFrom bytes from count buffer

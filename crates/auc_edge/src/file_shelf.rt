@@ -2,9 +2,9 @@
 
 ghost use Rattle.std.specs.Prelude.{◌≡◌, ◌≤◌, None, length, IfOk};
 
-use crate::failed::{Failed, counted};
 use crate::shelf::Shelf;
-use crate::standard_streams::above_standard_streams;
+use auc_memory::{Failed, counted};
+use auc_streams::above_standard_streams;
 use std::fs::File;
 use std::io::{self, ErrorKind};
 use std::marker::Model;

@@ -5,14 +5,13 @@ ghost use Rattle.std.specs.Option.{option_copied};
 ghost use Rattle.std.specs.List.{position};
 ghost use Rattle.std.specs.Str.{bytes_eq};
 ghost use Rattle.std.specs.Result.{is_err};
-ghost use Rattle.auc_edge.specs.Faults.{Rose};
-ghost use Rattle.auc_edge.specs.Shelf.{file_of, GivesFrom, ReadsFrom};
+ghost use Rattle.auc_memory.specs.Faults.{Rose};
+ghost use Rattle.auc_edge.specs.Shelf.{file_of, ReadsFrom};
+ghost use Rattle.auc_memory.specs.Buffer.{GivesFrom};
 ghost use Rattle.auc_edge.specs.MemShelf.{place_of, faults_of, is_failing, after_fault, after_read, is_fault};
 
-use crate::failed::Failed;
-use crate::no_memory::NoMemory;
-use crate::octets::Octets;
 use crate::shelf::Shelf;
+use auc_memory::{Failed, NoMemory, Octets};
 use std::alloc::Global;
 use std::marker::Model;
 

@@ -1,14 +1,12 @@
 //! Outputs in memory.
 
 ghost use Rattle.std.specs.Prelude.{◌≡◌, ◌≤◌, ◌<◌, ◌⊎◌, ◌++◌, [], ◌∷◌, length, take, Some, IfOk, OnOk, OnErr, IsTrue, IsErr};
-ghost use Rattle.auc_edge.specs.Faults.{Rose, raised};
+ghost use Rattle.auc_memory.specs.Faults.{Rose, raised};
 ghost use Rattle.auc_edge.specs.Sink.{Appends};
 ghost use Rattle.auc_edge.specs.MemSink.{is_failing, after_write, after_fault};
 
-use crate::failed::Failed;
-use crate::no_memory::NoMemory;
-use crate::octets::Octets;
 use crate::sink::Sink;
+use auc_memory::{Failed, NoMemory, Octets};
 use std::alloc::Global;
 use std::marker::Model;
 

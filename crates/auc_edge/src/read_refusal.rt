@@ -3,8 +3,7 @@
 ghost use Rattle.std.specs.Prelude.{◌≡◌};
 ghost use Rattle.auc_edge.specs.declared.read_refusal.ReadRefusal.TheVariants as refusal;
 
-use crate::failed::Failed;
-use crate::no_memory::NoMemory;
+use auc_memory::{Failed, NoMemory};
 use std::alloc::AllocError;
 
 /// Why a file isn't read whole.

@@ -1,12 +1,12 @@
 //! Reading a whole file.
 
 ghost use Rattle.std.specs.Prelude.{◌≡◌, ◌≢◌, ◌≤◌, ◌^◌, ℕ, List, length, Err, IfOk, IsErrOf};
-ghost use Rattle.auc_edge.specs.Faults.{Rose};
+ghost use Rattle.auc_memory.specs.Faults.{Rose};
 ghost use Rattle.auc_edge.specs.Shelf.{IsFile, IsLongerFile};
 
-use crate::octets::Octets;
 use crate::read_refusal::ReadRefusal;
 use crate::shelf::Shelf;
+use auc_memory::Octets;
 use std::alloc::Global;
 
 // How many bytes one read asks for at most.

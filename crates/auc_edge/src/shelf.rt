@@ -1,10 +1,10 @@
 //! Files that are read.
 
 ghost use Rattle.std.specs.Prelude.{◌≡◌, ◌≤◌, ◌^◌, ℕ, List, Option, length, IfOk, OnOk, OnErr};
-ghost use Rattle.auc_edge.specs.Faults.{Rose};
+ghost use Rattle.auc_memory.specs.Faults.{Rose};
 ghost use Rattle.auc_edge.specs.Shelf.{File, ReadsFrom};
 
-use crate::failed::Failed;
+use auc_memory::Failed;
 
 /// A set of files that is read. A name is a string of bytes.
 pub trait Shelf {

@@ -1,10 +1,10 @@
 //! Outputs that are written.
 
 ghost use Rattle.std.specs.Prelude.{◌≡◌, ◌≤◌, ◌<◌, ◌⊎◌, ℕ, List, [], Option, length, take, IfOk, OnErr};
-ghost use Rattle.auc_edge.specs.Faults.{Rose};
+ghost use Rattle.auc_memory.specs.Faults.{Rose};
 ghost use Rattle.auc_edge.specs.Sink.{Appends};
 
-use crate::failed::Failed;
+use auc_memory::Failed;
 
 /// An output, which takes bytes in order.
 pub trait Sink {

@@ -2,8 +2,8 @@
 
 ghost use Rattle.std.specs.Prelude.{◌≡◌, ◌≤◌, ◌<◌, ◌⊎◌, None, length, IfOk};
 
-use crate::failed::{Failed, counted};
 use crate::sink::Sink;
+use auc_memory::{Failed, counted};
 use std::io::{self, ErrorKind, Print, Write};
 use std::marker::Model;
 

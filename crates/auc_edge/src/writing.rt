@@ -1,11 +1,11 @@
 //! Writing a whole text.
 
 ghost use Rattle.std.specs.Prelude.{◌≡◌, ◌≤◌, OnOk, OnErr};
-ghost use Rattle.auc_edge.specs.Faults.{Rose};
+ghost use Rattle.auc_memory.specs.Faults.{Rose};
 ghost use Rattle.auc_edge.specs.Sink.{Appends, AppendsFront};
 
-use crate::failed::Failed;
 use crate::sink::Sink;
+use auc_memory::Failed;
 
 /// Writes all the bytes. If it fails, the first of them may have been written.
 pub fn write_whole<K: Sink>(out: &mut K, bytes: &[u8]) -> Result<(), Failed>

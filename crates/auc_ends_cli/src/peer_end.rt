@@ -6,7 +6,7 @@ ghost use Rattle.auc_sqn.specs.Number.{top_of};
 use crate::server_end::random_key;
 use crate::text::Text;
 use crate::turn::{put_peer_step, put_peer_turn};
-use auc_edge::{Imsi, NoMemory, Octets};
+use auc_memory::{Imsi, NoMemory, Octets};
 use auc_milenage::Secret;
 use auc_peer::{Device, Peer, PeerOptions};
 use auc_random::Rands;

@@ -4,7 +4,7 @@ use crate::peer_end::secret;
 use crate::server_end::random_key;
 use crate::text::Text;
 use crate::turn::{put_sent, put_sim_step};
-use auc_edge::NoMemory;
+use auc_memory::NoMemory;
 use auc_random::Rands;
 use auc_sim::{SimPeer, SimServer, Triplet, card};
 use auc_sqn::MAX_SEQ;

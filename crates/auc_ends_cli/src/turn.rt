@@ -1,8 +1,8 @@
 //! The words of a turn.
 
 use crate::text::Text;
-use auc_edge::{Octets, Stop};
 use auc_hmac::KeySet;
+use auc_memory::{Octets, Stop};
 use auc_peer::PeerWhy;
 use auc_server::ServerWhy;
 use auc_sim::SimWhy;

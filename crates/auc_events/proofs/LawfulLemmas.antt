@@ -4,7 +4,7 @@ use Rattle.std.specs.Prelude.{All, None, min, slice_index}
 use Rattle.std.proofs.lemmas.List.{length-map}
 use Rattle.std.proofs.lemmas.List.Elements.{All-head, All-tail}
 use Rattle.auc_core.specs.Step.{CoreState}
-use Rattle.auc_edge.specs.declared.stop.Stop.{Stop}
+use Rattle.auc_memory.specs.declared.stop.Stop.{Stop}
 use Rattle.auc_history.proofs.Facts.{cut_history_is_a_split}
 use Rattle.auc_history.specs.History.{IsLegal}
 use Rattle.auc_history.specs.Split.{Splits}

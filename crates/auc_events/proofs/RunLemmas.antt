@@ -2,7 +2,7 @@
 use Rattle.std.proofs.Common.{◌≡◌, ℕ, List, [], ◌∷◌, ◌++◌, length, map, refl, sym, ◌∙◌, ap, subst}
 use Rattle.std.specs.Prelude.{slice_index}
 use Rattle.auc_core.specs.Step.{CoreState}
-use Rattle.auc_edge.specs.declared.stop.Stop.{Stop}
+use Rattle.auc_memory.specs.declared.stop.Stop.{Stop}
 use Rattle.auc_history.proofs.Facts.{IsLegal-append, IsLegal-nil}
 use Rattle.auc_history.specs.History.{IsLegal}
 use Rattle.auc_history.specs.declared.entry.Entry.{Entry}

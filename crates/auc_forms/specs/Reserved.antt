@@ -1,7 +1,7 @@
 -- The form `reserved`: the limits of a journal, a line for each identity.
 use Rattle.std.specs.Prelude.{◌≡◌, ℕ, ◌<◌, ◌≤◌, ◌⊎◌, Bool, false, AllPairs, All, List, [], ◌∷◌, ◌++◌, codes, decimal, flat_map}
 use Rattle.std.specs.Str.{bytes_eq}
-use Rattle.auc_edge.specs.Identity.{Identity, digits_of}
+use Rattle.auc_memory.specs.Identity.{Identity, digits_of}
 use Rattle.auc_journal.specs.Image.{Frame, reserved_in}
 
 -- whether the words are `reserved` alone

@@ -4,7 +4,7 @@ ghost use Rattle.std.specs.Prelude.{◌≡◌, ◌≤◌, ◌++◌, length, OnOk
 ghost use Rattle.auc_forms.specs.Algorithm.{algorithm_named, algorithm_text, autn_at, autn_line, auts_line, auts_values_behind, auts_values_in, begins_form, function_lines, value_line, values_behind, values_in};
 
 use auc_aes::xor;
-use auc_edge::{NoMemory, Octets};
+use auc_memory::{NoMemory, Octets};
 use auc_milenage::{Milenage, Secret, f1_star, f5_star, make_auts};
 use auc_text::read_octets;
 use std::alloc::Global;

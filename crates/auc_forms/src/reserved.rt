@@ -4,27 +4,9 @@ ghost use Rattle.std.specs.Prelude.{◌≡◌, ◌<◌, ◌≤◌, ◌+◌, ◌*
 ghost use Rattle.auc_journal.specs.Limits.{AreSingle};
 ghost use Rattle.auc_forms.specs.Reserved.{AreListed, IsReservedText, asks_reserved, limit_line};
 
-use auc_edge::{Imsi, NoMemory, Octets};
-use auc_journal::LimitList;
+use auc_journal::{Limit, LimitList};
+use auc_memory::{Imsi, NoMemory, Octets};
 use std::alloc::Global;
-use std::marker::Model;
-
-/// An identity, and the limit up to which its numbers are reserved.
-#[derive(Clone, Copy)]
-struct Limit {
-    imsi: Imsi,
-    limit: u64,
-}
-
-impl Model for Limit {
-    ghost use Rattle.auc_journal.specs.Image.{Frame};
-
-    ghost Value = { Frame };
-
-    ghost view = { λ l. record { imsi = l.imsi; limit = l.limit } };
-
-    ghost inverse = { λ v. record { imsi = v.imsi; limit = v.limit } };
-}
 
 /// Whether the words are `reserved` alone.
 pub fn is_reserved(words: &[Octets]) -> bool

@@ -5,7 +5,8 @@
 //! A [`KeySet`] holds the keys of a full authentication, a [`Pair`] those of a fast re-authentication,
 //! and a [`Master`] the key that the pair is derived from. [`piece_of`] cuts a key out of a string of
 //! bytes. [`mac_at`] and [`mac_of`] calculate the value of AT_MAC. [`Method`] tells EAP-AKA and EAP-AKA'
-//! apart. Nothing here takes memory, waits or fails. The tests stand in `auc_byte_tests`.
+//! apart, and [`method_type`] gives its EAP type. Nothing here takes memory, waits or fails. The tests stand
+//! in `auc_byte_tests`.
 #![tactic(auto)]
 
 mod block;
@@ -20,5 +21,5 @@ pub use hmac_sha1::HmacSha1;
 pub use hmac_sha256::HmacSha256;
 pub use keys::{KeySet, Master, Pair};
 pub use mac::{MacInput, mac_at, mac_of};
-pub use method::Method;
+pub use method::{Method, method_type};
 pub use piece::piece_of;

@@ -1,7 +1,7 @@
 -- A permanent identity is read back from its text.
 use Rattle.std.proofs.Common.{◌≡◌, ℕ, Bool, true, false, ◌==◌, cond, List, [], ◌∷◌, Some, None, refl, sym, ap, ◌∙◌}
 use Rattle.std.proofs.lemmas.Bool.{eqb-true}
-use Rattle.auc_edge.specs.Identity.{Identity, IsIdentity, digits_of, identity_of, EachIdentityIsReadBack, EachTextIsWrittenBack}
+use Rattle.auc_memory.specs.Identity.{Identity, IsIdentity, digits_of, identity_of, EachIdentityIsReadBack, EachTextIsWrittenBack}
 use Rattle.auc_hmac.specs.declared.method.Method.{Method}
 use Rattle.auc_hmac.specs.declared.method.Method.TheVariants as methods
 use Rattle.auc_ident.specs.Permanent.{leading, permanent_in, permanent_text, EachPermanentIsReadBack}

@@ -8,9 +8,10 @@ use Rattle.auc_aes.specs.Bytes.{IsBlock, IsBytes}
 use Rattle.auc_aes.specs.Cipher.{aes}
 use Rattle.auc_aes.specs.Law.{DecryptionUndoesEncryption}
 use Rattle.auc_aes.proofs.Facts.{aes_block, bytes_append, bytes_drop}
+use Rattle.auc_hmac.specs.Method.{method_type}
 use Rattle.auc_hmac.specs.declared.method.Method.{Method}
 use Rattle.auc_hmac.specs.declared.method.Method.TheVariants as methods
-use Rattle.auc_ident.specs.Names.{name_block, name_digit, name_text, named, named_by, named_in, if_named, kind_byte, type_byte, resolved, AreNameable, EachNameIsResolved, EqualNamesAreOne}
+use Rattle.auc_ident.specs.Names.{name_block, name_digit, name_text, named, named_by, named_in, if_named, kind_byte, resolved, AreNameable, EachNameIsResolved, EqualNamesAreOne}
 use Rattle.auc_ident.specs.Permanent.{username}
 use Rattle.auc_ident.specs.declared.names.NameKind.{NameKind}
 use Rattle.auc_ident.specs.declared.names.NameKind.TheVariants as kinds
@@ -58,7 +59,7 @@ kind_is_byte : (kind : NameKind) → kind_byte kind < 256
 kind_is_byte kinds.Pseudonym = omega arith
 kind_is_byte kinds.Reauth = omega arith
 
-type_is_byte : (method : Method) → type_byte method < 256
+type_is_byte : (method : Method) → method_type method < 256
 type_is_byte methods.Aka = omega arith
 type_is_byte methods.Prime = omega arith
 
@@ -82,8 +83,8 @@ block_is : (kind : NameKind) (method : Method) (sub ordinal : ℕ) → IsBlock (
 unfolding name_block
 block_is kind method sub ordinal = record {
   size = refl;
-  bytes = bytes_cons (kind_byte kind) (type_byte method ∷ (to_be_bytes w32 sub ++ (drop 2 (to_be_bytes w64 ordinal) ++ (0 ∷ 0 ∷ 0 ∷ 0 ∷ []))))
-      (kind_is_byte kind) (bytes_cons (type_byte method) (to_be_bytes w32 sub ++ (drop 2 (to_be_bytes w64 ordinal) ++ (0 ∷ 0 ∷ 0 ∷ 0 ∷ [])))
+  bytes = bytes_cons (kind_byte kind) (method_type method ∷ (to_be_bytes w32 sub ++ (drop 2 (to_be_bytes w64 ordinal) ++ (0 ∷ 0 ∷ 0 ∷ 0 ∷ []))))
+      (kind_is_byte kind) (bytes_cons (method_type method) (to_be_bytes w32 sub ++ (drop 2 (to_be_bytes w64 ordinal) ++ (0 ∷ 0 ∷ 0 ∷ 0 ∷ [])))
       (type_is_byte method) (bytes_append (to_be_bytes w32 sub) (drop 2 (to_be_bytes w64 ordinal) ++ (0 ∷ 0 ∷ 0 ∷ 0 ∷ [])) (four_bytes sub)
       (bytes_append (drop 2 (to_be_bytes w64 ordinal)) (0 ∷ 0 ∷ 0 ∷ 0 ∷ []) (bytes_drop 2 (to_be_bytes w64 ordinal) (eight_bytes ordinal)) zeros)));
 }

@@ -5,6 +5,7 @@ use Rattle.std.specs.Int.{w32, w64, to_be_bytes, from_be_bytes}
 use Rattle.std.specs.Str.{bytes_eq}
 use Rattle.auc_aes.specs.Bytes.{IsBlock}
 use Rattle.auc_aes.specs.Cipher.{aes, aes_inverse}
+use Rattle.auc_hmac.specs.Method.{method_type}
 use Rattle.auc_hmac.specs.declared.method.Method.{Method}
 use Rattle.auc_hmac.specs.declared.method.Method.TheVariants as methods
 use Rattle.auc_ident.specs.Permanent.{username}
@@ -29,15 +30,11 @@ abbrev pub kind_byte : NameKind → ℕ
 kind_byte kinds.Pseudonym = 1
 kind_byte kinds.Reauth = 2
 
--- the EAP type of the method (RFC 4187 §8.1, RFC 9048 §3)
-abbrev pub type_byte : Method → ℕ
-type_byte methods.Aka = 23
-type_byte methods.Prime = 50
-
--- what a name tells the server that made it: kind, method, subscriber in 4 bytes, ordinal in 6, and four zero bytes
+-- what a name tells the server that made it: kind, the method's EAP type, subscriber in 4 bytes, ordinal in 6, and four zero
+-- bytes
 unfoldable pub name_block : NameKind → Method → ℕ → ℕ → List ℕ
 name_block kind method sub ordinal =
-    kind_byte kind ∷ type_byte method ∷ (to_be_bytes w32 sub ++ (drop 2 (to_be_bytes w64 ordinal) ++ (0 ∷ 0 ∷ 0 ∷ 0 ∷ [])))
+    kind_byte kind ∷ method_type method ∷ (to_be_bytes w32 sub ++ (drop 2 (to_be_bytes w64 ordinal) ++ (0 ∷ 0 ∷ 0 ∷ 0 ∷ [])))
 
 -- the name: the leading digit, and the block under AES in lower-case hexadecimal digits
 abbrev pub name_text : List ℕ → NameKind → Method → ℕ → ℕ → List ℕ

@@ -1,6 +1,6 @@
 -- The permanent identity of a peer (RFC 4187 §4.1.1.6, RFC 9048 §5.1), as a list of ASCII codes.
-use Rattle.std.specs.Prelude.{◌≡◌, ◌↔◌, ℕ, ◌==◌, if◌then◌else◌, List, [], ◌∷◌, take, position, Option, Some, None}
-use Rattle.auc_edge.specs.Identity.{Identity, IsIdentity, digits_of, identity_of}
+use Rattle.std.specs.Prelude.{◌≡◌, ◌↔◌, ℕ, ◌==◌, if◌then◌else◌, List, [], ◌∷◌, ◌++◌, take, position, Option, Some, None}
+use Rattle.auc_memory.specs.Identity.{Identity, IsIdentity, digits_of, identity_of}
 use Rattle.auc_hmac.specs.declared.method.Method.{Method}
 use Rattle.auc_hmac.specs.declared.method.Method.TheVariants as methods
 
@@ -26,6 +26,11 @@ up_to (Some end) text = take end text
 -- the username: the text before the first `@` (RFC 4282 §2.1)
 abbrev pub username : List ℕ → List ℕ
 username text = up_to (position (λ byte. byte == 64) text) text
+
+-- a username, followed by `@` and the realm if there is one (RFC 4187 §4.1.1.5, RFC 4186 §4.2.1.5)
+abbrev pub with_realm : List ℕ → List ℕ → List ℕ
+with_realm text [] = text
+with_realm text (letter ∷ letters) = text ++ 64 ∷ letter ∷ letters
 
 -- a text is the permanent identity of an IMSI exactly if the IMSI is read from it
 abbrev pub EachPermanentIsReadBack : Type 0

@@ -5,7 +5,7 @@ ghost use Rattle.auc_ident.specs.Names.{EachNameIsResolved, EqualNamesAreOne};
 ghost use Rattle.auc_ident.specs.Permanent.{EachPermanentIsReadBack};
 
 use auc_aes::decryption_undoes_encryption;
-use auc_edge::{each_identity_is_read_back, each_text_is_written_back};
+use auc_memory::{each_identity_is_read_back, each_text_is_written_back};
 
 /// A text is the permanent identity of an IMSI exactly if [`crate::permanent_in`] reads the IMSI from it. So different
 /// IMSIs have different permanent identities.

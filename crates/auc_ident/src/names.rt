@@ -1,11 +1,11 @@
 //! The names that a server makes for subscribers.
 
 ghost use Rattle.std.specs.Prelude.{◌≡◌, ◌<◌, ◌≤◌, ◌^◌, length, drop, IfSome};
-ghost use Rattle.auc_ident.specs.Names.{name_block, name_digit, name_text, named, named_in, names_key, resolved, kind_byte, type_byte};
+ghost use Rattle.auc_ident.specs.Names.{name_block, name_digit, name_text, named, named_in, names_key, resolved, kind_byte};
 
 use crate::naming::username;
 use auc_aes::Key;
-use auc_hmac::Method;
+use auc_hmac::{Method, method_type};
 use auc_random::Rands;
 use std::marker::Model;
 
@@ -111,17 +111,7 @@ fn kind_byte(kind: NameKind) -> u8
     }
 }
 
-/// The EAP type of a method.
-fn type_byte(method: Method) -> u8
-    ensures { result ≡ type_byte method }
-{
-    match method {
-        Method::Aka => 23,
-        Method::Prime => 50,
-    }
-}
-
-/// What a name tells: kind, method, subscriber and ordinal.
+/// What a name tells: kind, the method's EAP type, subscriber and ordinal.
 #[tactic(auto, unfolding(crate::specs::Names::name_block))]
 fn name_block(kind: NameKind, method: Method, sub: u32, ordinal: u64) -> [u8; 16]
     ensures { result ≡ name_block kind method sub ordinal }
@@ -130,7 +120,7 @@ fn name_block(kind: NameKind, method: Method, sub: u32, ordinal: u64) -> [u8; 16
     let [_, _, o0, o1, o2, o3, o4, o5] = ordinal.to_be_bytes();
     [
         kind_byte(kind),
-        type_byte(method),
+        method_type(method),
         s0,
         s1,
         s2,

@@ -1,11 +1,11 @@
 //! Identities of subscribers.
 
-ghost use Rattle.std.specs.Prelude.{◌≡◌, ◌<◌, ◌==◌, length, position, IfSome};
-ghost use Rattle.auc_ident.specs.Permanent.{leading, permanent_in, permanent_text, username};
+ghost use Rattle.std.specs.Prelude.{◌≡◌, ◌+◌, ◌≤◌, ◌<◌, ◌==◌, [], length, position, IfSome};
+ghost use Rattle.auc_ident.specs.Permanent.{leading, permanent_in, permanent_text, username, with_realm};
 
 use crate::identity::{MOST, Permanent};
-use auc_edge::Imsi;
 use auc_hmac::Method;
+use auc_memory::{Imsi, Octets, Room};
 
 /// The permanent identity of an IMSI: `0` for EAP-AKA (RFC 4187 §4.1.1.6) or `6` for EAP-AKA' (RFC 9048
 /// §5.1), followed by all digits of the IMSI. It has no realm.
@@ -38,6 +38,24 @@ pub fn username(text: &[u8]) -> &[u8]
         None => text,
         Some(end) => &text[..end],
     }
+}
+
+/// A username, followed by `@` and the realm if there is one (RFC 4187 §4.1.1.5, RFC 4186 §4.2.1.5), in memory that was
+/// taken before.
+pub fn with_realm(name: &[u8], realm: &[u8], room: Room) -> Octets
+    requires empty { room.written ≡ [] }
+    requires room { length name.now + 1 + length realm.now ≤ room.left }
+    ensures text { result ≡ with_realm name.now realm.now }
+    ensures size { length result ≤ length name.now + 1 + length realm.now }
+{
+    let mut room = room;
+    room.put(name);
+    if realm.is_empty() {
+        return room.into_octets();
+    }
+    room.put(b"@");
+    room.put(realm);
+    room.into_octets()
 }
 
 // The place of the first `@`.

@@ -5,8 +5,8 @@ ghost use Rattle.std.specs.Option.{option_copied, option_map};
 ghost use Rattle.auc_input.specs.Words.{files_seen, journal_named, files_named, service_named};
 
 use auc_compact::is_compact;
-use auc_edge::Octets;
 use auc_forms::is_reserved;
+use auc_memory::Octets;
 
 /// The names of the files of a run, each of at least 1 byte.
 #[derive(Clone, Copy)]

@@ -11,7 +11,8 @@ ghost use Rattle.auc_input.specs.Words.{files_seen};
 ghost use Rattle.auc_input.specs.InnerRefusal.{script_refusal};
 
 use crate::forms::InputFiles;
-use auc_edge::{Octets, Shelf, read_all};
+use auc_edge::{Shelf, read_all};
+use auc_memory::Octets;
 use auc_refusal::Refusal;
 use auc_script::{Script, ScriptRefusal};
 use auc_subs::Subscribers;

@@ -1,7 +1,7 @@
 //! The journal as it is opened for a scenario's subscribers, and the words that its limits open.
 
 ghost use Rattle.std.specs.Prelude.{◌≡◌, ◌≢◌, ◌≤◌, ◌<◌, ℕ, length, map, IfOk, IfErr, OnOk, slice_index};
-ghost use Rattle.auc_edge.specs.Faults.{Rose};
+ghost use Rattle.auc_memory.specs.Faults.{Rose};
 ghost use Rattle.auc_journal.specs.Journal.{limits_of};
 ghost use Rattle.auc_journal.specs.Opening.{LeavesFound, LeavesOpening};
 ghost use Rattle.auc_journal.specs.declared.open_why.OpenWhy.TheVariants as why;
@@ -11,8 +11,8 @@ ghost use Rattle.auc_world.specs.Limits.{opened};
 ghost use Rattle.auc_input.specs.Opening.{IsNoJournal, Begins};
 
 use auc_disk::Disk;
-use auc_edge::{Imsi, Items, NoMemory};
 use auc_journal::{Journal, OpenRefused, OpenWhy};
+use auc_memory::{Imsi, Items, NoMemory};
 use auc_sqn::top;
 use auc_subs::Subscribers;
 use std::alloc::Global;

@@ -14,7 +14,7 @@ use Rattle.auc_draw.specs.Deeds.{entries_of, claims_of, released_of, held_of as 
 use Rattle.auc_draw.specs.Values.{PassValue, BookValue, KeeperValue, ClosedValue}
 use Rattle.auc_draw.specs.declared.rule.Deed.{Deed}
 use Rattle.auc_draw.proofs.Facts.{each_job_is_claimed_once}
-use Rattle.auc_edge.specs.declared.stop.Stop.{Stop}
+use Rattle.auc_memory.specs.declared.stop.Stop.{Stop}
 use Rattle.auc_history.specs.declared.entry.Entry.{Entry}
 use Rattle.auc_history.specs.History.{IsInOrder}
 use Rattle.auc_history.specs.Recut.{RecutSplitIsASplit}

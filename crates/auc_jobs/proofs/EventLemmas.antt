@@ -1,13 +1,12 @@
 -- For events: whom they ask and what they hand a USIM, and what their lines say of the centre.
-use Rattle.std.proofs.Common.{◌≡◌, ◌≢◌, ℕ, ◌+◌, ◌⊎◌, ◌<◌, ◌≤◌, eqb, Bool, true, false, List, [], ◌∷◌, ◌++◌, length, All, refl, sym, ◌∙◌, ap, subst, inl, inr, eq-eqb}
-use Rattle.std.specs.Prelude.{◌||◌, Option, Some, None, Ok, Err, is_some, slice_get, if◌then◌else◌}
-use Rattle.std.proofs.lemmas.Bool.Decides.{eqb_tells}
+use Rattle.std.proofs.Common.{◌≡◌, ℕ, ◌<◌, ◌≤◌, true, false, List, [], ◌∷◌, length, All, refl, sym, ◌∙◌, ap, subst, eq-eqb}
+use Rattle.std.specs.Prelude.{Option, Some, None, Ok, Err, is_some, slice_get}
+use Rattle.std.proofs.lemmas.Bool.{ne_eqb}
 use Rattle.std.proofs.lemmas.List.Elements.{All-append, All-cons, All-nil}
-use Rattle.auc_edge.specs.declared.stop.Stop.{Stop}
+use Rattle.auc_memory.specs.declared.stop.Stop.{Stop}
 use Rattle.auc_history.specs.Resynchronise.{Resynchronisation, resynchronise_of}
 use Rattle.auc_history.specs.Resynchronise as found
 use Rattle.auc_history.specs.declared.entry.Entry.{Entry}
-use Rattle.auc_history.specs.declared.entry.Entry.TheVariants.{Drawn, Look}
 use Rattle.auc_lines.specs.declared.part.End.{End}
 use Rattle.auc_lines.specs.declared.part.End.TheVariants as end
 use Rattle.auc_lines.specs.Part.{is_that}
@@ -23,19 +22,15 @@ use Rattle.auc_server.specs.declared.rows.Row.{Row}
 use Rattle.auc_server.specs.declared.rows.Row.TheVariants as row
 use Rattle.auc_subs.specs.Subscriber.{top_at}
 use Rattle.auc_subs.specs.declared.row.Row.{Row as SubscriberRow}
-use Rattle.auc_vector.specs.Centre.{IsWordKept, unless_spent}
-use Rattle.auc_vector.specs.Notes.{AskedCentre, AskedOf, Asking, AnswersNumber, AnswersReport, entries_noted, entries_resynced, kept_noted}
+use Rattle.auc_vector.specs.Notes.{AskedCentre, Asking, AnswersNumber, AnswersReport}
 use Rattle.auc_vector.specs.declared.notes.Notes.{Notes}
 use Rattle.auc_vector.specs.declared.notes.NumberNote.{NumberNote}
 use Rattle.auc_vector.specs.declared.notes.NumberNote.TheVariants as number
 use Rattle.auc_vector.specs.declared.notes.ResyncNote.{ResyncNote}
-use Rattle.auc_vector.specs.declared.notes.ResyncNote.TheVariants as resync
 use Rattle.auc_world.specs.Came.{AsksWhatItNeeds, AsksIn, Presented, TellsNotes, asked_sub, asking_at, asking_in, asking_of, came, came_at_peer, came_at_server, came_changed, came_delivered, came_given_up, came_in, came_opened, came_repeated, came_started, presented_at, presented_by, presented_in, server_came_to_give_up, session_of}
-use Rattle.auc_record.specs.Event.{Came, asked_in, device_in, number_for, number_in, resync_for, resync_in, usim_in}
-use Rattle.auc_record.specs.Entries.{entries_of_line, entries_of_number, entries_of_resync, is_reported}
+use Rattle.auc_record.specs.Event.{Came, asked_in, device_in, number_in, resync_in, usim_in}
 use Rattle.auc_world.specs.Given.{Before, CentreAnswers, EventGives, IsCentreAsked, IsNumberAnswer, NumberFollows, PlainGives, RelayGives, behind, packet_of, resync_note}
 use Rattle.auc_world.specs.Happened.{Delivery, ToldEvent, changed_in, delivery_at, delivery_of, peer_turn}
-use Rattle.auc_record.specs.Lines.{held_by}
 use Rattle.auc_world.specs.Net.{Net, device_place, keeps_at, other, packet_at, session_place}
 use Rattle.auc_subs.specs.Setting.{Setting}
 use Rattle.auc_record.specs.declared.event.Event.{Event}
@@ -45,10 +40,9 @@ use Rattle.auc_world.specs.declared.net.SentPacket.{SentPacket}
 use Rattle.auc_world.specs.declared.net.Session.{Session}
 use Rattle.auc_record.specs.declared.record.LineRecord.{LineRecord}
 use Rattle.auc_record.specs.declared.record.LineRecord.TheVariants.{Event as Happening}
-use Rattle.auc_jobs.specs.InnerServing.{AreTold, IsTold, Says}
-use Rattle.auc_jobs.proofs.LineLemmas.{is_reported-push}
+use Rattle.auc_jobs.specs.InnerServing.{AreTold, Says}
+use Rattle.auc_jobs.proofs.SayingLemmas.{SaysAnswers, SaysNothing, is_number_note, is_resynced, says_asked, says_unasked}
 use Rattle.auc_jobs.proofs.SilentLemmas.{peer_silent, server_silent}
-use Rattle.auc_jobs.proofs.SayingLemmas.{told_quiet}
 
 -- ---- whom an event concerns
 
@@ -211,9 +205,7 @@ usim_told told (Err why) sub e tells = absurd (none sub e)
 
 number_answers : (set : Setting) (sub : ℕ) (kept : Option ℕ) (o : Option NumberNote) → is_some o ≡ true → AnswersNumber (top_at set.rows sub) kept o → IsNumberAnswer set sub o
 number_answers set sub kept None e is = absurd (cc)
-number_answers set sub kept (Some (number.Drew n)) e is = (is.1, is.2)
-number_answers set sub kept (Some (number.Exhausted word)) e is = is.0
-number_answers set sub kept (Some (number.Withheld n stop)) e is = (is.1, is.2)
+number_answers set sub kept (Some note) e is = is_number_note set sub (top_at set.rows sub) kept note refl is
 
 no_number : (o : Option NumberNote) → is_some o ≡ false → o ≡ None
 no_number None e = refl
@@ -222,22 +214,14 @@ no_number (Some note) e = absurd (cc)
 resync_answers : (set : Setting) (sub : ℕ) (kept : Option ℕ) (seq : ℕ) (r o : Option ResyncNote) (n : Option NumberNote) → o ≡ r → AnswersReport kept (Some seq) r → AnswersNumber (top_at set.rows sub) kept n
     → is_some n ≡ challenges_again r → (seen : ℕ) × (o ≡ Some (resync_note (resynchronise_of seen seq))) × NumberFollows set sub (resynchronise_of seen seq) n
 resync_answers set sub kept seq None o n same is number needs = absurd is
-resync_answers set sub kept seq (Some resync.BadAuts) o n same is number needs = absurd is
-resync_answers set sub kept seq (Some (resync.Moved seen to)) o n same is number needs = (
-  seen,
-  same ∙ ap (λ (x : Resynchronisation). Some (resync_note x)) (sym is.1),
-  subst (λ (x : Resynchronisation). NumberFollows set sub x n) (sym is.1) (number_answers set sub kept n needs number),
-)
-resync_answers set sub kept seq (Some (resync.InRange seen to)) o n same is number needs = (
-  seen,
-  same ∙ ap (λ (x : Resynchronisation). Some (resync_note x)) (sym is.1),
-  subst (λ (x : Resynchronisation). NumberFollows set sub x n) (sym is.1) (number_answers set sub kept n needs number),
-)
-resync_answers set sub kept seq (Some (resync.Beyond seen to)) o n same is number needs = (
-  seen,
-  same ∙ ap (λ (x : Resynchronisation). Some (resync_note x)) (sym is.1),
-  subst (λ (x : Resynchronisation). NumberFollows set sub x n) (sym is.1) (no_number n needs),
-)
+resync_answers set sub kept seq (Some note) o n same is number needs =
+    let (seen, made) = is_resynced kept seq note is in
+    (seen, same ∙ ap Some made, follows (resynchronise_of seen seq) (subst (λ (r : ResyncNote). is_some n ≡ challenges_again (Some r)) made needs))
+  where
+    follows : (x : Resynchronisation) → is_some n ≡ challenges_again (Some (resync_note x)) → NumberFollows set sub x n
+    follows (found.Moved seen to) needs = number_answers set sub kept n needs number
+    follows (found.InRange seen to) needs = number_answers set sub kept n needs number
+    follows (found.Beyond seen to) needs = no_number n needs
 
 pub centre_answers : (set : Setting) (r : Row) (request : Asking) (kept : Option ℕ) (notes : Notes) → asking r ≡ Some request → AsksAsNeeded r notes
     → AnswersReport kept request.reported notes.resync → AnswersNumber (top_at set.rows request.sub) kept notes.number → CentreAnswers set request.sub request.reported notes
@@ -281,104 +265,26 @@ centre_answers set (row.Notified cause) request kept notes e needs report number
 
 -- ---- what its line says of the centre
 
--- the entry of a word that is told, or isn't
-told_is : (entry : Entry) (sub word : ℕ) (kept : Option ℕ) (before : List LineRecord) → IsTold sub kept before → IsWordKept kept word
-    → unless_spent kept (entry ∷ []) ≡ (if is_reported sub word before then [] else entry ∷ [])
-told_is entry sub word None before told is = rw (told word) refl
-told_is entry sub word (Some kept) before told is = rw (is, told) refl
+-- nothing, if the centre was asked for nobody or for another subscriber
+says_nothing : (sub : ℕ) (r : EventRecord) → is_that sub (asked_in r.result) ≡ false → SaysNothing sub (Happening r)
+says_nothing sub r other = (rw other refl, rw other refl)
 
-resync_entries : (sub : ℕ) (kept : Option ℕ) (before : List LineRecord) (reported : Option ℕ) (o : Option ResyncNote) → IsTold sub kept before → AnswersReport kept reported o
-    → entries_resynced kept o ≡ entries_of_resync sub before o
-resync_entries sub kept before reported None told is = refl
-resync_entries sub kept before None (Some resync.BadAuts) told is = refl
-resync_entries sub kept before None (Some (resync.Moved seen to)) told is = refl
-resync_entries sub kept before None (Some (resync.InRange seen to)) told is = absurd is
-resync_entries sub kept before None (Some (resync.Beyond seen to)) told is = absurd is
-resync_entries sub kept before (Some seq) (Some resync.BadAuts) told is = refl
-resync_entries sub kept before (Some seq) (Some (resync.Moved seen to)) told is = refl
-resync_entries sub kept before (Some seq) (Some (resync.InRange seen to)) told is = told_is (Look seen) sub seen kept before told is.0
-resync_entries sub kept before (Some seq) (Some (resync.Beyond seen to)) told is = told_is (Look seen) sub seen kept before told is.0
-
-number_entries : (sub : ℕ) (kept : Option ℕ) (before : List LineRecord) (top : ℕ) (o : Option NumberNote) → IsTold sub kept before → AnswersNumber top kept o
-    → entries_noted kept o ≡ entries_of_number sub before o
-number_entries sub kept before top None told is = refl
-number_entries sub kept before top (Some (number.Drew n)) told is = refl
-number_entries sub kept before top (Some (number.Exhausted word)) told is = told_is (Drawn (word + 1)) sub word kept before told is.1
-number_entries sub kept before top (Some (number.Withheld n stop)) told is = refl
-
--- the word that is told after it
-told_event : (sub : ℕ) (kept : Option ℕ) (before : List LineRecord) (r : EventRecord) (o : Option NumberNote) → number_for sub r ≡ o → IsTold sub kept before
-    → IsTold sub (kept_noted kept o) (before ++ Happening r ∷ [])
-told_event sub kept before r None e told = told_quiet sub kept before (Happening r) (λ word. rw e refl) told
-told_event sub kept before r (Some (number.Drew n)) e told = told_quiet sub kept before (Happening r) (λ word. rw e refl) told
-told_event sub kept before r (Some (number.Withheld n stop)) e told = told_quiet sub kept before (Happening r) (λ word. rw e refl) told
-told_event sub kept before r (Some (number.Exhausted word)) e told =
-    is_reported-push sub word before (Happening r) ∙ rw (e, eq-eqb word word refl) (right (is_reported sub word before))
-  where
-    right : (b : Bool) → (b || true) ≡ true
-    right true = refl
-    right false = refl
-
--- what it says of a subscriber, if its answers are these
-of_one : (sub : ℕ) (r : EventRecord) (notes : Notes) → asked_in r.result ≡ Some sub → (number_in r.result ≡ notes.number) × (resync_in r.result ≡ notes.resync)
-    → (number_for sub r ≡ notes.number) × (resync_for sub r ≡ notes.resync)
-of_one sub r notes asks is = (rw (asks, eq-eqb sub sub refl) is.0, rw (asks, eq-eqb sub sub refl) is.1)
-
-of_none : (sub : ℕ) (r : EventRecord) → is_that sub (asked_in r.result) ≡ false → (number_for sub r ≡ None) × (resync_for sub r ≡ None)
-of_none sub r other = (rw other refl, rw other refl)
-
-says_nothing : (goes : List Entry → List (ℕ × Stop) → Type 0) (sub : ℕ) (before : List LineRecord) (r : EventRecord) → is_that sub (asked_in r.result) ≡ false → goes [] []
-    → goes (entries_of_line sub before (Happening r)) (held_by sub (Happening r))
-says_nothing goes sub before r other stays = let none = of_none sub r other in rw (none.0, none.1) stays
+-- and otherwise the answers that came of it
+says_of : (sub : ℕ) (r : EventRecord) (notes : Notes) → asked_in r.result ≡ Some sub → (number_in r.result ≡ notes.number) × (resync_in r.result ≡ notes.resync)
+    → SaysAnswers sub (Happening r) notes.number notes.resync
+says_of sub r notes asks is = record {
+  number_is = rw (asks, eq-eqb sub sub refl) is.0;
+  resync_is = rw (asks, eq-eqb sub sub refl) is.1;
+  others = λ i other. says_nothing i r (rw asks (ne_eqb sub i (λ same. other (sym same))));
+}
 
 module _ {S : Type 0} (goes : S → ℕ → List Entry → List (ℕ × Stop) → S → Type 0) (kept : S → ℕ → Option ℕ) (top : S → ℕ → ℕ) where
-  -- the centre was asked
-  says_asked : (old new : S) (request : Asking) (notes : Notes) (before : List LineRecord) (r : EventRecord) → asked_in r.result ≡ Some request.sub
-      → (number_in r.result ≡ notes.number) × (resync_in r.result ≡ notes.resync) → AskedOf goes kept top request notes old new → AreTold (kept old) before
-      → Says (λ i es ws. goes old i es ws new) (kept new) before (Happening r)
-  says_asked old new request notes before r asks is asked told = record {
-    made = λ i. made i (eqb_tells request.sub i);
-    told = λ i. tells i (eqb_tells request.sub i);
-  }
-    where
-      own : (number_for request.sub r ≡ notes.number) × (resync_for request.sub r ≡ notes.resync)
-      own = of_one request.sub r notes asks is
-
-      made : (i : ℕ) → ((eqb request.sub i ≡ true) × (request.sub ≡ i)) ⊎ ((eqb request.sub i ≡ false) × (request.sub ≢ i))
-          → goes old i (entries_of_line i before (Happening r)) (held_by i (Happening r)) new
-      made i (inl (e, same)) =
-          subst (λ (s : ℕ). goes old s (entries_of_line s before (Happening r)) (held_by s (Happening r)) new) same
-          (rw (
-            own.0,
-            own.1,
-            sym (resync_entries request.sub (kept old request.sub) before request.reported notes.resync (told request.sub) asked.resynced),
-            sym (number_entries request.sub (kept old request.sub) before (top old request.sub) notes.number (told request.sub) asked.number),
-          ) asked.own)
-      made i (inr (e, other)) = says_nothing (λ es ws. goes old i es ws new) i before r (rw asks e) (asked.others i (λ same. other (sym same)))
-
-      tells : (i : ℕ) → ((eqb request.sub i ≡ true) × (request.sub ≡ i)) ⊎ ((eqb request.sub i ≡ false) × (request.sub ≢ i))
-          → IsTold i (kept new i) (before ++ Happening r ∷ [])
-      tells i (inl (e, same)) =
-          subst (λ (s : ℕ). IsTold s (kept new s) (before ++ Happening r ∷ [])) same
-          (subst (λ (k : Option ℕ). IsTold request.sub k (before ++ Happening r ∷ [])) (sym asked.keeps)
-          (told_event request.sub (kept old request.sub) before r notes.number own.0 (told request.sub)))
-      tells i (inr (e, other)) =
-          subst (λ (k : Option ℕ). IsTold i k (before ++ Happening r ∷ [])) (sym (asked.still i (λ same. other (sym same))))
-          (told_event i (kept old i) before r None (of_none i r (rw asks e)).0 (told i))
-
-  -- or it wasn't
-  says_unasked : (old new : S) (before : List LineRecord) (r : EventRecord) → asked_in r.result ≡ None → ((i : ℕ) → goes old i [] [] new) → ((i : ℕ) → kept new i ≡ kept old i)
-      → AreTold (kept old) before → Says (λ i es ws. goes old i es ws new) (kept new) before (Happening r)
-  says_unasked old new before r asks stays same told = record {
-    made = λ i. says_nothing (λ es ws. goes old i es ws new) i before r (rw asks refl) (stays i);
-    told = λ i. subst (λ (k : Option ℕ). IsTold i k (before ++ Happening r ∷ [])) (sym (same i)) (told_event i (kept old i) before r None (of_none i r (rw asks refl)).0 (told i));
-  }
-
   pub says_event : (old new : S) (a : Option Asking) (told : ToldEvent) (before : List LineRecord) (r : EventRecord) → asked_in r.result ≡ asked_sub a → TellsNotes told r.result
       → AskedCentre goes kept top a told.notes old new → AreTold (kept old) before → Says (λ i es ws. goes old i es ws new) (kept new) before (Happening r)
-  says_event old new None told before r asks tells asked are = says_unasked old new before r asks asked.0 asked.1 are
+  says_event old new None told before r asks tells asked are =
+      says_unasked goes kept top old new before (Happening r) (λ i. says_nothing i r (rw asks refl)) asked.0 asked.1 are
   says_event old new (Some request) told before r asks tells asked are =
-      says_asked old new request told.notes before r asks (numbers_told told r.result request.sub asks tells) asked are
+      says_asked goes kept top old new request told.notes before (Happening r) (says_of request.sub r told.notes asks (numbers_told told r.result request.sub asks tells)) asked are
 
 -- ---- the number that a line names
 
@@ -390,12 +296,12 @@ IsOwnNumber top (Some (number.Exhausted word)) = Unit {0}
 IsOwnNumber top (Some (number.Withheld n stop)) = Unit {0}
 
 -- it is of the subscriber of a row, if the centre was asked; otherwise there is none
-abbrev pub IsOwnEvent : List SubscriberRow → Option ℕ → Option NumberNote → Type 0
-IsOwnEvent rows None note = note ≡ None
-IsOwnEvent rows (Some sub) note = (sub < length rows) × IsOwnNumber (top_at rows sub) note
+abbrev pub IsOwnAnswer : List SubscriberRow → Option ℕ → Option NumberNote → Type 0
+IsOwnAnswer rows None note = note ≡ None
+IsOwnAnswer rows (Some sub) note = (sub < length rows) × IsOwnNumber (top_at rows sub) note
 
 module _ (set : Setting) (sub : ℕ) where
-  own_number : (o : Option NumberNote) → IsNumberAnswer set sub o → IsOwnNumber (top_at set.rows sub) o
+  pub own_number : (o : Option NumberNote) → IsNumberAnswer set sub o → IsOwnNumber (top_at set.rows sub) o
   own_number None is = tt
   own_number (Some (number.Drew n)) is = is
   own_number (Some (number.Exhausted word)) is = tt
@@ -411,21 +317,21 @@ module _ (set : Setting) (sub : ℕ) where
   own_answer (Some seq) notes answers = own_follows (resynchronise_of answers.0 seq) notes.number answers.2
 
 pub event_own : (set : Setting) (before : Before) (net next : Net) (e : Event) (lines : List LineRecord) (g : EventGives set before net e lines next)
-    → IsOwnEvent set.rows (asked_in (came set net e g.told)) (number_in (came set net e g.told))
+    → IsOwnAnswer set.rows (asked_in (came set net e g.told)) (number_in (came set net e g.told))
 event_own set before net next e lines g = by (asking_of set net e g.told) refl
   where
-    by : (o : Option Asking) → asking_of set net e g.told ≡ o → IsOwnEvent set.rows (asked_in (came set net e g.told)) (number_in (came set net e g.told))
+    by : (o : Option Asking) → asking_of set net e g.told ≡ o → IsOwnAnswer set.rows (asked_in (came set net e g.told)) (number_in (came set net e g.told))
     by None is =
-        subst (λ (o : Option ℕ). IsOwnEvent set.rows o (number_in (came set net e g.told))) (sym ((agrees set net e g.told).asks ∙ ap asked_sub is)) ((agrees set net e g.told).silent is)
+        subst (λ (o : Option ℕ). IsOwnAnswer set.rows o (number_in (came set net e g.told))) (sym ((agrees set net e g.told).asks ∙ ap asked_sub is)) ((agrees set net e g.told).silent is)
     by (Some request) is =
         let asks : asked_in (came set net e g.told) ≡ Some request.sub = (agrees set net e g.told).asks ∙ ap asked_sub is in
         let asked : IsCentreAsked set (Some request) g.told.notes = subst (λ (o : Option Asking). IsCentreAsked set o g.told.notes) is g.centre in
-        subst (λ (o : Option ℕ). IsOwnEvent set.rows o (number_in (came set net e g.told))) (sym asks)
+        subst (λ (o : Option ℕ). IsOwnAnswer set.rows o (number_in (came set net e g.told))) (sym asks)
         (subst (λ (o : Option NumberNote). (request.sub < length set.rows) × IsOwnNumber (top_at set.rows request.sub) o) (sym (numbers_told g.told (came set net e g.told) request.sub asks g.notes).0)
         (asked.known, own_answer set request.sub request.reported g.told.notes asked.answers))
 
 -- what holds of each event's line holds of all lines of events
-module _ (set : Setting) (P : LineRecord → Type 0) (each : (e : Event) (c : Came) → IsOwnEvent set.rows (asked_in c) (number_in c) → P (Happening (record { event = e; result = c }))) where
+module _ (set : Setting) (P : LineRecord → Type 0) (each : (e : Event) (c : Came) → IsOwnAnswer set.rows (asked_in c) (number_in c) → P (Happening (record { event = e; result = c }))) where
   pub event_lines : (before : Before) (net next : Net) (e : Event) (lines : List LineRecord) → EventGives set before net e lines next → All P lines
   event_lines before net next e lines g =
       subst (All P) (sym g.lines_are) (All-cons P (Happening (record { event = e; result = came set net e g.told })) [] (each e (came set net e g.told) (event_own set before net next e lines g)) (All-nil P))

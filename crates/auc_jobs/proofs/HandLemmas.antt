@@ -8,7 +8,7 @@ use Rattle.auc_hmac.specs.declared.keys.Master.{Master}
 use Rattle.auc_lines.specs.Part.{is_that}
 use Rattle.auc_packet.specs.Received.{Seen, is_sealed}
 use Rattle.auc_peer.specs.Asking.{answer_noted, note_of}
-use Rattle.auc_peer.specs.Attributes.{checkcode, differs}
+use Rattle.auc_peer.specs.Attributes.{checkcode}
 use Rattle.auc_peer.specs.Rows.{peer_row}
 use Rattle.auc_peer.specs.Subscription.{Subscription}
 use Rattle.auc_peer.specs.Table.{accepted as accepted_turn, accepting, by_answer, client, genuine, keys_at, master_at, opened, own_code, peer_does}
@@ -19,6 +19,7 @@ use Rattle.auc_peer.specs.declared.peer.Challenge.{Challenge}
 use Rattle.auc_peer.specs.declared.peer.Peer.{Peer}
 use Rattle.auc_peer.specs.declared.rows.Row.{Row as PeerRow}
 use Rattle.auc_peer.specs.declared.rows.Row.TheVariants as row
+use Rattle.auc_seal.specs.Checkcode.{differs}
 use Rattle.auc_vector.specs.declared.why.PeerWhy.{PeerWhy}
 use Rattle.auc_vector.specs.declared.why.PeerWhy.TheVariants as why
 use Rattle.auc_reauth.specs.Device.{Keeps}

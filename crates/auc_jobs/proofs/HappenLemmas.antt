@@ -2,10 +2,10 @@
 use Rattle.std.proofs.Common.{◌≡◌, ℕ, ◌<◌, List, [], ◌∷◌, ◌++◌, All, length, refl, sym, ◌∙◌, ap, subst, append_assoc, append-nil}
 use Rattle.std.specs.Prelude.{IfOk, IfSome, OnErr, Option, Some, None, Result, Ok, Err}
 use Rattle.std.proofs.lemmas.List.Elements.{All-cons, All-nil, All-weaker}
-use Rattle.auc_edge.specs.declared.no_memory.NoMemory.{NoMemory}
+use Rattle.auc_memory.specs.declared.no_memory.NoMemory.{NoMemory}
 use Rattle.auc_server.specs.Steps.{IsHome}
 use Rattle.auc_server.specs.declared.setting.HomeRow.{HomeRow}
-use Rattle.auc_edge.specs.declared.stop.Stop.{Stop}
+use Rattle.auc_memory.specs.declared.stop.Stop.{Stop}
 use Rattle.auc_history.specs.declared.entry.Entry.{Entry}
 use Rattle.auc_peer.specs.Subscription.{Subscription}
 use Rattle.auc_peer.specs.declared.device.Device.{Device}
@@ -31,7 +31,7 @@ use Rattle.auc_jobs.specs.InnerServing.{AreTold, Happens, Says, ServesLine, JobS
 use Rattle.auc_jobs.specs.InnerUsims.{has_usim}
 use Rattle.auc_jobs.specs.InnerWorker.{AreAtDevices, AreForRows}
 use Rattle.auc_jobs.specs.Usims.{AreBehind, HaveSecrets}
-use Rattle.auc_jobs.proofs.EventLemmas.{Agrees, IsOwnEvent, agrees, centre_answers, event_own, presented_sub, says_event, usim_told}
+use Rattle.auc_jobs.proofs.EventLemmas.{Agrees, IsOwnAnswer, agrees, centre_answers, event_own, presented_sub, says_event, usim_told}
 use Rattle.auc_jobs.proofs.HandLemmas.{Hands, hands_asked, hands_behind, hands_changes}
 use Rattle.auc_jobs.proofs.JobLemmas.{behind_quiet, numbers_added}
 use Rattle.auc_jobs.proofs.PlaceLemmas.{same_known}
@@ -195,7 +195,7 @@ module _ {S : Type 0} (goes : S → ℕ → List Entry → List (ℕ × Stop) �
       named : All (IsOwn set.rows) (line ∷ [])
       named =
           All-cons (IsOwn set.rows) line []
-          (subst (λ (x : Came). IsOwnEvent set.rows (asked_in x) (number_in x)) (sym a.applies.is) (event_own set (before_at early beside own) w.net new.net e (line ∷ []) gives))
+          (subst (λ (x : Came). IsOwnAnswer set.rows (asked_in x) (number_in x)) (sym a.applies.is) (event_own set (before_at early beside own) w.net new.net e (line ∷ []) gives))
           (All-nil (IsOwn set.rows))
 
       says : Says (λ i es ws. goes old i es ws next) (kept next) (beside ++ own) (Happening (record { event = e; result = c }))

@@ -1,24 +1,22 @@
 -- For a round with a journal: what its lines release and withhold, by the limits.
-use Rattle.std.proofs.Common.{◌≡◌, ◌⊎◌, ℕ, zero, suc, ◌<◌, ◌≤◌, Bool, List, [], ◌∷◌, ◌++◌, length, map, All, Option, Some, None, arith, refl, sym, subst, inl, inr, eq-eqb}
+use Rattle.std.proofs.Common.{◌≡◌, ◌⊎◌, ℕ, zero, suc, ◌<◌, ◌≤◌, Bool, List, [], ◌∷◌, length, map, All, Option, Some, None, arith, refl, sym, subst, inl, inr, eq-eqb}
 use Rattle.std.specs.Prelude.{if◌then◌else◌}
 use Rattle.std.proofs.lemmas.List.Elements.{All-append, All-cons, All-head, All-map, All-nil, All-tail}
-use Rattle.auc_edge.specs.declared.stop.Stop.{Stop}
+use Rattle.auc_memory.specs.declared.stop.Stop.{Stop}
 use Rattle.auc_subs.specs.declared.row.Row.{Row}
 use Rattle.auc_record.specs.declared.record.LineRecord.{LineRecord}
-use Rattle.auc_record.specs.declared.record.LineRecord.TheVariants.{Vector, Withheld, Exhausted, Sync, Give, Further, Event as Happening}
-use Rattle.auc_record.specs.Lines.{numbers_of, withheld_of, held_by, held_of, all_lines}
+use Rattle.auc_record.specs.Lines.{number_said, numbers_of, withheld_of, held_by, held_of, all_lines}
 use Rattle.auc_lines.specs.Part.{is_that}
 use Rattle.auc_vector.specs.Notes.{withheld_noted}
 use Rattle.auc_vector.specs.declared.notes.NumberNote.{NumberNote}
 use Rattle.auc_vector.specs.declared.notes.NumberNote.TheVariants as number
-use Rattle.auc_record.specs.Event.{asked_in, number_in}
 use Rattle.auc_world.specs.Round.{NamesStop, NotesStop, Withholds}
 use Rattle.auc_record.proofs.Facts.{none_held, withheld_of-held_of}
 use Rattle.auc_jobs.specs.declared.claiming.ClaimedJob.{ClaimedJob}
 use Rattle.auc_jobs.proofs.LineLemmas.{held_of-append, numbers_of-append}
-use Rattle.auc_jobs.proofs.EventLemmas.{IsOwnEvent}
+use Rattle.auc_jobs.proofs.EventLemmas.{IsOwnAnswer}
 use Rattle.auc_jobs.proofs.OrderLemmas.{all_back, all_front}
-use Rattle.auc_jobs.proofs.TellingLemmas.{IsOwn, held_beyond}
+use Rattle.auc_jobs.proofs.TellingLemmas.{IsOwn, asked_by, held_beyond, number_by_is}
 
 -- what some lines release of a subscriber is within its limit, and what they withhold is above it and has the cause of the
 -- stop
@@ -80,34 +78,25 @@ names : (stop : Stop) (rows : List Row) (lines : List LineRecord) (limit : ℕ �
     → ((sub : ℕ) → sub < length rows → All (λ h. (limit sub < h.0) × (Some stop ≡ Some h.1)) (held_of sub lines)) → All (NamesStop stop) lines
 names stop rows [] limit own held = All-nil (NamesStop stop)
 names stop rows (line ∷ lines) limit own held =
-    All-cons (NamesStop stop) line lines (here line (All-head (IsOwn rows) line lines own) held)
+    All-cons (NamesStop stop) line lines
+    (of_answer (asked_by line) (number_said line) (All-head (IsOwn rows) line lines own)
+    (λ sub known. subst (λ (o : Option NumberNote). All (IsFor sub) (withheld_noted o)) (number_by_is sub line) (all_front (IsFor sub) (held_by sub line) (held_of sub lines) (held sub known))))
     (names stop rows lines limit (All-tail (IsOwn rows) line lines own)
-    (λ sub known. all_back (λ h. (limit sub < h.0) × (Some stop ≡ Some h.1)) (held_by sub line) (held_of sub lines) (held sub known)))
+    (λ sub known. all_back (IsFor sub) (held_by sub line) (held_of sub lines) (held sub known)))
   where
-    of_number : (s : ℕ) (o : Option NumberNote) → All (λ h. (limit s < h.0) × (Some stop ≡ Some h.1)) (withheld_noted o) → NotesStop stop o
+    -- a number is withheld above the limit, for the cause of the stop
+    IsFor : ℕ → ℕ × Stop → Type 0
+    IsFor sub h = (limit sub < h.0) × (Some stop ≡ Some h.1)
+
+    of_number : (s : ℕ) (o : Option NumberNote) → All (IsFor s) (withheld_noted o) → NotesStop stop o
     of_number s None each = tt
     of_number s (Some (number.Drew n)) each = tt
     of_number s (Some (number.Exhausted word)) each = tt
-    of_number s (Some (number.Withheld n cause)) each = some_same stop cause (All-head (λ h. (limit s < h.0) × (Some stop ≡ Some h.1)) (n, cause) [] each).1
+    of_number s (Some (number.Withheld n cause)) each = some_same stop cause (All-head (IsFor s) (n, cause) [] each).1
 
-    of_event : (a : Option ℕ) (o : Option NumberNote) → IsOwnEvent rows a o → ((sub : ℕ) → sub < length rows → All (λ h. (limit sub < h.0) × (Some stop ≡ Some h.1)) (withheld_noted (if is_that sub a then o else None)))
-        → NotesStop stop o
-    of_event None o own each = subst (NotesStop stop) (sym own) tt
-    of_event (Some s) o own each =
-        of_number s o (subst (λ (b : Bool). All (λ h. (limit s < h.0) × (Some stop ≡ Some h.1)) (withheld_noted (if b then o else None))) (eq-eqb s s refl) (each s own.0))
-
-    here : (line : LineRecord) → IsOwn rows line → ((sub : ℕ) → sub < length rows → All (λ h. (limit sub < h.0) × (Some stop ≡ Some h.1)) (held_of sub (line ∷ lines))) → NamesStop stop line
-    here (Vector s n) is held = tt
-    here (Withheld s n cause) is held =
-        let Q : ℕ × Stop → Type 0 = λ h. (limit s < h.0) × (Some stop ≡ Some h.1) in
-        let first : All Q ((n, cause) ∷ held_of s lines) =
-        subst (λ (b : Bool). All Q ((if b then (n, cause) ∷ [] else []) ++ held_of s lines)) (eq-eqb s s refl) (held s is) in
-        some_same stop cause (All-head Q (n, cause) (held_of s lines) first).1
-    here (Exhausted s word) is held = tt
-    here (Sync s answer) is held = tt
-    here (Give s n answer) is held = tt
-    here (Further said) is held = tt
-    here (Happening r) is held = of_event (asked_in r.result) (number_in r.result) is (λ sub known. all_front (λ h. (limit sub < h.0) × (Some stop ≡ Some h.1)) (held_by sub (Happening r)) (held_of sub lines) (held sub known))
+    of_answer : (a : Option ℕ) (o : Option NumberNote) → IsOwnAnswer rows a o → ((sub : ℕ) → sub < length rows → All (IsFor sub) (withheld_noted (if is_that sub a then o else None))) → NotesStop stop o
+    of_answer None o own each = subst (NotesStop stop) (sym own) tt
+    of_answer (Some s) o own each = of_number s o (subst (λ (b : Bool). All (IsFor s) (withheld_noted (if b then o else None))) (eq-eqb s s refl) (each s own.0))
 
 -- what some lines withhold, if what they name is so by the limits
 pub withholds_by : (stop : Option Stop) (rows : List Row) (lines : List LineRecord) (limit : ℕ → ℕ) → All (IsOwn rows) lines → ((sub : ℕ) → sub < length rows → AreLimited sub (limit sub) stop lines) → Withholds stop lines

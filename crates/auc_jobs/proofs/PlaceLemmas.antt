@@ -8,7 +8,7 @@ use Rattle.std.proofs.lemmas.List.Elements.{All-cons, All-head, All-tail}
 use Rattle.std.proofs.lemmas.List.Quantifiers.{position-Some}
 use Rattle.std.proofs.lemmas.Option.{get_or_from_slice_get, slice_get_within}
 use Rattle.auc_cards.specs.Devices.{usim_among}
-use Rattle.auc_edge.specs.Identity.{Identity}
+use Rattle.auc_memory.specs.Identity.{Identity}
 use Rattle.auc_peer.specs.Subscription.{Subscription}
 use Rattle.auc_peer.specs.declared.device.Device.{Device}
 use Rattle.auc_server.specs.declared.setting.HomeRow.{HomeRow}

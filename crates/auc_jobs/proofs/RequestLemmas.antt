@@ -5,7 +5,6 @@ use Rattle.std.proofs.lemmas.List.Elements.{All-append, All-cons, All-nil}
 use Rattle.auc_5g.specs.declared.device_keys.DeviceKeys.{DeviceKeys}
 use Rattle.auc_5g.specs.declared.home_keys.HomeKeys.{HomeKeys}
 use Rattle.auc_5g.specs.Keys.{home_of}
-use Rattle.auc_edge.specs.declared.stop.Stop.{Stop}
 use Rattle.auc_lines.specs.Sim.{SimValue}
 use Rattle.auc_lines.specs.Sites.{SitesValue}
 use Rattle.auc_lines.specs.declared.part.FivegLine.{FivegLine}
@@ -24,11 +23,14 @@ use Rattle.auc_record.specs.declared.further.Further.TheVariants as further
 use Rattle.auc_record.specs.declared.record.GiveVerdict.{GiveVerdict}
 use Rattle.auc_record.specs.declared.record.GiveVerdict.TheVariants as given
 use Rattle.auc_record.specs.declared.record.LineRecord.{LineRecord}
-use Rattle.auc_record.specs.declared.record.LineRecord.TheVariants.{Vector, Withheld, Exhausted, Sync, Give, Further, Event}
-use Rattle.auc_record.specs.declared.record.SyncVerdict.{SyncVerdict}
-use Rattle.auc_record.specs.declared.record.SyncVerdict.TheVariants as verdict
+use Rattle.auc_record.specs.declared.record.LineRecord.TheVariants.{Number, Sync, Give, Further, Event}
+use Rattle.auc_record.specs.Vectors.{IsReleasableLine}
+use Rattle.auc_vector.specs.declared.notes.NumberNote.{NumberNote}
+use Rattle.auc_vector.specs.declared.notes.NumberNote.TheVariants as number
+use Rattle.auc_vector.specs.declared.notes.ResyncNote.{ResyncNote}
+use Rattle.auc_vector.specs.declared.notes.ResyncNote.TheVariants as resync
 use Rattle.auc_world.specs.Given.{AuthenticatesIf, Before, EpsGives, FivegFollows, FivegGives, GiveGives, SyncGives, VectorsFollow, behind, device_of_row, hxres_lines, judged_lines, kasme_line, outcome_of, turned}
-use Rattle.auc_record.specs.Draws.{DrawGives, IsReleasable, OneGives}
+use Rattle.auc_record.specs.Draws.{DrawGives, OneGives}
 use Rattle.auc_subs.specs.Setting.{Setting}
 use Rattle.auc_record.specs.Lines.{numbers_of}
 use Rattle.auc_world.specs.Sim.{SimFollowsIf, SimGives}
@@ -38,10 +40,8 @@ use Rattle.auc_jobs.specs.InnerSim.{said_lines}
 
 -- each line that a request of a subscriber may give is so
 pub record AreSo (set : Setting) (sub : ℕ) (P : LineRecord → Type 0) : Type 0 where
-  pub vector : (n : ℕ) → IsReleasable set sub n → P (Vector sub n)
-  pub withheld : (n : ℕ) (stop : Stop) → P (Withheld sub n stop)
-  pub exhausted : (word : ℕ) → P (Exhausted sub word)
-  pub sync : (answer : SyncVerdict) → P (Sync sub answer)
+  pub number : (note : NumberNote) → IsReleasableLine set (Number sub note) → P (Number sub note)
+  pub sync : (note : ResyncNote) → P (Sync sub note)
   pub give : (n : ℕ) (answer : GiveVerdict) → P (Give sub n answer)
   pub further : (said : Said) → P (Further said)
 
@@ -52,12 +52,16 @@ module _ (set : Setting) (sub : ℕ) (P : LineRecord → Type 0) (are : AreSo se
   none : (lines : List LineRecord) → lines ≡ [] → All P lines
   none lines is = subst (All P) (sym is) (All-nil P)
 
+  -- the line of an answer
+  asked : (s : ℕ) (note : NumberNote) → s ≡ sub → IsReleasableLine set (Number sub note) → P (Number s note)
+  asked s note same is = subst (λ (k : ℕ). P (Number k note)) (sym same) (are.number note is)
+
   -- a request for a vector, and what follows it
   one_lines : (Follows : ℕ → List LineRecord → Type 0) (lines : List LineRecord) → ((n : ℕ) (rest : List LineRecord) → Follows n rest → All P rest) → OneGives set sub Follows lines → All P lines
   one_lines Follows [] follows gives = absurd gives
-  one_lines Follows (Vector s n ∷ lines) follows (same, is, more) = All-cons P (Vector s n) lines (subst (λ (k : ℕ). P (Vector k n)) (sym same) (are.vector n is)) (follows n lines more)
-  one_lines Follows (Withheld s n stop ∷ lines) follows (same, first, last, ends) = All-cons P (Withheld s n stop) lines (subst (λ (k : ℕ). P (Withheld k n stop)) (sym same) (are.withheld n stop)) (none lines ends)
-  one_lines Follows (Exhausted s word ∷ lines) follows (same, spent, ends) = All-cons P (Exhausted s word) lines (subst (λ (k : ℕ). P (Exhausted k word)) (sym same) (are.exhausted word)) (none lines ends)
+  one_lines Follows (Number s (number.Drew n) ∷ lines) follows (same, is, more) = All-cons P _ lines (asked s (number.Drew n) same is) (follows n lines more)
+  one_lines Follows (Number s (number.Exhausted word) ∷ lines) follows (same, spent, ends) = All-cons P _ lines (asked s (number.Exhausted word) same tt) (none lines ends)
+  one_lines Follows (Number s (number.Withheld n stop) ∷ lines) follows (same, first, last, ends) = All-cons P _ lines (asked s (number.Withheld n stop) same tt) (none lines ends)
   one_lines Follows (Sync s answer ∷ lines) follows gives = absurd gives
   one_lines Follows (Give s n answer ∷ lines) follows gives = absurd gives
   one_lines Follows (Further said ∷ lines) follows gives = absurd gives
@@ -69,15 +73,15 @@ module _ (set : Setting) (sub : ℕ) (P : LineRecord → Type 0) (are : AreSo se
   draw_lines (suc count) lines gives = one_lines (λ n rest. DrawGives set sub count rest) lines (λ n rest more. draw_lines count rest more) gives
 
   -- an AUTS, and the vectors that follow
-  follow_lines : (count : ℕ) (answer : SyncVerdict) (lines : List LineRecord) → VectorsFollow set sub count answer lines → All P lines
-  follow_lines count (verdict.Moved seen seq_ms) lines follow = draw_lines count lines follow
-  follow_lines count (verdict.InRange seen seq_ms) lines follow = draw_lines count lines follow
-  follow_lines count (verdict.Beyond seen seq_ms) lines follow = none lines follow
-  follow_lines count verdict.WrongMac lines follow = none lines follow
+  follow_lines : (count : ℕ) (note : ResyncNote) (lines : List LineRecord) → VectorsFollow set sub count note lines → All P lines
+  follow_lines count (resync.Moved seen seq_ms) lines follow = draw_lines count lines follow
+  follow_lines count (resync.InRange seen seq_ms) lines follow = draw_lines count lines follow
+  follow_lines count (resync.Beyond seen seq_ms) lines follow = none lines follow
+  follow_lines count resync.BadAuts lines follow = none lines follow
 
   pub sync_lines : (report : Report) (count : ℕ) (lines : List LineRecord) → SyncGives set sub report count lines → All P lines
   sync_lines report count lines gives =
-      subst (All P) (sym gives.lines_are) (All-cons P (Sync sub gives.answer) gives.more (are.sync gives.answer) (follow_lines count gives.answer gives.more gives.follows))
+      subst (All P) (sym gives.lines_are) (All-cons P (Sync sub gives.note) gives.more (are.sync gives.note) (follow_lines count gives.note gives.more gives.follows))
 
   -- a presented vector
   pub give_lines : (before : Before) (n : ℕ) (lines : List LineRecord) → GiveGives set before sub n lines → All P lines
@@ -118,8 +122,8 @@ module _ (set : Setting) (line : FivegLine) (P : LineRecord → Type 0) (are : A
 
   pub fiveg_lines : (before : Before) (lines : List LineRecord) → FivegGives set before line lines → All P lines
   fiveg_lines before lines gives =
-      one_lines set line.sub P are (λ n rest. FivegFollows set (behind before (Vector line.sub n ∷ [])) line n rest) lines
-      (λ n rest f. follows_lines (behind before (Vector line.sub n ∷ [])) n rest f) gives
+      one_lines set line.sub P are (λ n rest. FivegFollows set (behind before (Number line.sub (number.Drew n) ∷ [])) line n rest) lines
+      (λ n rest f. follows_lines (behind before (Number line.sub (number.Drew n) ∷ [])) n rest f) gives
 
 -- the events of a line for sites
 module _ (set : Setting) (line : SitesValue) (P : LineRecord → Type 0) (are : AreSo set line.sub P) where

@@ -1,11 +1,11 @@
 -- For a round: what its pieces make of its record, and of the state after it.
 use Rattle.std.proofs.Common.{◌≡◌, ℕ, zero, suc, ◌+◌, ◌-◌, ◌<◌, ◌≤◌, Bool, true, false, List, [], ◌∷◌, ◌++◌, length, get_or, refl, sym, ◌∙◌, ap, subst, arith, append-nil}
-use Rattle.std.specs.Prelude.{All, AllPairs, Option, Some, None, slice_get, slice_index, if◌then◌else◌, ◌==◌}
+use Rattle.std.specs.Prelude.{All, AllPairs, Option, Some, None, slice_get, slice_index, if◌then◌else◌}
 use Rattle.std.proofs.lemmas.List.{length-append, length-map}
 use Rattle.std.proofs.lemmas.Grind.{flat_map-append}
 use Rattle.std.proofs.lemmas.List.Sums.{sum_by-append, sum_by-cons}
 use Rattle.std.proofs.lemmas.Option.{slice_get_within}
-use Rattle.auc_edge.specs.declared.stop.Stop.{Stop}
+use Rattle.auc_memory.specs.declared.stop.Stop.{Stop}
 use Rattle.auc_history.specs.declared.entry.Entry.{Entry}
 use Rattle.auc_history.specs.declared.entry.Entry.TheVariants.{Drawn, Moved as moved, Look}
 use Rattle.auc_history.specs.History.{drawn, drawn_by, skipped, skipped_by}
@@ -20,8 +20,8 @@ use Rattle.auc_vector.specs.declared.notes.NumberNote.{NumberNote}
 use Rattle.auc_vector.specs.declared.notes.NumberNote.TheVariants as number
 use Rattle.auc_vector.specs.declared.notes.ResyncNote.{ResyncNote}
 use Rattle.auc_vector.specs.declared.notes.ResyncNote.TheVariants as resync
-use Rattle.auc_record.specs.Event.{number_for, number_passed, number_released, number_withheld, resync_for}
-use Rattle.auc_record.specs.Entries.{is_reported, entries_of_line, entries_of_lines, entries_of_jobs, entries_of_number, entries_of_resync, entries_of_verdict}
+use Rattle.auc_record.specs.Event.{number_passed, number_released, number_withheld}
+use Rattle.auc_record.specs.Entries.{is_reported, entries_of_line, entries_of_lines, entries_of_jobs, entries_of_number, entries_of_resync}
 use Rattle.auc_world.specs.Given.{JobsGive}
 use Rattle.auc_subs.specs.Setting.{Setting}
 use Rattle.auc_world.specs.Start.{Kept}
@@ -29,7 +29,7 @@ use Rattle.auc_world.proofs.Facts.{jobs_give_after_all_lines, pieces_split_the_r
 use Rattle.auc_record.proofs.Facts.{length-reopened}
 use Rattle.auc_world.specs.Net.{Net}
 use Rattle.auc_world.specs.Pieces.{Piece, PiecesGive}
-use Rattle.auc_record.specs.Lines.{numbers_of, released_by, withheld_by, withheld_of, all_lines}
+use Rattle.auc_record.specs.Lines.{number_by, numbers_of, released_by, resync_by, withheld_by, withheld_of, all_lines}
 use Rattle.auc_world.specs.Round.{closing_of, closings_from, IsLawfulRound, Withholds}
 use Rattle.auc_world.specs.Sessions.{AreVerdicts, job_sessions, premise_from}
 use Rattle.auc_record.specs.declared.record.JobSessions.{JobSessions}
@@ -37,11 +37,8 @@ use Rattle.auc_record.specs.declared.record.Premise.{Premise}
 use Rattle.auc_record.specs.declared.record.SessionVerdict.{SessionVerdict}
 use Rattle.auc_record.specs.declared.record.Closing.{Closing}
 use Rattle.auc_record.specs.declared.record.LineRecord.{LineRecord}
-use Rattle.auc_record.specs.declared.record.LineRecord.TheVariants.{Vector, Withheld, Exhausted, Sync, Give, Further, Event as Happening}
-use Rattle.auc_record.specs.declared.record.SyncVerdict.{SyncVerdict}
-use Rattle.auc_record.specs.declared.record.SyncVerdict.TheVariants as verdict
 use Rattle.auc_record.specs.declared.counting.Count.{Count}
-use Rattle.auc_record.specs.Counts.{passed, passed_by, passed_in, capped, counted_in, AreCounted, counted_closing, counted_closings}
+use Rattle.auc_record.specs.Counts.{passed_by, passed_in, capped, counted_in, AreCounted, counted_closing, counted_closings}
 use Rattle.auc_jobs.specs.Usims.{AreBehind}
 use Rattle.auc_jobs.specs.InnerRound.{ArePieces, AreServed, IsAdvanced, LeadsOn}
 use Rattle.auc_jobs.specs.InnerUsims.{OwnDevices}
@@ -60,34 +57,12 @@ all_entries-of_jobs sub before (job ∷ jobs) =
 
 -- ---- what lines pass over, and how many they release
 
--- an entry that is there or isn't passes over what it does
-passes_if : (b : Bool) (entry : Entry) → skipped (if b then entry ∷ [] else []) ≡ (if b then skipped_by entry else 0)
-passes_if true entry = let e = sum_by-cons skipped_by entry [] in omega (arith, e)
-passes_if false entry = refl
-
+-- an entry that passes over nothing, if it is there
 passes_unless : (b : Bool) (entry : Entry) → skipped_by entry ≡ 0 → skipped (if b then [] else entry ∷ []) ≡ 0
 passes_unless true entry none = refl
 passes_unless false entry none = let e = sum_by-cons skipped_by entry [] in omega (arith, e, none)
 
-nothing_if : (b : Bool) → (let n : ℕ = if b then 0 else 0 in n) ≡ 0
-nothing_if true = refl
-nothing_if false = refl
-
-none_if : (b : Bool) (entries : List Entry) → skipped entries ≡ 0 → skipped (if b then entries else []) ≡ 0
-none_if true entries none = none
-none_if false entries none = refl
-
-these_if : (b : Bool) (entries : List Entry) (n : ℕ) → skipped entries ≡ n → skipped (if b then entries else []) ≡ (if b then n else 0)
-these_if true entries n is = is
-these_if false entries n is = refl
-
--- the entries of a verdict pass over what it passed over
-passes_verdict : (sub : ℕ) (before : List LineRecord) (answer : SyncVerdict) → skipped (entries_of_verdict sub before answer) ≡ passed answer
-passes_verdict sub before (verdict.Moved from to) = let e = sum_by-cons skipped_by (moved from to) [] in omega (arith, e)
-passes_verdict sub before (verdict.InRange seen seq_ms) = passes_unless (is_reported sub seen before) (Look seen) refl
-passes_verdict sub before (verdict.Beyond seen seq_ms) = passes_unless (is_reported sub seen before) (Look seen) refl
-passes_verdict sub before verdict.WrongMac = refl
-
+-- the entries of a resynchronisation pass over what it passed over, those of a draw over nothing
 passes_resync : (sub : ℕ) (before : List LineRecord) (o : Option ResyncNote) → skipped (entries_of_resync sub before o) ≡ number_passed o
 passes_resync sub before None = refl
 passes_resync sub before (Some (resync.Moved from to)) = let e = sum_by-cons skipped_by (moved from to) [] in omega (arith, e)
@@ -102,17 +77,10 @@ passes_number sub before (Some (number.Exhausted word)) = passes_unless (is_repo
 passes_number sub before (Some (number.Withheld n stop)) = passes_unless false (Drawn n) refl
 
 passes_line : (sub : ℕ) (before : List LineRecord) (line : LineRecord) → skipped (entries_of_line sub before line) ≡ passed_by sub line
-passes_line sub before (Vector s n) = passes_if (s == sub) (Drawn n) ∙ nothing_if (s == sub)
-passes_line sub before (Withheld s n stop) = passes_if (s == sub) (Drawn n) ∙ nothing_if (s == sub)
-passes_line sub before (Exhausted s word) =
-    none_if (s == sub) (if is_reported sub word before then [] else Drawn (word + 1) ∷ []) (passes_unless (is_reported sub word before) (Drawn (word + 1)) refl)
-passes_line sub before (Sync s answer) = these_if (s == sub) (entries_of_verdict sub before answer) (passed answer) (passes_verdict sub before answer)
-passes_line sub before (Give s n answer) = refl
-passes_line sub before (Further said) = refl
-passes_line sub before (Happening r) =
-    let cut = sum_by-append skipped_by (entries_of_resync sub before (resync_for sub r)) (entries_of_number sub before (number_for sub r)) in
-    let first = passes_resync sub before (resync_for sub r) in
-    let second = passes_number sub before (number_for sub r) in
+passes_line sub before line =
+    let cut = sum_by-append skipped_by (entries_of_resync sub before (resync_by sub line)) (entries_of_number sub before (number_by sub line)) in
+    let first = passes_resync sub before (resync_by sub line) in
+    let second = passes_number sub before (number_by sub line) in
     omega (arith, cut, first, second)
 
 pub passes_lines : (sub : ℕ) (before lines : List LineRecord) → skipped (entries_of_lines sub before lines) ≡ passed_in sub lines
@@ -125,23 +93,13 @@ passes_lines sub before (line ∷ lines) =
     omega (arith, e, f, here, rest)
 
 -- a released or withheld number was drawn
-draws_if : (b : Bool) (n : ℕ) → length (if b then n ∷ [] else []) ≤ length (drawn (if b then Drawn n ∷ [] else []))
-draws_if true n = omega arith
-draws_if false n = omega arith
-
 draws_line : (sub : ℕ) (before : List LineRecord) (line : LineRecord) → length (released_by sub line) + length (withheld_by sub line) ≤ length (drawn (entries_of_line sub before line))
-draws_line sub before (Vector s n) = let here = draws_if (s == sub) n in omega (arith, here)
-draws_line sub before (Withheld s n stop) = let here = draws_if (s == sub) n in omega (arith, here)
-draws_line sub before (Exhausted s word) = omega arith
-draws_line sub before (Sync s answer) = omega arith
-draws_line sub before (Give s n answer) = omega arith
-draws_line sub before (Further said) = omega arith
-draws_line sub before (Happening r) =
-    let cut : drawn (entries_of_resync sub before (resync_for sub r) ++ entries_of_number sub before (number_for sub r))
-    ≡ drawn (entries_of_resync sub before (resync_for sub r)) ++ drawn (entries_of_number sub before (number_for sub r)) =
-    flat_map-append drawn_by (entries_of_resync sub before (resync_for sub r)) (entries_of_number sub before (number_for sub r)) in
-    let both = ap (λ (ns : List ℕ). length ns) cut ∙ length-append (drawn (entries_of_resync sub before (resync_for sub r))) (drawn (entries_of_number sub before (number_for sub r))) in
-    let here = by (number_for sub r) in
+draws_line sub before line =
+    let front = entries_of_resync sub before (resync_by sub line) in
+    let back = entries_of_number sub before (number_by sub line) in
+    let cut : drawn (front ++ back) ≡ drawn front ++ drawn back = flat_map-append drawn_by front back in
+    let both = ap (λ (ns : List ℕ). length ns) cut ∙ length-append (drawn front) (drawn back) in
+    let here = by (number_by sub line) in
     omega (arith, both, here)
   where
     by : (o : Option NumberNote) → length (number_released o) + length (number_withheld o) ≤ length (drawn (entries_of_number sub before o))

@@ -2,7 +2,7 @@
 use Rattle.std.proofs.Common.{◌≡◌, ℕ, ◌<◌, ◌≤◌, true, List, [], ◌∷◌, ◌++◌, length, refl, sym, ◌∙◌, ap, subst, append-nil}
 use Rattle.std.specs.Prelude.{Option, Some, None, All}
 use Rattle.std.proofs.lemmas.List.Elements.{All-append, All-nil}
-use Rattle.auc_edge.specs.declared.stop.Stop.{Stop}
+use Rattle.auc_memory.specs.declared.stop.Stop.{Stop}
 use Rattle.auc_history.specs.declared.entry.Entry.{Entry}
 use Rattle.auc_lines.specs.declared.part.Line.{Line}
 use Rattle.auc_lines.specs.declared.part.Line.TheVariants as line
@@ -27,13 +27,14 @@ use Rattle.auc_world.specs.Start.{Kept, start_of}
 use Rattle.auc_record.specs.declared.event.Event.{Event}
 use Rattle.auc_record.specs.declared.event.Event.TheVariants as event
 use Rattle.auc_record.specs.declared.record.JobSessions.{JobSessions}
+use Rattle.auc_record.specs.Record.{further_subscriber}
 use Rattle.auc_record.specs.Vectors.{IsReleasableLine, IsReleasableNumber}
 use Rattle.auc_jobs.specs.Serving.{IsKnownLine}
 use Rattle.auc_jobs.specs.Usims.{HaveSecrets, AreOfRows}
 use Rattle.auc_jobs.specs.InnerRound.{JobBegins, ServesJob, left_in, left_on}
 use Rattle.auc_jobs.specs.InnerServing.{before_at, JobStands, ServesLines}
 use Rattle.auc_jobs.specs.InnerUsims.{OwnDevices, has_usim, usim_in, AreCopies}
-use Rattle.auc_jobs.proofs.EventLemmas.{IsOwnEvent, IsOwnNumber, event_lines, plain_lines}
+use Rattle.auc_jobs.proofs.EventLemmas.{IsOwnAnswer, IsOwnNumber, event_lines, plain_lines}
 use Rattle.auc_jobs.proofs.CopyLemmas.{copies_found, copies_keyed}
 use Rattle.auc_jobs.proofs.RequestLemmas.{AreSo, draw_lines, eps_lines, fiveg_lines, give_lines, sim_lines, sites_lines, sync_lines}
 
@@ -106,16 +107,18 @@ job_settles goes set early beside old kept released usims stores job lines copie
 -- those of a subscriber's requests
 requests_releasable : (set : Setting) (sub : ℕ) → AreSo set sub (IsReleasableLine set)
 requests_releasable set sub = record {
-  vector = λ n is. is;
-  withheld = λ n stop. tt;
-  exhausted = λ word. tt;
-  sync = λ answer. tt;
+  number = λ note is. is;
+  sync = λ note. tt;
   give = λ n answer. tt;
-  further = λ said. tt;
+  further = λ said. none (further_subscriber said);
 }
+  where
+    none : (s : Option ℕ) → IsReleasableNumber set (number_with s None)
+    none None = tt
+    none (Some s) = tt
 
 -- those of a line
-event_releasable : (set : Setting) (e : Event) (c : Came) → IsOwnEvent set.rows (asked_in c) (number_in c) → IsReleasableLine set (Happening (record { event = e; result = c }))
+event_releasable : (set : Setting) (e : Event) (c : Came) → IsOwnAnswer set.rows (asked_in c) (number_in c) → IsReleasableLine set (Happening (record { event = e; result = c }))
 event_releasable set e c own = by (asked_in c) (number_in c) own
   where
     of_number : (s : ℕ) (o : Option NumberNote) → s < length set.rows → IsOwnNumber (top_at set.rows s) o → IsReleasableNumber set (number_with (Some s) o)
@@ -124,7 +127,7 @@ event_releasable set e c own = by (asked_in c) (number_in c) own
     of_number s (Some (number.Exhausted word)) known is = tt
     of_number s (Some (number.Withheld n stop)) known is = tt
 
-    by : (a : Option ℕ) (o : Option NumberNote) → IsOwnEvent set.rows a o → IsReleasableNumber set (number_with a o)
+    by : (a : Option ℕ) (o : Option NumberNote) → IsOwnAnswer set.rows a o → IsReleasableNumber set (number_with a o)
     by None o own = tt
     by (Some s) o own = of_number s o own.0 own.1
 

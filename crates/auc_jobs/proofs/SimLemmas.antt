@@ -4,11 +4,12 @@ use Rattle.std.specs.Prelude.{◌==◌, All, IfSome, Option, Some, reverse, slic
 use Rattle.std.proofs.lemmas.Bool.{ne_eqb}
 use Rattle.std.proofs.lemmas.List.{length-map, reverse-append, reverse-reverse, take_all}
 use Rattle.std.proofs.lemmas.List.Elements.{All-cons, All-nil}
-use Rattle.auc_edge.specs.Identity.{digits_of, last_digits}
+use Rattle.auc_memory.specs.Identity.{digits_of, last_digits}
+use Rattle.auc_ident.specs.Permanent.{with_realm}
 use Rattle.auc_lines.specs.Sim.{SimValue}
 use Rattle.auc_lines.specs.declared.sim.SimSchedule.{SimSchedule}
 use Rattle.auc_random.specs.Random.{sim_nonce}
-use Rattle.auc_sim.specs.Identity.{sim_identity, with_realm}
+use Rattle.auc_sim.specs.Identity.{sim_identity}
 use Rattle.auc_sim.specs.Session.{SimInputs, SimRuns}
 use Rattle.auc_sim.specs.Triplets.{of_vector}
 use Rattle.auc_vector.specs.declared.sim_note.SimNote.{SimNote}

@@ -3,7 +3,7 @@ use Rattle.std.proofs.Common.{◌≡◌, ℕ, zero, suc, ◌+◌, ◌-◌, ◌�
 use Rattle.std.specs.Prelude.{IfOk, Option, Some, None, Result, Ok, Err, replicate, slice_get}
 use Rattle.std.proofs.lemmas.List.{length-replicate}
 use Rattle.std.proofs.lemmas.Option.{slice_get_past}
-use Rattle.auc_edge.specs.declared.stop.Stop.{Stop}
+use Rattle.auc_memory.specs.declared.stop.Stop.{Stop}
 use Rattle.auc_history.specs.declared.entry.Entry.{Entry}
 use Rattle.auc_lines.specs.Sites.{SitesValue}
 use Rattle.auc_lines.specs.declared.sites.SiteEvent.{SiteEvent}
@@ -35,7 +35,8 @@ use Rattle.auc_subs.specs.Setting.{Setting}
 use Rattle.auc_world.specs.Sites.{LeaseGives, SiteEventGives, SitesGives, SitesGo, event_of, note_of, note_of_draw, note_of_number, outcome_of_answer, outcome_of_grant, outcome_of_packet, outcome_of_reply, packet_place, refusal_in, sites_start, turn_of}
 use Rattle.auc_record.specs.declared.further.Further.TheVariants as further
 use Rattle.auc_record.specs.declared.record.LineRecord.{LineRecord}
-use Rattle.auc_record.specs.declared.record.LineRecord.TheVariants.{Vector, Withheld, Exhausted, Sync, Give, Further, Event as Happening}
+use Rattle.auc_record.specs.declared.record.LineRecord.TheVariants.{Number, Sync, Give, Further, Event as Happening}
+use Rattle.auc_vector.specs.declared.notes.NumberNote.TheVariants as number
 use Rattle.auc_record.specs.declared.sites.SitesNote.{SitesNote}
 use Rattle.auc_record.specs.declared.sites.SitesNote.TheVariants as note
 use Rattle.auc_record.specs.declared.sites.SitesOutcome.{SitesOutcome}
@@ -59,7 +60,7 @@ lease_begins set sub left size front all none =
     (subst (λ (n : ℕ). GoesOn set sub n size front) (sym all) (draw_begins set sub size front none), sym (ap (numbers_of sub) none))
 
 -- the number of a vector
-one_number : (sub n : ℕ) → numbers_of sub (Vector sub n ∷ []) ≡ n ∷ []
+one_number : (sub n : ℕ) → numbers_of sub (Number sub (number.Drew n) ∷ []) ≡ n ∷ []
 one_number sub n = rw (eq-eqb sub sub refl) refl
 
 -- it has the number of each further vector
@@ -76,9 +77,9 @@ lease_more set sub left next size n number lease more front lines counted some p
 -- what ends the draws has no number
 no_number : (set : Setting) (sub : ℕ) (lines : List LineRecord) → IsNext set sub None lines → numbers_of sub lines ≡ []
 no_number set sub [] is = refl
-no_number set sub (Vector s n ∷ lines) is = absurd is.2
-no_number set sub (Withheld s n stop ∷ lines) is = ap (numbers_of sub) is.3
-no_number set sub (Exhausted s word ∷ lines) is = ap (numbers_of sub) is.2
+no_number set sub (Number s (number.Drew n) ∷ lines) is = absurd is.2
+no_number set sub (Number s (number.Exhausted word) ∷ lines) is = rw (eq-eqb s sub is.0) (ap (numbers_of sub) is.2)
+no_number set sub (Number s (number.Withheld n stop) ∷ lines) is = rw (eq-eqb s sub is.0) (ap (numbers_of sub) is.3)
 no_number set sub (Sync s answer ∷ lines) is = absurd is
 no_number set sub (Give s n answer ∷ lines) is = absurd is
 no_number set sub (Further said ∷ lines) is = absurd is
@@ -123,9 +124,9 @@ event_quiet set line e note v before after same leads draws noted = (
 )
 
 -- what is said of a site that hands out a number
-pub number_said : (site : ℕ) (o : Option SiteState) → note_of_number site (number_of o) ≡ note_of_draw site o
-number_said site None = refl
-number_said site (Some s) = refl
+pub site_number_said : (site : ℕ) (o : Option SiteState) → note_of_number site (number_of o) ≡ note_of_draw site o
+site_number_said site None = refl
+site_number_said site (Some s) = refl
 
 -- ---- a delivery
 

@@ -1,14 +1,13 @@
 -- For a round with a journal: the stop that its lines tell, and the number that they withhold for it.
-use Rattle.std.proofs.Common.{◌≡◌, ◌⊎◌, ℕ, zero, suc, ◌<◌, ◌==◌, Bool, true, false, List, [], ◌∷◌, ◌++◌, length, map, All, Contains, arith, refl, sym, ap, ◌∙◌, subst, inl, inr, eq-eqb}
+use Rattle.std.proofs.Common.{◌≡◌, ◌⊎◌, ℕ, zero, suc, ◌<◌, Bool, true, false, List, [], ◌∷◌, ◌++◌, length, map, All, Contains, arith, refl, sym, ap, ◌∙◌, subst, inl, inr, eq-eqb}
 use Rattle.std.specs.Prelude.{◌↔◌, ◌||◌, Option, Some, None, if◌then◌else◌}
 use Rattle.std.specs.List.{list_any}
 use Rattle.std.proofs.lemmas.Grind.{flat_map-append}
 use Rattle.std.proofs.lemmas.List.Elements.{All-head, All-tail, All-contains, Contains-append_cases, Contains-append_left, Contains-append_right}
 use Rattle.std.proofs.lemmas.List.Folds.{list_any-append}
-use Rattle.auc_edge.specs.declared.stop.Stop.{Stop}
-use Rattle.auc_edge.specs.declared.stop.Stop.TheVariants.{Fault, Full}
+use Rattle.auc_memory.specs.declared.stop.Stop.{Stop}
+use Rattle.auc_memory.specs.declared.stop.Stop.TheVariants.{Fault, Full}
 use Rattle.auc_history.specs.declared.entry.Entry.{Entry}
-use Rattle.auc_history.specs.declared.entry.Entry.TheVariants.{Drawn}
 use Rattle.auc_history.specs.History.{drawn, drawn_by}
 use Rattle.auc_history.specs.Split.{all_entries}
 use Rattle.auc_lines.specs.Part.{is_that}
@@ -17,18 +16,16 @@ use Rattle.auc_vector.specs.Notes.{withheld_noted}
 use Rattle.auc_vector.specs.declared.notes.NumberNote.{NumberNote}
 use Rattle.auc_vector.specs.declared.notes.NumberNote.TheVariants as number
 use Rattle.auc_record.specs.Entries.{entries_of_jobs, entries_of_line, entries_of_lines, entries_of_number, entries_of_resync}
-use Rattle.auc_record.specs.Event.{asked_in, number_for, number_in, resync_for}
-use Rattle.auc_record.specs.Lines.{all_lines, held_by, held_of}
+use Rattle.auc_record.specs.Lines.{all_lines, held_by, held_of, number_by, number_said, resync_by}
 use Rattle.auc_world.specs.Round.{Withholds}
 use Rattle.auc_record.specs.declared.record.LineRecord.{LineRecord}
-use Rattle.auc_record.specs.declared.record.LineRecord.TheVariants.{Vector, Withheld, Exhausted, Sync, Give, Further, Event as Happening}
 use Rattle.auc_record.proofs.Facts.{none_held}
 use Rattle.auc_jobs.specs.InnerKeeping.{is_withheld, told_stop, withholds}
 use Rattle.auc_jobs.specs.InnerRound.{HoldsFull}
-use Rattle.auc_jobs.proofs.EventLemmas.{IsOwnEvent}
+use Rattle.auc_jobs.proofs.EventLemmas.{IsOwnAnswer}
 use Rattle.auc_jobs.proofs.LimitLemmas.{AreLimited}
 use Rattle.auc_jobs.proofs.LineLemmas.{held_of-append}
-use Rattle.auc_jobs.proofs.TellingLemmas.{IsOwn}
+use Rattle.auc_jobs.proofs.TellingLemmas.{IsOwn, asked_by, number_by_is}
 
 -- ---- whether some line withholds a number
 
@@ -47,13 +44,7 @@ either false b some = inr some
 
 -- if none does, nothing is withheld
 line_free : (sub : ℕ) (line : LineRecord) → withholds line ≡ false → held_by sub line ≡ []
-line_free sub (Vector s n) none = refl
-line_free sub (Withheld s n stop) none = cc
-line_free sub (Exhausted s word) none = refl
-line_free sub (Sync s answer) none = refl
-line_free sub (Give s n answer) none = refl
-line_free sub (Further said) none = refl
-line_free sub (Happening r) none = by (is_that sub (asked_in r.result)) (number_in r.result) none
+line_free sub line none = ap withheld_noted (number_by_is sub line) ∙ by (is_that sub (asked_by line)) (number_said line) none
   where
     by : (b : Bool) (said : Option NumberNote) → is_withheld said ≡ false → withheld_noted (if b then said else None) ≡ []
     by false said none = refl
@@ -86,14 +77,9 @@ one : (n : ℕ) (stop : Stop) → Has ((n, stop) ∷ []) n stop
 one n stop = (0, omega arith, refl)
 
 line_holds : (rows : List Row) (line : LineRecord) → IsOwn rows line → withholds line ≡ true → HoldsOne rows line
-line_holds rows (Vector s n) own some = cc
-line_holds rows (Withheld s n stop) own some =
-    (s, own, n, stop, subst (λ (b : Bool). Has (if b then (n, stop) ∷ [] else []) n stop) (sym (eq-eqb s s refl)) (one n stop))
-line_holds rows (Exhausted s word) own some = cc
-line_holds rows (Sync s answer) own some = cc
-line_holds rows (Give s n answer) own some = cc
-line_holds rows (Further said) own some = cc
-line_holds rows (Happening r) own some = of_event (asked_in r.result) (number_in r.result) own some
+line_holds rows line own some =
+    let (sub, known, n, stop, has) = of_answer (asked_by line) (number_said line) own some in
+    (sub, known, n, stop, subst (λ (o : Option NumberNote). Has (withheld_noted o) n stop) (sym (number_by_is sub line)) has)
   where
     of_number : (s : ℕ) → s < length rows → (note : Option NumberNote) → is_withheld note ≡ true → HoldsNote rows (Some s) note
     of_number s known None some = cc
@@ -102,9 +88,9 @@ line_holds rows (Happening r) own some = of_event (asked_in r.result) (number_in
     of_number s known (Some (number.Withheld n stop)) some =
         (s, known, n, stop, subst (λ (b : Bool). Has (withheld_noted (if b then Some (number.Withheld n stop) else None)) n stop) (sym (eq-eqb s s refl)) (one n stop))
 
-    of_event : (a : Option ℕ) (note : Option NumberNote) → IsOwnEvent rows a note → is_withheld note ≡ true → HoldsNote rows a note
-    of_event None said own some = let no : is_withheld said ≡ false = ap is_withheld own in let bad : ⊥ = cc in absurd bad
-    of_event (Some s) said own some = of_number s own.0 said some
+    of_answer : (a : Option ℕ) (note : Option NumberNote) → IsOwnAnswer rows a note → is_withheld note ≡ true → HoldsNote rows a note
+    of_answer None said own some = let no : is_withheld said ≡ false = ap is_withheld own in let bad : ⊥ = cc in absurd bad
+    of_answer (Some s) said own some = of_number s own.0 said some
 
 lines_hold : (rows : List Row) (lines : List LineRecord) → All (IsOwn rows) lines → list_any withholds lines ≡ true → Holds rows lines
 lines_hold rows [] own some = cc
@@ -181,20 +167,10 @@ only m n cause stop (zero, within, at) = (0, omega arith, ap (λ (h : ℕ × Sto
 only m n cause stop (suc k, within, at) = absurd (omega (arith, within))
 
 line_drawn : (sub : ℕ) (before : List LineRecord) (line : LineRecord) (n : ℕ) (stop : Stop) → Contains (held_by sub line) (n, stop) → Contains (drawn (entries_of_line sub before line)) n
-line_drawn sub before (Vector s m) n stop has = empty (n, stop) has
-line_drawn sub before (Withheld s m cause) n stop has = by (s == sub) has
-  where
-    by : (b : Bool) → Has (if b then (m, cause) ∷ [] else []) n stop → Contains (drawn (if b then Drawn m ∷ [] else [])) n
-    by true has = only m n cause stop has
-    by false has = empty (n, stop) has
-line_drawn sub before (Exhausted s word) n stop has = empty (n, stop) has
-line_drawn sub before (Sync s answer) n stop has = empty (n, stop) has
-line_drawn sub before (Give s m answer) n stop has = empty (n, stop) has
-line_drawn sub before (Further said) n stop has = empty (n, stop) has
-line_drawn sub before (Happening r) n stop has =
-    let resync = entries_of_resync sub before (resync_for sub r) in
-    subst (λ (ns : List ℕ). Contains ns n) (sym (flat_map-append drawn_by resync (entries_of_number sub before (number_for sub r))))
-    (Contains-append_right (drawn resync) (drawn (entries_of_number sub before (number_for sub r))) n (by (number_for sub r) has))
+line_drawn sub before line n stop has =
+    let front = entries_of_resync sub before (resync_by sub line) in
+    let back = entries_of_number sub before (number_by sub line) in
+    subst (λ (ns : List ℕ). Contains ns n) (sym (flat_map-append drawn_by front back)) (Contains-append_right (drawn front) (drawn back) n (by (number_by sub line) has))
   where
     by : (note : Option NumberNote) → Contains (withheld_noted note) (n, stop) → Contains (drawn (entries_of_number sub before note)) n
     by None has = empty (n, stop) has

@@ -8,7 +8,7 @@ use Rattle.auc_5g.specs.declared.device_keys.DeviceKeys.{DeviceKeys}
 use Rattle.auc_5g.specs.declared.home_keys.HomeKeys.{HomeKeys}
 use Rattle.auc_5g.specs.declared.judging.Judged.{Judged}
 use Rattle.auc_5g.specs.declared.judging.Judged.TheVariants as judged
-use Rattle.auc_edge.specs.declared.stop.Stop.{Stop}
+use Rattle.auc_memory.specs.declared.stop.Stop.{Stop}
 use Rattle.auc_history.specs.declared.entry.Entry.{Entry}
 use Rattle.auc_lines.specs.declared.part.FivegLine.{FivegLine}
 use Rattle.auc_random.specs.Random.{rand_of}
@@ -26,7 +26,8 @@ use Rattle.auc_record.specs.declared.further.Further.TheVariants as further
 use Rattle.auc_record.specs.declared.record.GiveVerdict.{GiveVerdict}
 use Rattle.auc_record.specs.declared.record.GiveVerdict.TheVariants as given
 use Rattle.auc_record.specs.declared.record.LineRecord.{LineRecord}
-use Rattle.auc_record.specs.declared.record.LineRecord.TheVariants.{Vector, Further}
+use Rattle.auc_record.specs.declared.record.LineRecord.TheVariants.{Number, Further}
+use Rattle.auc_vector.specs.declared.notes.NumberNote.TheVariants as number
 use Rattle.auc_jobs.specs.declared.giving.UsimAnswer.{UsimAnswer}
 use Rattle.auc_jobs.specs.declared.giving.UsimAnswer.TheVariants as answered
 use Rattle.auc_jobs.specs.declared.giving.UsimKeys.{UsimKeys}
@@ -73,11 +74,11 @@ eps_ends set sub snid lines next = next_ends set sub (λ m more. more ≡ map (k
 pub fiveg_then : (set : Setting) (before : Before) (line : FivegLine) (n : ℕ) (front rest : List LineRecord) → IsNext set line.sub (Some n) front
     → FivegFollows set (behind before front) line n rest → FivegGives set before line (front ++ rest)
 fiveg_then set before line n front rest next follows =
-    next_then set line.sub n (λ m more. FivegFollows set (behind before (Vector line.sub m ∷ [])) line m more) front rest next
+    next_then set line.sub n (λ m more. FivegFollows set (behind before (Number line.sub (number.Drew m) ∷ [])) line m more) front rest next
     (subst (λ (lines : List LineRecord). FivegFollows set (behind before lines) line n rest) next.0 follows)
 
 pub fiveg_ends : (set : Setting) (before : Before) (line : FivegLine) (lines : List LineRecord) → IsNext set line.sub None lines → FivegGives set before line lines
-fiveg_ends set before line lines next = next_ends set line.sub (λ m more. FivegFollows set (behind before (Vector line.sub m ∷ [])) line m more) lines next
+fiveg_ends set before line lines next = next_ends set line.sub (λ m more. FivegFollows set (behind before (Number line.sub (number.Drew m) ∷ [])) line m more) lines next
 
 -- a vector of a row whose separation bit is set, or isn't
 separated : (set : Setting) (before : Before) (line : FivegLine) (n : ℕ) (lines : List LineRecord) (made : AuthVector) (bit : Bool) (of_row : IsOfRow set.key set.rows line.sub n made)

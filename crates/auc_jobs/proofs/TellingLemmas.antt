@@ -6,7 +6,7 @@ use Rattle.std.proofs.lemmas.Grind.{flat_map-append}
 use Rattle.std.proofs.lemmas.List.Elements.{All-append, All-cons, All-contains_itself, All-head, All-nil, All-tail, Contains-append_left, Contains-append_right}
 use Rattle.auc_centre.specs.Adds.{IsTold}
 use Rattle.auc_draw.specs.declared.rule.Deed.{Deed}
-use Rattle.auc_edge.specs.declared.stop.Stop.{Stop}
+use Rattle.auc_memory.specs.declared.stop.Stop.{Stop}
 use Rattle.auc_history.specs.declared.entry.Entry.{Entry}
 use Rattle.auc_history.specs.declared.entry.Entry.TheVariants.{Drawn, Moved as moved, Look}
 use Rattle.auc_history.specs.History.{IsBefore, IsInOrder, drawn, drawn_by}
@@ -17,22 +17,23 @@ use Rattle.auc_lines.specs.declared.part.Line.TheVariants as asked
 use Rattle.auc_subs.specs.Subscriber.{top_at}
 use Rattle.auc_subs.specs.declared.row.Row.{Row}
 use Rattle.auc_record.specs.declared.record.LineRecord.{LineRecord}
-use Rattle.auc_record.specs.declared.record.LineRecord.TheVariants.{Vector, Withheld, Exhausted, Sync, Give, Further, Event as Happening}
+use Rattle.auc_record.specs.declared.record.LineRecord.TheVariants.{Number, Sync, Give, Further, Event as Happening}
 use Rattle.auc_lines.specs.Part.{is_that}
 use Rattle.auc_vector.specs.Notes.{withheld_noted}
 use Rattle.auc_vector.specs.declared.notes.NumberNote.{NumberNote}
 use Rattle.auc_vector.specs.declared.notes.NumberNote.TheVariants as number
 use Rattle.auc_record.specs.declared.event.Event.TheVariants as event
-use Rattle.auc_record.specs.Event.{asked_in, number_for, number_in, number_released, number_withheld, resync_for}
+use Rattle.auc_record.specs.Event.{asked_in, number_released, number_withheld}
 use Rattle.auc_world.specs.Net.{Net}
 use Rattle.auc_record.specs.Entries.{entries_of_line, entries_of_lines, entries_of_number, entries_of_resync}
 use Rattle.auc_world.specs.Given.{Before, LineGives, JobGives, behind}
-use Rattle.auc_record.specs.Lines.{released_by, numbers_of, withheld_by, withheld_of, held_by, held_of}
+use Rattle.auc_record.specs.Lines.{number_by, number_said, released_by, resync_by, numbers_of, withheld_by, withheld_of, held_by, held_of}
+use Rattle.auc_record.specs.Vectors.{IsReleasableLine}
 use Rattle.auc_subs.specs.Setting.{Setting}
 use Rattle.auc_record.proofs.Facts.{withheld_of-held_of}
 use Rattle.auc_jobs.specs.declared.claiming.ClaimedJob.{ClaimedJob}
 use Rattle.auc_jobs.specs.Serving.{IsKnownLine, AreKnown}
-use Rattle.auc_jobs.proofs.EventLemmas.{IsOwnEvent, IsOwnNumber, event_lines, plain_lines}
+use Rattle.auc_jobs.proofs.EventLemmas.{IsOwnAnswer, IsOwnNumber, event_lines, plain_lines}
 use Rattle.auc_jobs.proofs.RequestLemmas.{AreSo, draw_lines, eps_lines, fiveg_lines, give_lines, sim_lines, sites_lines, sync_lines}
 
 -- ---- what a pass did stays
@@ -54,26 +55,39 @@ all_last front back whole is = λ k d within.
 
 -- ---- what the lines of a job name
 
--- a line names the subscriber of a row, and the number of a vector is one of the subscriber's
+-- the subscriber for whom a line asked the centre for a number, if it did
+abbrev pub asked_by : LineRecord → Option ℕ
+asked_by (Number s note) = Some s
+asked_by (Sync s note) = None
+asked_by (Give s n answer) = None
+asked_by (Further said) = None
+asked_by (Happening r) = asked_in r.result
+
+-- what the centre answered for a subscriber is what it answered, if it was asked for that one
+pub number_by_is : (sub : ℕ) (line : LineRecord) → number_by sub line ≡ (if is_that sub (asked_by line) then number_said line else None)
+number_by_is sub (Number s note) = refl
+number_by_is sub (Sync s note) = refl
+number_by_is sub (Give s n answer) = refl
+number_by_is sub (Further said) = refl
+number_by_is sub (Happening r) = refl
+
+-- a line that asked for a number names the subscriber of a row, and a number that was released is one of the subscriber's
 abbrev pub IsOwn : List Row → LineRecord → Type 0
-IsOwn rows (Vector s n) = (s < length rows) × (n ≤ top_at rows s)
-IsOwn rows (Withheld s n stop) = s < length rows
-IsOwn rows (Exhausted s word) = Unit {0}
-IsOwn rows (Sync s answer) = Unit {0}
-IsOwn rows (Give s n answer) = Unit {0}
-IsOwn rows (Further said) = Unit {0}
-IsOwn rows (Happening r) = IsOwnEvent rows (asked_in r.result) (number_in r.result)
+IsOwn rows line = IsOwnAnswer rows (asked_by line) (number_said line)
 
 -- the lines of a subscriber's requests
 requests_own : (set : Setting) (sub : ℕ) → sub < length set.rows → AreSo set sub (IsOwn set.rows)
 requests_own set sub known = record {
-  vector = λ n is. (known, is.last);
-  withheld = λ n stop. known;
-  exhausted = λ word. tt;
-  sync = λ answer. tt;
-  give = λ n answer. tt;
-  further = λ said. tt;
+  number = λ note is. (known, of_number note is);
+  sync = λ note. refl;
+  give = λ n answer. refl;
+  further = λ said. refl;
 }
+  where
+    of_number : (note : NumberNote) → IsReleasableLine set (Number sub note) → IsOwnNumber (top_at set.rows sub) (Some note)
+    of_number (number.Drew n) is = (is.first, is.last)
+    of_number (number.Exhausted word) is = tt
+    of_number (number.Withheld n stop) is = tt
 
 -- those of a line
 line_own : (set : Setting) (before : Before) (net next : Net) (line : Line) (lines : List LineRecord) → IsKnownLine set.rows line → LineGives set before net line lines next → All (IsOwn set.rows) lines
@@ -115,10 +129,6 @@ numbers_within rows sub (line ∷ lines) own =
     moved : (s n : ℕ) → (s == sub) ≡ true → n ≤ top_at rows s → n ≤ top_at rows sub
     moved s n same low = subst (λ (k : ℕ). n ≤ top_at rows k) (eqb-true s sub same) low
 
-    by : (b : Bool) (s n : ℕ) → (s == sub) ≡ b → n ≤ top_at rows s → All (IsWithin rows sub) (if b then n ∷ [] else [])
-    by true s n same low = All-cons (IsWithin rows sub) n [] (moved s n same low) (All-nil (IsWithin rows sub))
-    by false s n same low = All-nil (IsWithin rows sub)
-
     of_number : (b : Bool) (s : ℕ) (o : Option NumberNote) → (s == sub) ≡ b → IsOwnNumber (top_at rows s) o → All (IsWithin rows sub) (number_released (if b then o else None))
     of_number false s o same is = All-nil (IsWithin rows sub)
     of_number true s None same is = All-nil (IsWithin rows sub)
@@ -126,18 +136,12 @@ numbers_within rows sub (line ∷ lines) own =
     of_number true s (Some (number.Exhausted word)) same is = All-nil (IsWithin rows sub)
     of_number true s (Some (number.Withheld n stop)) same is = All-nil (IsWithin rows sub)
 
-    of_event : (a : Option ℕ) (o : Option NumberNote) → IsOwnEvent rows a o → All (IsWithin rows sub) (number_released (if is_that sub a then o else None))
-    of_event None o is = All-nil (IsWithin rows sub)
-    of_event (Some s) o is = of_number (s == sub) s o refl is.1
+    of_answer : (a : Option ℕ) (o : Option NumberNote) → IsOwnAnswer rows a o → All (IsWithin rows sub) (number_released (if is_that sub a then o else None))
+    of_answer None o is = All-nil (IsWithin rows sub)
+    of_answer (Some s) o is = of_number (s == sub) s o refl is.1
 
     here : (line : LineRecord) → IsOwn rows line → All (IsWithin rows sub) (released_by sub line)
-    here (Vector s n) is = by (s == sub) s n refl is.1
-    here (Withheld s n stop) is = All-nil (IsWithin rows sub)
-    here (Exhausted s word) is = All-nil (IsWithin rows sub)
-    here (Sync s answer) is = All-nil (IsWithin rows sub)
-    here (Give s n answer) is = All-nil (IsWithin rows sub)
-    here (Further said) is = All-nil (IsWithin rows sub)
-    here (Happening r) is = of_event (asked_in r.result) (number_in r.result) is
+    here line is = subst (λ (o : Option NumberNote). All (IsWithin rows sub) (number_released o)) (sym (number_by_is sub line)) (of_answer (asked_by line) (number_said line) is)
 
 -- nothing is withheld from a subscriber beyond them
 pub held_beyond : (rows : List Row) (sub : ℕ) (lines : List LineRecord) → length rows ≤ sub → All (IsOwn rows) lines → held_of sub lines ≡ []
@@ -145,18 +149,12 @@ held_beyond rows sub [] high own = refl
 held_beyond rows sub (line ∷ lines) high own =
     ap (λ (hs : List (ℕ × Stop)). hs ++ held_of sub lines) (here line (All-head (IsOwn rows) line lines own)) ∙ held_beyond rows sub lines high (All-tail (IsOwn rows) line lines own)
   where
-    of_event : (a : Option ℕ) (o : Option NumberNote) → IsOwnEvent rows a o → withheld_noted (if is_that sub a then o else None) ≡ []
-    of_event None o is = refl
-    of_event (Some s) o is = rw (ne_eqb s sub (λ e. omega (arith, e, is.0, high))) refl
+    of_answer : (a : Option ℕ) (o : Option NumberNote) → IsOwnAnswer rows a o → withheld_noted (if is_that sub a then o else None) ≡ []
+    of_answer None o is = refl
+    of_answer (Some s) o is = rw (ne_eqb s sub (λ e. omega (arith, e, is.0, high))) refl
 
     here : (line : LineRecord) → IsOwn rows line → held_by sub line ≡ []
-    here (Vector s n) is = refl
-    here (Withheld s n stop) is = rw (ne_eqb s sub (λ e. omega (arith, e, is, high))) refl
-    here (Exhausted s word) is = refl
-    here (Sync s answer) is = refl
-    here (Give s n answer) is = refl
-    here (Further said) is = refl
-    here (Happening r) is = of_event (asked_in r.result) (number_in r.result) is
+    here line is = ap withheld_noted (number_by_is sub line) ∙ of_answer (asked_by line) (number_said line) is
 
 -- ---- no number is drawn twice
 
@@ -193,24 +191,11 @@ drawn_once n (Look seen ∷ entries) ordered = drawn_once n entries (AllPairs-ta
 -- what a line releases or withholds, it drew
 told_line : (n sub : ℕ) (before : List LineRecord) (line : LineRecord)
     → times n (released_by sub line) + times n (withheld_by sub line) ≤ times n (drawn (entries_of_line sub before line))
-told_line n sub before (Vector s m) = by (s == sub)
-  where
-    by : (b : Bool) → times n (if b then m ∷ [] else []) + times n [] ≤ times n (drawn (if b then Drawn m ∷ [] else []))
-    by true = omega arith
-    by false = omega arith
-told_line n sub before (Withheld s m stop) = by (s == sub)
-  where
-    by : (b : Bool) → times n [] + times n (if b then m ∷ [] else []) ≤ times n (drawn (if b then Drawn m ∷ [] else []))
-    by true = omega arith
-    by false = omega arith
-told_line n sub before (Exhausted s word) = omega arith
-told_line n sub before (Sync s answer) = omega arith
-told_line n sub before (Give s m answer) = omega arith
-told_line n sub before (Further said) = omega arith
-told_line n sub before (Happening r) =
-    let cut = ap (times n) (flat_map-append drawn_by (entries_of_resync sub before (resync_for sub r)) (entries_of_number sub before (number_for sub r)))
-    ∙ times-append n (drawn (entries_of_resync sub before (resync_for sub r))) (drawn (entries_of_number sub before (number_for sub r))) in
-    let here = by (number_for sub r) in omega (arith, cut, here)
+told_line n sub before line =
+    let front = entries_of_resync sub before (resync_by sub line) in
+    let back = entries_of_number sub before (number_by sub line) in
+    let cut = ap (times n) (flat_map-append drawn_by front back) ∙ times-append n (drawn front) (drawn back) in
+    let here = by (number_by sub line) in omega (arith, cut, here)
   where
     by : (o : Option NumberNote) → times n (number_released o) + times n (number_withheld o) ≤ times n (drawn (entries_of_number sub before o))
     by None = omega arith
@@ -232,26 +217,15 @@ told_lines n sub before (line ∷ lines) =
 
 -- each released number was drawn
 drew_line : (sub : ℕ) (before : List LineRecord) (line : LineRecord) → All (Contains (drawn (entries_of_line sub before line))) (released_by sub line)
-drew_line sub before (Vector s m) = by (s == sub)
+drew_line sub before line = by (entries_of_resync sub before (resync_by sub line)) (number_by sub line)
   where
-    by : (b : Bool) → All (Contains (drawn (if b then Drawn m ∷ [] else []))) (if b then m ∷ [] else [])
-    by true = All-contains_itself (m ∷ [])
-    by false = All-nil (Contains [])
-drew_line sub before (Withheld s m stop) = All-nil (Contains (drawn (entries_of_line sub before (Withheld s m stop))))
-drew_line sub before (Exhausted s word) = All-nil (Contains (drawn (entries_of_line sub before (Exhausted s word))))
-drew_line sub before (Sync s answer) = All-nil (Contains (drawn (entries_of_line sub before (Sync s answer))))
-drew_line sub before (Give s m answer) = All-nil (Contains (drawn (entries_of_line sub before (Give s m answer))))
-drew_line sub before (Further said) = All-nil (Contains (drawn (entries_of_line sub before (Further said))))
-drew_line sub before (Happening r) = by (number_for sub r)
-  where
-    by : (o : Option NumberNote) → All (Contains (drawn (entries_of_resync sub before (resync_for sub r) ++ entries_of_number sub before o))) (number_released o)
-    by None = All-nil (Contains (drawn (entries_of_resync sub before (resync_for sub r) ++ [])))
-    by (Some (number.Drew m)) =
-        let es = entries_of_resync sub before (resync_for sub r) in
-        subst (λ (ns : List ℕ). All (Contains ns) (m ∷ [])) (sym (flat_map-append drawn_by es (Drawn m ∷ [])))
-        (λ k d within. Contains-append_right (drawn es) (m ∷ []) (get_or (m ∷ []) k d) (All-contains_itself (m ∷ []) k d within))
-    by (Some (number.Exhausted word)) = All-nil (Contains (drawn (entries_of_resync sub before (resync_for sub r) ++ entries_of_number sub before (Some (number.Exhausted word)))))
-    by (Some (number.Withheld m stop)) = All-nil (Contains (drawn (entries_of_resync sub before (resync_for sub r) ++ entries_of_number sub before (Some (number.Withheld m stop)))))
+    by : (front : List Entry) (o : Option NumberNote) → All (Contains (drawn (front ++ entries_of_number sub before o))) (number_released o)
+    by front None = All-nil (Contains (drawn (front ++ [])))
+    by front (Some (number.Drew m)) =
+        subst (λ (ns : List ℕ). All (Contains ns) (m ∷ [])) (sym (flat_map-append drawn_by front (Drawn m ∷ [])))
+        (λ k d within. Contains-append_right (drawn front) (m ∷ []) (get_or (m ∷ []) k d) (All-contains_itself (m ∷ []) k d within))
+    by front (Some (number.Exhausted word)) = All-nil (Contains (drawn (front ++ entries_of_number sub before (Some (number.Exhausted word)))))
+    by front (Some (number.Withheld m stop)) = All-nil (Contains (drawn (front ++ entries_of_number sub before (Some (number.Withheld m stop)))))
 
 drew_lines : (sub : ℕ) (before lines : List LineRecord) → All (Contains (drawn (entries_of_lines sub before lines))) (numbers_of sub lines)
 drew_lines sub before [] = All-nil (Contains [])

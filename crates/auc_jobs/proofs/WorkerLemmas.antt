@@ -5,7 +5,7 @@ use Rattle.std.proofs.lemmas.List.Elements.{All-head, All-map, All-nil, All-tail
 use Rattle.std.proofs.lemmas.List.{map-append}
 use Rattle.auc_cards.proofs.Facts.{devices_found, helds_known, holds_held}
 use Rattle.auc_cards.specs.Devices.{OwnDevices, device_of, job_devices, usim_among, usim_in}
-use Rattle.auc_edge.specs.declared.stop.Stop.{Stop}
+use Rattle.auc_memory.specs.declared.stop.Stop.{Stop}
 use Rattle.auc_history.specs.declared.entry.Entry.{Entry}
 use Rattle.auc_lines.specs.declared.part.Line.{Line}
 use Rattle.auc_lines.specs.Part.{held_subs, holds}

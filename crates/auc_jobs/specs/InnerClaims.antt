@@ -6,7 +6,7 @@ use Rattle.auc_centre.specs.Adds.{kept_by}
 use Rattle.auc_draw.specs.Book.{IsOf}
 use Rattle.auc_draw.specs.Deeds.{entries_of, claims_of, released_of, held_of as pass_held}
 use Rattle.auc_draw.specs.Values.{BookValue, KeeperValue, PassValue}
-use Rattle.auc_edge.specs.declared.stop.Stop.{Stop}
+use Rattle.auc_memory.specs.declared.stop.Stop.{Stop}
 use Rattle.auc_history.specs.declared.entry.Entry.{Entry}
 use Rattle.auc_history.specs.History.{IsInOrder}
 use Rattle.auc_lines.specs.declared.part.Line.{Line}

@@ -4,10 +4,10 @@ use Rattle.std.specs.Prelude.{◌≡◌, ◌≢◌, ◌↔◌, ℕ, ◌+◌, ◌
 use Rattle.std.specs.List.{list_any}
 use Rattle.atomic_table.specs.Seated.{TableId}
 use Rattle.auc_draw.specs.Values.{KeeperValue}
-use Rattle.auc_edge.specs.Faults.{Rose}
-use Rattle.auc_edge.specs.Identity.{Identity}
-use Rattle.auc_edge.specs.declared.stop.Stop.{Stop}
-use Rattle.auc_edge.specs.declared.stop.Stop.TheVariants.{Fault, Full}
+use Rattle.auc_memory.specs.Faults.{Rose}
+use Rattle.auc_memory.specs.Identity.{Identity}
+use Rattle.auc_memory.specs.declared.stop.Stop.{Stop}
+use Rattle.auc_memory.specs.declared.stop.Stop.TheVariants.{Fault, Full}
 use Rattle.auc_journal.specs.Durable.{IsDurable, IsTold}
 use Rattle.auc_journal.specs.Image.{reserved_in}
 use Rattle.auc_journal.specs.Journal.{JournalState, limits_of}
@@ -15,9 +15,8 @@ use Rattle.auc_journal.specs.Settled.{LeavesOnly}
 use Rattle.auc_keeper.specs.Keeper.{IsAbove, IsLeft}
 use Rattle.auc_vector.specs.declared.notes.NumberNote.{NumberNote}
 use Rattle.auc_vector.specs.declared.notes.NumberNote.TheVariants as number
-use Rattle.auc_record.specs.Event.{number_in}
+use Rattle.auc_record.specs.Lines.{number_said}
 use Rattle.auc_record.specs.declared.record.LineRecord.{LineRecord}
-use Rattle.auc_record.specs.declared.record.LineRecord.TheVariants.{Vector, Withheld, Exhausted, Sync, Give, Further, Event}
 
 -- a keeper can begin a round: its pass is of the round's table, and the limits of its pass are the journal's
 pub record CanKeep {D : Type 0} (table : TableId) (passes : ℕ) (opening : Option (JournalState D)) (journal : JournalState D) (pass : KeeperValue) : Type 0 where
@@ -54,13 +53,7 @@ is_withheld (Some (number.Withheld n stop)) = true
 
 -- whether a line does
 abbrev pub withholds : LineRecord → Bool
-withholds (Vector s n) = false
-withholds (Withheld s n stop) = true
-withholds (Exhausted s word) = false
-withholds (Sync s answer) = false
-withholds (Give s n answer) = false
-withholds (Further said) = false
-withholds (Event r) = is_withheld (number_in r.result)
+withholds line = is_withheld (number_said line)
 
 -- why reservations ended in a round whose keeper stopped so, as its lines tell it: that the journal is full is told only if
 -- a number was withheld

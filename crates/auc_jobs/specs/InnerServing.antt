@@ -1,15 +1,14 @@
 -- Inner facts: what only private contracts of this crate cite. Here: what the lines of a round add, and what stands after them.
 use Rattle.std.specs.Prelude.{◌≡◌, ℕ, ◌≤◌, Bool, true, false, List, [], ◌∷◌, ◌++◌, Option, Some, None, slice_get}
-use Rattle.auc_edge.specs.declared.stop.Stop.{Stop}
+use Rattle.auc_memory.specs.declared.stop.Stop.{Stop}
 use Rattle.auc_history.specs.declared.entry.Entry.{Entry}
 use Rattle.auc_lines.specs.declared.part.Line.{Line}
 use Rattle.auc_lines.specs.declared.part.Report.{Report}
-use Rattle.auc_subs.specs.Subscriber.{top_at}
 use Rattle.auc_subs.specs.declared.row.Row.{Row}
 use Rattle.auc_vector.specs.declared.auts.Auts.{Auts}
 use Rattle.auc_vector.specs.declared.auts.Auts.TheVariants as read
-use Rattle.auc_record.specs.declared.record.SyncVerdict.{SyncVerdict}
-use Rattle.auc_record.specs.declared.record.SyncVerdict.TheVariants as verdict
+use Rattle.auc_vector.specs.declared.notes.ResyncNote.{ResyncNote}
+use Rattle.auc_vector.specs.declared.notes.ResyncNote.TheVariants as resync
 use Rattle.auc_record.specs.Entries.{is_reported, entries_of_line, entries_of_lines}
 use Rattle.auc_world.specs.Given.{Before, EventGives, IsGiven, is_released, packet_of, past_before, GiveGives, JobGives, said_by}
 use Rattle.auc_record.specs.Draws.{IsReleasable, OneGives}
@@ -20,7 +19,9 @@ use Rattle.auc_usim.specs.Usim.{Memory}
 use Rattle.auc_record.specs.declared.event.Event.{Event as EventOf}
 use Rattle.auc_record.specs.declared.record.GiveVerdict.{GiveVerdict}
 use Rattle.auc_record.specs.declared.record.LineRecord.{LineRecord}
-use Rattle.auc_record.specs.declared.record.LineRecord.TheVariants.{Vector, Withheld, Exhausted, Sync, Give, Further, Event}
+use Rattle.auc_record.specs.declared.record.LineRecord.TheVariants.{Number, Give}
+use Rattle.auc_vector.specs.declared.notes.NumberNote.{NumberNote}
+use Rattle.auc_vector.specs.declared.notes.NumberNote.TheVariants as number
 use Rattle.auc_record.specs.Released.{Released, AreReleased}
 use Rattle.auc_jobs.specs.Numbers.{AreNumbers}
 use Rattle.auc_jobs.specs.Usims.{AreBehind}
@@ -48,32 +49,18 @@ pub record Say (goes : ℕ → List Entry → List (ℕ × Stop) → Type 0) (ke
   pub made : (sub : ℕ) → goes sub (entries_of_lines sub before lines) (held_of sub lines)
   pub told : AreTold kept (before ++ lines)
 
--- ---- a drawn line
+-- ---- a number that was asked for
 
--- a line is what one draw of a subscriber comes to
-abbrev pub IsDrawn : Setting → ℕ → LineRecord → Type 0
-IsDrawn set sub (Vector s n) = (s ≡ sub) × IsReleasable set sub n
-IsDrawn set sub (Withheld s n stop) = (s ≡ sub) × (1 ≤ n) × (n ≤ top_at set.rows sub)
-IsDrawn set sub (Exhausted s word) = (s ≡ sub) × (top_at set.rows sub ≤ word)
-IsDrawn set sub (Sync s answer) = ⊥
-IsDrawn set sub (Give s n answer) = ⊥
-IsDrawn set sub (Further said) = ⊥
-IsDrawn set sub (Event r) = ⊥
-
--- the number of a line, if it is a vector
-abbrev pub vector_number : LineRecord → Option ℕ
-vector_number (Vector s n) = Some n
-vector_number (Withheld s n stop) = None
-vector_number (Exhausted s word) = None
-vector_number (Sync s answer) = None
-vector_number (Give s n answer) = None
-vector_number (Further said) = None
-vector_number (Event r) = None
+-- the number that was drawn and released
+abbrev pub number_drawn : NumberNote → Option ℕ
+number_drawn (number.Drew n) = Some n
+number_drawn (number.Exhausted word) = None
+number_drawn (number.Withheld n stop) = None
 
 -- what a request for a vector of a subscriber adds: the vector of a number, or what ends the request
 abbrev pub IsNext : Setting → ℕ → Option ℕ → List LineRecord → Type 0
 IsNext set sub None lines = OneGives set sub (λ n rest. ⊥) lines
-IsNext set sub (Some n) lines = (lines ≡ Vector sub n ∷ []) × IsReleasable set sub n
+IsNext set sub (Some n) lines = (lines ≡ Number sub (number.Drew n) ∷ []) × IsReleasable set sub n
 
 -- ---- a resynchronisation
 
@@ -88,12 +75,12 @@ abbrev pub IsSeqWithin : ℕ → Auts → Type 0
 IsSeqWithin top (read.SeqMs seq_ms) = seq_ms ≤ top
 IsSeqWithin top read.WrongMac = Unit {0}
 
--- whether vectors follow a verdict
-abbrev pub is_accepted_next : SyncVerdict → Bool
-is_accepted_next (verdict.Moved from to) = true
-is_accepted_next (verdict.InRange seen seq_ms) = true
-is_accepted_next (verdict.Beyond seen seq_ms) = false
-is_accepted_next verdict.WrongMac = false
+-- whether vectors follow a resynchronisation
+abbrev pub is_accepted_next : ResyncNote → Bool
+is_accepted_next (resync.Moved from to) = true
+is_accepted_next (resync.InRange seen seq_ms) = true
+is_accepted_next (resync.Beyond seen seq_ms) = false
+is_accepted_next resync.BadAuts = false
 
 -- ---- what holds, and what is added
 

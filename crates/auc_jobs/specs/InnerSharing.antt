@@ -3,7 +3,7 @@
 use Rattle.std.specs.Prelude.{◌≡◌, ℕ, Bool, List, [], length, Option, Some, slice_get, if◌then◌else◌}
 use Rattle.atomic_table.specs.Seated.{TableId}
 use Rattle.auc_draw.specs.Values.{BookValue}
-use Rattle.auc_edge.specs.declared.stop.Stop.{Stop}
+use Rattle.auc_memory.specs.declared.stop.Stop.{Stop}
 use Rattle.auc_history.specs.declared.entry.Entry.{Entry}
 use Rattle.auc_lines.specs.declared.part.Line.{Line}
 use Rattle.auc_subs.specs.Subscriber.{tops_of}

@@ -1,6 +1,6 @@
 -- Inner facts: what only private contracts of this crate cite. Here: the events of a line for sites, and where they lead.
 use Rattle.std.specs.Prelude.{◌≡◌, ℕ, ◌+◌, List, length, slice_get, Option, Result, Ok, Err}
-use Rattle.auc_edge.specs.declared.stop.Stop.{Stop}
+use Rattle.auc_memory.specs.declared.stop.Stop.{Stop}
 use Rattle.auc_history.specs.declared.entry.Entry.{Entry}
 use Rattle.auc_lines.specs.Sites.{SitesValue}
 use Rattle.auc_lines.specs.declared.sites.SiteEvent.{SiteEvent}

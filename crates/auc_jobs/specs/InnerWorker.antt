@@ -1,6 +1,6 @@
 -- Inner facts: what only private contracts of this crate cite. Here: a worker, and what its calls add to a job.
 use Rattle.std.specs.Prelude.{◌≡◌, ℕ, ◌<◌, List, length, All, Option, Some}
-use Rattle.auc_edge.specs.declared.stop.Stop.{Stop}
+use Rattle.auc_memory.specs.declared.stop.Stop.{Stop}
 use Rattle.auc_history.specs.declared.entry.Entry.{Entry}
 use Rattle.auc_lines.specs.declared.part.Line.{Line}
 use Rattle.auc_subs.specs.Subscriber.{AreSubscribers, top_at}

@@ -1,8 +1,8 @@
 -- A round that is served with a journal.
 use Rattle.std.specs.Prelude.{◌≡◌, ◌≢◌, ℕ, ◌<◌, ◌≤◌, false, List, All, AllPairs, Contains, length, map, slice_get, Option, Some}
-use Rattle.auc_edge.specs.Identity.{Identity}
-use Rattle.auc_edge.specs.declared.stop.Stop.{Stop}
-use Rattle.auc_edge.specs.declared.stop.Stop.TheVariants.{Full}
+use Rattle.auc_memory.specs.Identity.{Identity}
+use Rattle.auc_memory.specs.declared.stop.Stop.{Stop}
+use Rattle.auc_memory.specs.declared.stop.Stop.TheVariants.{Full}
 use Rattle.auc_history.specs.History.{drawn}
 use Rattle.auc_journal.specs.Durable.{IsDurable, IsTold}
 use Rattle.auc_journal.specs.Image.{reserved_in}

@@ -13,7 +13,8 @@ use crate::round_jobs::RoundJobs;
 use auc_centre::{Desk, Naming, RoundKeeper};
 use auc_disk::Disk;
 use auc_draw::{Book, Pass};
-use auc_edge::{Gate, NoMemory};
+use auc_edge::Gate;
+use auc_memory::NoMemory;
 use std::alloc::Global;
 use std::sync::{Mutex, Wait};
 

@@ -12,8 +12,8 @@ ghost use Rattle.auc_jobs.specs.InnerServing.{Happens};
 ghost use Rattle.auc_jobs.specs.InnerWorker.{AreForRows, GoesOnWith, WorkerServes};
 
 use crate::worker::Worker;
-use auc_edge::NoMemory;
 use auc_lines::{End, SessionLine};
+use auc_memory::NoMemory;
 use auc_vector::Centre;
 use auc_world::{
     BoxedEvent, Event, EventRecord, LineRecord, Note, WorldRefusal, each_plain_session_ends,

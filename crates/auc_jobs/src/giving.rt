@@ -16,7 +16,7 @@ ghost use Rattle.auc_jobs.specs.Usims.{AreBehind, HaveSecrets};
 
 use crate::job_lines::JobLines;
 use crate::worker::Worker;
-use auc_edge::NoMemory;
+use auc_memory::NoMemory;
 use auc_released::Numbers;
 use auc_sqn::top;
 use auc_usim::Answer;

@@ -12,8 +12,8 @@ ghost use Rattle.auc_jobs.specs.Usims.{AreOfRows};
 
 use crate::worker::Worker;
 use auc_cards::{Cards, JobDevices};
-use auc_edge::{Items, NoMemory};
 use auc_lines::Line;
+use auc_memory::{Items, NoMemory};
 use auc_vector::Centre;
 use auc_world::{Event, JobRecord, JobSessions, JobVectors, Setting, World, printed_vectors};
 use std::alloc::Global;

@@ -9,10 +9,10 @@ ghost use Rattle.auc_jobs.specs.InnerPreparing.{AreReservable, is_asked, job_ask
 
 use auc_disk::Disk;
 use auc_draw::Book;
-use auc_edge::{Items, NoMemory};
 use auc_journal::Journal;
 use auc_keeper::{Keeper, Prepared};
 use auc_lines::{JobPart, Line};
+use auc_memory::{Items, NoMemory};
 use auc_sqn::MAX_SEQ;
 use std::alloc::Global;
 

@@ -1,8 +1,8 @@
 //! Serving a round.
 
 ghost use Rattle.std.specs.Prelude.{◌≡◌, ◌≢◌, ◌≤◌, ◌<◌, ◌^◌, ◌+◌, ◌++◌, ◌↔◌, [], ℕ, true, Some, List, All, map, IfOk, OnErr, if◌then◌else◌};
-ghost use Rattle.auc_edge.specs.Faults.{Rose};
-ghost use Rattle.auc_edge.specs.declared.stop.Stop.TheVariants.{Fault, Full};
+ghost use Rattle.auc_memory.specs.Faults.{Rose};
+ghost use Rattle.auc_memory.specs.declared.stop.Stop.TheVariants.{Fault, Full};
 ghost use Rattle.auc_sqn.specs.Number.{max_seq};
 ghost use Rattle.auc_record.specs.Lines.{all_lines};
 ghost use Rattle.auc_world.specs.Round.{Withholds};
@@ -17,9 +17,10 @@ use crate::round_jobs::RoundJobs;
 use crate::state::State;
 use crate::workers::{Pieces, RoundPieces, serve_pieces};
 use auc_disk::Disk;
-use auc_edge::{Gate, Items, NoMemory, Stop};
+use auc_edge::Gate;
 use auc_journal::Journal;
 use auc_lines::JobPart;
+use auc_memory::{Items, NoMemory, Stop};
 use auc_world::{
     Closing, JobVectors, Premise, RoundRecord, SessionVerdict, Setting, closings, counts,
     round_premise, round_verdicts,

@@ -9,7 +9,7 @@ use crate::jobs::{ServedJob, job_world, served_job};
 use crate::round::Round;
 use crate::state::State;
 use crate::worker::Worker;
-use auc_edge::NoMemory;
+use auc_memory::NoMemory;
 use auc_vector::Centre;
 use std::alloc::Global;
 use std::marker::Model;

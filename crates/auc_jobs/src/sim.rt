@@ -8,8 +8,8 @@ ghost use Rattle.auc_jobs.specs.InnerSim.{AreNotesOf, AreTripletsOf, IsNumber, s
 ghost use Rattle.auc_jobs.specs.InnerWorker.{GoesOnBeside, WorkerServes};
 
 use crate::worker::Worker;
-use auc_edge::{Items, NoMemory};
 use auc_lines::SimLine;
+use auc_memory::{Items, NoMemory};
 use auc_sim::{SimNote, Triplet, run_session, sim_identity, triplet};
 use auc_sites::Lease;
 use auc_vector::Centre;

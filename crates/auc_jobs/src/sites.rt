@@ -10,8 +10,8 @@ ghost use Rattle.auc_jobs.specs.InnerSites.{DeliveryDoes, DrawsIn, EventDoes, Gr
 ghost use Rattle.auc_jobs.specs.InnerWorker.{GoesOnBeside, WorkerServes};
 
 use crate::worker::Worker;
-use auc_edge::NoMemory;
 use auc_lines::{SiteEvent, SitesLine};
+use auc_memory::NoMemory;
 use auc_sites::{Delivery, Request, SiteNet, Taken};
 use auc_vector::Centre;
 use auc_world::{Further, SitesNote, SitesOutcome};

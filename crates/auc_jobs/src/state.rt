@@ -11,7 +11,7 @@ ghost use Rattle.auc_jobs.specs.InnerRound.{IsAdvanced};
 ghost use Rattle.auc_jobs.specs.State.{AcceptNothing, StandsAt};
 
 use auc_cards::{Cards, JobDevices};
-use auc_edge::NoMemory;
+use auc_memory::NoMemory;
 use auc_released::Numbers;
 use auc_subs::Subscribers;
 use auc_world::{JobRecord, note_all, reopened};

@@ -2,13 +2,12 @@
 
 ghost use Rattle.std.specs.Prelude.{◌≡◌, None, Some, if◌then◌else◌};
 ghost use Rattle.std.specs.List.{list_any};
-ghost use Rattle.auc_edge.specs.declared.stop.Stop.TheVariants.{Full};
-ghost use Rattle.auc_record.specs.Event.{number_in};
-ghost use Rattle.auc_jobs.specs.InnerKeeping.{is_withheld, told_stop, withholds};
+ghost use Rattle.auc_memory.specs.declared.stop.Stop.TheVariants.{Full};
+ghost use Rattle.auc_jobs.specs.InnerKeeping.{told_stop, withholds};
 
-use auc_edge::Stop;
+use auc_memory::Stop;
 use auc_vector::NumberNote;
-use auc_world::{EventRecord, JobRecord, LineRecord};
+use auc_world::{JobRecord, LineRecord};
 
 /// Why reservations ended in a round whose keeper stopped so. A journal without room for a frame is no matter for a round
 /// that withheld nothing.
@@ -46,23 +45,5 @@ fn job_withholds(job: &JobRecord) -> bool
 fn withholds(line: &LineRecord) -> bool
     ensures { result ≡ withholds line.now }
 {
-    match line {
-        LineRecord::Withheld { .. } => true,
-        LineRecord::Event(event) => is_withheld(event.record()),
-        LineRecord::Vector { .. }
-        | LineRecord::Exhausted { .. }
-        | LineRecord::Sync { .. }
-        | LineRecord::Give { .. }
-        | LineRecord::Further(_) => false,
-    }
-}
-
-/// Whether an event's number was withheld.
-fn is_withheld(event: &EventRecord) -> bool
-    ensures { result ≡ is_withheld (number_in event.now.result) }
-{
-    match &event.result {
-        Ok(note) => matches!(note.notes.number, Some(NumberNote::Withheld(..))),
-        Err(_) => false,
-    }
+    matches!(line.number_note(), Some(NumberNote::Withheld(..)))
 }

@@ -7,7 +7,7 @@ ghost use Rattle.auc_jobs.specs.Usims.{HaveSecrets};
 
 use crate::job_lines::JobLines;
 use crate::jobs::give_back;
-use auc_edge::NoMemory;
+use auc_memory::NoMemory;
 use auc_released::Numbers;
 use auc_vector::Centre;
 use auc_world::{JobRecord, Setting, World};

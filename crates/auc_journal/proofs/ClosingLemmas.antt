@@ -2,7 +2,7 @@
 use Rattle.std.proofs.Common.{◌≡◌, ◌⊎◌, inl, inr, ⊎_elim, ℕ, ◌+◌, ◌≤◌, List, [], ◌∷◌, ◌++◌, length, get_or, take, drop, Option, refl, sym, ◌∙◌, ap, subst, arith, length-append, length-drop, take-append-drop}
 use Rattle.std.specs.Prelude.{◌<◌, max, true, Result, Ok, Err}
 use Rattle.std.proofs.lemmas.List.{drop_more, drop-drop, length-take, take_at}
-use Rattle.auc_edge.specs.Identity.{Identity}
+use Rattle.auc_memory.specs.Identity.{Identity}
 use Rattle.auc_disk.specs.Disk.{put}
 use Rattle.auc_disk.proofs.Facts.{put-within}
 use Rattle.auc_journal.specs.Image.{Frame, Keeps, Reading, frames_in, header, is_body, most, read_image, reserved_by, reserved_in, size_in}

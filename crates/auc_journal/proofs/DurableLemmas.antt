@@ -1,7 +1,7 @@
 -- How an opening and an append keep what a crash may leave: for the journal.
 use Rattle.std.proofs.Common.{◌≡◌, inl, inr, ⊎_elim, ℕ, ◌+◌, ◌≤◌, List, [], ◌∷◌, ◌++◌, Option, Some, None, is_some, refl, sym, ◌∙◌, ap, subst, arith, true≢false}
 use Rattle.std.specs.Prelude.{Bool, true, false, max, if◌then◌else◌, Result, Ok, Err, OnOk}
-use Rattle.auc_edge.specs.Identity.{Identity}
+use Rattle.auc_memory.specs.Identity.{Identity}
 use Rattle.auc_disk.specs.Disk.{Puts}
 use Rattle.auc_journal.specs.Durable.{AdmitsAll, AreBetween, IsBetween, IsDurable, IsReady, IsTold}
 use Rattle.auc_journal.specs.Image.{Frame, Keeps, Reading, read_image, reserved_as, reserved_by, reserved_in, same_identity}

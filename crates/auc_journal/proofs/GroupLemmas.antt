@@ -4,7 +4,7 @@ use Rattle.std.proofs.Math.ListN.{length-map}
 use Rattle.std.proofs.Math.Seq.{take-suc}
 use Rattle.std.proofs.lemmas.List.{map-append, take_all}
 use Rattle.std.proofs.lemmas.List.Elements.{All-append}
-use Rattle.auc_edge.specs.Identity.{Identity, IsIdentity}
+use Rattle.auc_memory.specs.Identity.{Identity, IsIdentity}
 use Rattle.auc_sqn.specs.Number.{max_seq}
 use Rattle.auc_journal.specs.InnerBody.{IsBody, IsFrame}
 use Rattle.auc_journal.specs.Settled.{IsAppendingAll, IsSettled, LeavesOnly}

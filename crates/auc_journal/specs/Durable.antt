@@ -2,7 +2,7 @@
 -- the journal's, nor than that of the bytes that were found, and that has a bound.
 use Rattle.std.specs.Prelude.{◌≡◌, ℕ, ◌≤◌, List, true, false, Option, Some, Ok}
 use Rattle.std.specs.Option.{is_some}
-use Rattle.auc_edge.specs.Identity.{Identity}
+use Rattle.auc_memory.specs.Identity.{Identity}
 use Rattle.auc_disk.specs.Disk.{Only}
 use Rattle.auc_journal.specs.Image.{Frame, Keeps, Reading, read_image, reserved_by, reserved_in}
 use Rattle.auc_journal.specs.Journal.{JournalState, imsi_at}

@@ -2,7 +2,7 @@
 use Rattle.std.specs.Prelude.{◌≤◌, ℕ, zero, suc, ◌+◌, ◌*◌, ◌^◌, max, ◌==◌, ◌&&◌, ◌||◌, nat_le, nat_lt, Bool, true, if◌then◌else◌, List, [], ◌∷◌, ◌++◌, flat_map, length, take, drop, slice_index, Result, Ok, Err}
 use Rattle.std.specs.Int.{to_be_bytes, from_be_bytes, w16, w64}
 use Rattle.std.specs.Str.{bytes_eq}
-use Rattle.auc_edge.specs.Identity.{Identity, is_imsi}
+use Rattle.auc_memory.specs.Identity.{Identity, is_imsi}
 use Rattle.auc_sqn.specs.Number.{max_seq}
 
 -- how many bytes a journal has at most

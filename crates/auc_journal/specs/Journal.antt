@@ -1,6 +1,6 @@
 -- Journals that are open.
 use Rattle.std.specs.Prelude.{ℕ, ◌<◌, Bool, List, length, map, slice_index, slice_index_or}
-use Rattle.auc_edge.specs.Identity.{Identity}
+use Rattle.auc_memory.specs.Identity.{Identity}
 use Rattle.auc_journal.specs.Image.{Frame, reserved_in}
 
 -- what contracts see of a journal

@@ -2,8 +2,8 @@
 
 ghost use Rattle.std.specs.Prelude.{◌≡◌, ◌≢◌, ◌≤◌, ◌<◌, ◌+◌, ◌*◌, ◌^◌, ◌++◌, [], ◌∷◌, ◌↔◌, ℕ, List, Some, Err, false, true, length, All, Contains, ◌==◌, if◌then◌else◌, IfOk, IfErr, OnOk, OnErr, IsErrOf, IsTrue};
 ghost use Rattle.std.specs.Option.{is_some};
-ghost use Rattle.auc_edge.specs.Faults.{Rose};
-ghost use Rattle.auc_edge.specs.Identity.{Identity};
+ghost use Rattle.auc_memory.specs.Faults.{Rose};
+ghost use Rattle.auc_memory.specs.Identity.{Identity};
 ghost use Rattle.auc_sqn.specs.Number.{max_seq};
 ghost use Rattle.auc_journal.specs.Image.{Frame, read_image, reserved_in};
 ghost use Rattle.auc_journal.specs.Durable.{Admits, AdmitsAll, IsDurable};
@@ -23,7 +23,7 @@ use crate::opening::open_file;
 use crate::places::Places;
 use crate::spelling::spell;
 use auc_disk::Disk;
-use auc_edge::Imsi;
+use auc_memory::Imsi;
 use std::alloc::Global;
 use std::marker::Model;
 

@@ -29,6 +29,7 @@ mod spelling;
 
 pub use append_refusal::AppendRefusal;
 pub use journal::Journal;
+pub use limit::Limit;
 pub use limit_list::LimitList;
 pub use open_refused::OpenRefused;
 pub use open_why::OpenWhy;

@@ -2,8 +2,8 @@
 
 ghost use Rattle.std.specs.Prelude.{◌≡◌, ◌≢◌, ◌≤◌, ◌<◌, ◌+◌, ◌^◌, ◌++◌, [], ◌∷◌, ℕ, List, Some, Err, length, OnOk, OnErr, IsErrOf};
 ghost use Rattle.std.specs.Option.{is_some};
-ghost use Rattle.auc_edge.specs.Faults.{Rose};
-ghost use Rattle.auc_edge.specs.Identity.{IsIdentity};
+ghost use Rattle.auc_memory.specs.Faults.{Rose};
+ghost use Rattle.auc_memory.specs.Identity.{IsIdentity};
 ghost use Rattle.auc_sqn.specs.Number.{max_seq};
 ghost use Rattle.auc_journal.specs.Image.{Frame, body_of};
 ghost use Rattle.auc_journal.specs.InnerBody.{IsBody};
@@ -12,7 +12,7 @@ ghost use Rattle.auc_journal.specs.Settled.{IsAppending, IsAppendingAll, IsSettl
 use crate::append_refusal::AppendRefusal;
 use crate::reading::MOST;
 use auc_disk::Disk;
-use auc_edge::Imsi;
+use auc_memory::Imsi;
 
 // The file on its disk, and the place of its closed gate.
 #[derive(Drop)]

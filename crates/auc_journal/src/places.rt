@@ -3,7 +3,7 @@
 ghost use Rattle.std.specs.Prelude.{◌≡◌, ◌<◌, All, Contains, length};
 ghost use Rattle.auc_journal.specs.Journal.{imsi_at};
 
-use auc_edge::Imsi;
+use auc_memory::Imsi;
 use std::marker::Model;
 
 // The subscribers for which a journal was opened. Those that are named have the places 0, 1 and so on; if none were

@@ -10,7 +10,7 @@ ghost use Rattle.auc_journal.specs.InnerOpening.{HasLimits};
 use crate::limit::Limit;
 use crate::limit_list::LimitList;
 use crate::open_why::OpenWhy;
-use auc_edge::Imsi;
+use auc_memory::Imsi;
 use auc_sqn::MAX_SEQ;
 
 // How many bytes a journal has at most.

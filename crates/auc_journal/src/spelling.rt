@@ -1,13 +1,13 @@
 //! Spelling the body of a frame for several subscribers.
 
 ghost use Rattle.std.specs.Prelude.{◌≡◌, ◌≤◌, ◌<◌, ◌+◌, ◌*◌, ◌++◌, ◌∷◌, [], All, length, take};
-ghost use Rattle.auc_edge.specs.Identity.{IsIdentity};
+ghost use Rattle.auc_memory.specs.Identity.{IsIdentity};
 ghost use Rattle.auc_sqn.specs.Number.{max_seq};
 ghost use Rattle.auc_journal.specs.Image.{entry_of, group_of};
 ghost use Rattle.auc_journal.specs.InnerBody.{IsFrame};
 ghost use Rattle.auc_journal.specs.Journal.{frame_at, frames_at, imsi_at};
 
-use auc_edge::Imsi;
+use auc_memory::Imsi;
 
 // A body, and a closed gate behind it: the first bytes of a buffer, which has room for a body of 256 entries.
 #[derive(Drop)]

@@ -5,7 +5,7 @@ use Rattle.std.proofs.Math.Seq.{take-suc}
 use Rattle.std.proofs.lemmas.Grind.{get_or-set_at}
 use Rattle.std.proofs.lemmas.List.{ext_get_or, get_or-set_other, length-map, length-set}
 use Rattle.std.proofs.lemmas.List.Elements.{All-head, All-tail}
-use Rattle.auc_edge.specs.Identity.{Identity}
+use Rattle.auc_memory.specs.Identity.{Identity}
 use Rattle.auc_journal.specs.Durable.{AdmitsAll}
 use Rattle.auc_journal.specs.Image.{reserved_in, same_identity}
 use Rattle.auc_journal.specs.Journal.{JournalState, frames_at, frames_for, imsi_at, limits_of, reserved_at}

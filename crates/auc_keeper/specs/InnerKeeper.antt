@@ -1,6 +1,6 @@
 -- Inner facts: the invariant of a keeper.
 use Rattle.std.specs.Prelude.{◌≡◌, ◌≢◌, AllPairs, false, Option, None}
-use Rattle.auc_edge.specs.declared.stop.Stop.{Stop}
+use Rattle.auc_memory.specs.declared.stop.Stop.{Stop}
 use Rattle.auc_draw.specs.Values.{KeeperValue}
 use Rattle.auc_journal.specs.Journal.{JournalState, limits_of}
 

@@ -1,15 +1,15 @@
 //! Keepers.
 
 ghost use Rattle.std.specs.Prelude.{◌≡◌, ◌≢◌, ◌≤◌, ◌<◌, ◌+◌, ◌*◌, ◌^◌, ◌↔◌, ℕ, List, All, AllPairs, None, Some, false, length, max, slice_index, slice_set};
-ghost use Rattle.auc_edge.specs.declared.stop.Stop.TheVariants as stop;
+ghost use Rattle.auc_memory.specs.declared.stop.Stop.TheVariants as stop;
 ghost use Rattle.auc_sqn.specs.Number.{max_seq};
 ghost use Rattle.auc_journal.specs.Journal.{JournalState, limits_of, reserved_at};
 ghost use Rattle.auc_keeper.specs.Keeper.{AnswersAbove, AnswersGroup, Ensures, MayRise, Prepares, Since, Tells, limit_for, looked, set_all};
 
 use auc_disk::Disk;
 use auc_draw::{Book, KeeperPass};
-use auc_edge::Stop;
 use auc_journal::{AppendRefusal, Journal};
+use auc_memory::Stop;
 use auc_sqn::MAX_SEQ;
 use std::marker::Model;
 

@@ -2,8 +2,8 @@
 
 use crate::sim::SimLine;
 use crate::sites::SitesLine;
-use auc_edge::{Items, Octets};
 use auc_hmac::Method;
+use auc_memory::{Items, Octets};
 
 /// An end of a session.
 #[derive(Clone, Copy, Debug, PartialEq, Eq)]

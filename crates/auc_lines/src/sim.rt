@@ -1,7 +1,7 @@
 //! Lines for sessions of EAP-SIM.
 
 use crate::part::End;
-use auc_edge::Items;
+use auc_memory::Items;
 use std::marker::Model;
 
 /// A packet of a session reaches an end. Its number counts the packets of the line from 1.

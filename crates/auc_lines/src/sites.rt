@@ -3,7 +3,7 @@
 ghost use Rattle.std.specs.Prelude.{◌≡◌, ◌≤◌, ◌*◌, All, length};
 ghost use Rattle.auc_lines.specs.Sites.{IsOfSites, SitesValue, deliveries_in, is_delivery};
 
-use auc_edge::Items;
+use auc_memory::Items;
 use std::marker::Model;
 
 /// An event of a line for sites. A site's number is counted from 1, and a packet's number counts the packets of the line

@@ -7,7 +7,7 @@ use Rattle.std.proofs.lemmas.Bool.{cases_order}
 use Rattle.std.proofs.lemmas.List.{drop_all, drop-append-le, drop-drop, drop-map, drop_more, get_or-map, get_or_default, get_or_append_left, length-append, length-drop, length-map, take-append-le, take_all, take_more}
 use Rattle.std.proofs.lemmas.List.Folds.{concat-append}
 use Rattle.std.proofs.lemmas.List.FromFn.{length-map-range_with_len, length-range_with_len, take-map-range_with_len}
-use Rattle.auc_edge.specs.declared.no_memory.NoMemory.{NoMemory}
+use Rattle.auc_memory.specs.declared.no_memory.NoMemory.{NoMemory}
 use Rattle.auc_load.specs.Input.{row_at}
 use Rattle.auc_load.specs.Pieces.{AreStarts, IsCut, IsPlace, IsSource, Source, closing_vectors, each_vector, number_bytes, numbers_bytes, pieces_bytes, vectors_from, vectors_of_piece}
 use Rattle.auc_load.specs.declared.pieces.Place.{Place}

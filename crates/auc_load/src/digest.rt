@@ -13,7 +13,7 @@ ghost use Rattle.auc_load.specs.Words.{IsLoad};
 use crate::input::key_of;
 use crate::pieces::{Place, Source, make_pieces, starts};
 use crate::words::LoadWords;
-use auc_edge::{Items, NoMemory, Octets};
+use auc_memory::{Items, NoMemory, Octets};
 use auc_random::Rands;
 use auc_record::Closing;
 use auc_subs::Subscribers;

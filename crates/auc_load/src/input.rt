@@ -6,8 +6,8 @@ ghost use Rattle.auc_load.specs.Input.{job_at, load_jobs, load_key, load_rows, r
 ghost use Rattle.auc_load.specs.Words.{IsLoad};
 
 use crate::words::LoadWords;
-use auc_edge::{Imsi, Items, NoMemory};
 use auc_lines::{JobPart, Line};
+use auc_memory::{Imsi, Items, NoMemory};
 use auc_milenage::Secret;
 use auc_random::Rands;
 use auc_subs::{Row, Subscribers};

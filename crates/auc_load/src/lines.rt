@@ -8,7 +8,7 @@ ghost use Rattle.auc_load.specs.Words.{IsLoad};
 use crate::digest::digest;
 use crate::input::VECTORS_OF_A_JOB;
 use crate::words::LoadWords;
-use auc_edge::{NoMemory, Octets};
+use auc_memory::{NoMemory, Octets};
 use auc_record::Closing;
 use auc_subs::Subscribers;
 use std::alloc::Global;

@@ -8,8 +8,8 @@ ghost use Rattle.auc_load.specs.Pieces.{AreStarts, IsCut, IsPlace, IsSource, Sou
 ghost use Rattle.auc_load.specs.Summary.{vector_bytes};
 ghost use Rattle.auc_record.specs.declared.record.Closing.{Closing};
 
-use auc_edge::{Items, NoMemory, Octets};
 use auc_hmac::Method;
+use auc_memory::{Items, NoMemory, Octets};
 use auc_random::{RandStream, Rands};
 use auc_record::Closing;
 use auc_subs::{Row, Subscribers};

@@ -3,7 +3,7 @@
 ghost use Rattle.std.specs.Prelude.{◌≡◌, ◌≤◌, IfSome};
 ghost use Rattle.auc_load.specs.Words.{IsLoad, count_in, load_named, numbers_in};
 
-use auc_edge::Octets;
+use auc_memory::Octets;
 use auc_subs::MAX_SUBSCRIBERS;
 use auc_text::read_decimal;
 

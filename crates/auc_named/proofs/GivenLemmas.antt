@@ -13,14 +13,15 @@ use Rattle.auc_named.specs.Named.{AreAt, ArePlain, is_as_it_came, is_plain, line
 use Rattle.auc_subs.specs.Subscriber.{top_at}
 use Rattle.auc_subs.specs.declared.row.Row.{Row}
 use Rattle.auc_record.specs.Draws.{DrawGives}
-use Rattle.auc_world.specs.Given.{Before, IsVerdict, JobGives, JobsGive, LineGives, SyncGives, VectorsFollow, behind, said_by}
+use Rattle.auc_world.specs.Given.{Before, IsResynced, JobGives, JobsGive, LineGives, SyncGives, VectorsFollow, behind, said_by}
 use Rattle.auc_world.specs.Net.{Net}
 use Rattle.auc_subs.specs.Setting.{Setting}
 use Rattle.auc_world.specs.Start.{Kept, fresh_net, kept_by_jobs, kept_with, start_of}
 use Rattle.auc_record.specs.declared.record.LineRecord.{LineRecord}
 use Rattle.auc_record.specs.declared.record.LineRecord.TheVariants as said
-use Rattle.auc_record.specs.declared.record.SyncVerdict.{SyncVerdict}
-use Rattle.auc_record.specs.declared.record.SyncVerdict.TheVariants as verdict
+use Rattle.auc_vector.specs.declared.notes.NumberNote.TheVariants as number
+use Rattle.auc_vector.specs.declared.notes.ResyncNote.{ResyncNote}
+use Rattle.auc_vector.specs.declared.notes.ResyncNote.TheVariants as resync
 use Rattle.auc_named.proofs.RecordLemmas.{ArePlainLines, ArePlainRecords, IsPlainRecord}
 
 -- the setting of a round of some subscribers
@@ -61,13 +62,13 @@ top_named rows own places sub at inside = top_at-slice_get own sub ∙ ap top_in
 pub draw_plain : (set : Setting) (size sub count : ℕ) (lines : List LineRecord) → sub < size → DrawGives set sub count lines → ArePlainLines size lines
 draw_plain set size sub zero lines inside gives = All-same (IsPlainRecord size) lines [] gives (All-nil (IsPlainRecord size))
 draw_plain set size sub (suc count) [] inside gives = absurd gives
-draw_plain set size sub (suc count) (said.Vector s n ∷ lines) inside (is, releasable, more) =
-    All-cons (IsPlainRecord size) (said.Vector s n) lines (subst (λ k. k < size) (sym is) inside) (draw_plain set size sub count lines inside more)
-draw_plain set size sub (suc count) (said.Withheld s n stop ∷ lines) inside (is, first, last, none) =
-    All-cons (IsPlainRecord size) (said.Withheld s n stop) lines (subst (λ k. k < size) (sym is) inside) (All-same (IsPlainRecord size) lines [] none (All-nil (IsPlainRecord size)))
-draw_plain set size sub (suc count) (said.Exhausted s word ∷ lines) inside (is, above, none) =
-    All-cons (IsPlainRecord size) (said.Exhausted s word) lines (subst (λ k. k < size) (sym is) inside) (All-same (IsPlainRecord size) lines [] none (All-nil (IsPlainRecord size)))
-draw_plain set size sub (suc count) (said.Sync s answer ∷ lines) inside gives = absurd gives
+draw_plain set size sub (suc count) (said.Number s (number.Drew n) ∷ lines) inside (is, releasable, more) =
+    All-cons (IsPlainRecord size) (said.Number s (number.Drew n)) lines (subst (λ k. k < size) (sym is) inside) (draw_plain set size sub count lines inside more)
+draw_plain set size sub (suc count) (said.Number s (number.Withheld n stop) ∷ lines) inside (is, first, last, none) =
+    All-cons (IsPlainRecord size) (said.Number s (number.Withheld n stop)) lines (subst (λ k. k < size) (sym is) inside) (All-same (IsPlainRecord size) lines [] none (All-nil (IsPlainRecord size)))
+draw_plain set size sub (suc count) (said.Number s (number.Exhausted word) ∷ lines) inside (is, above, none) =
+    All-cons (IsPlainRecord size) (said.Number s (number.Exhausted word)) lines (subst (λ k. k < size) (sym is) inside) (All-same (IsPlainRecord size) lines [] none (All-nil (IsPlainRecord size)))
+draw_plain set size sub (suc count) (said.Sync s note ∷ lines) inside gives = absurd gives
 draw_plain set size sub (suc count) (said.Give s n answer ∷ lines) inside gives = absurd gives
 draw_plain set size sub (suc count) (said.Further further ∷ lines) inside gives = absurd gives
 draw_plain set size sub (suc count) (said.Event r ∷ lines) inside gives = absurd gives
@@ -77,7 +78,7 @@ draw_named : (set : Setting) (own : List Row) (places : List ℕ) (sub count : �
     → DrawGives (with_rows set own) sub count lines → DrawGives set (slice_index places sub) count (map (record_of places) lines)
 draw_named set own places sub zero lines at inside gives = ap (map (record_of places)) gives
 draw_named set own places sub (suc count) [] at inside gives = absurd gives
-draw_named set own places sub (suc count) (said.Vector s n ∷ lines) at inside (is, releasable, more) = (
+draw_named set own places sub (suc count) (said.Number s (number.Drew n) ∷ lines) at inside (is, releasable, more) = (
   ap (slice_index places) is,
   record {
     known = place_within set.rows own places sub at inside;
@@ -86,37 +87,37 @@ draw_named set own places sub (suc count) (said.Vector s n ∷ lines) at inside 
   },
   draw_named set own places sub count lines at inside more,
 )
-draw_named set own places sub (suc count) (said.Withheld s n stop ∷ lines) at inside (is, first, last, none) =
+draw_named set own places sub (suc count) (said.Number s (number.Withheld n stop) ∷ lines) at inside (is, first, last, none) =
     (ap (slice_index places) is, first, subst (λ top. n ≤ top) (top_named set.rows own places sub at inside) last, ap (map (record_of places)) none)
-draw_named set own places sub (suc count) (said.Exhausted s word ∷ lines) at inside (is, above, none) =
+draw_named set own places sub (suc count) (said.Number s (number.Exhausted word) ∷ lines) at inside (is, above, none) =
     (ap (slice_index places) is, subst (λ top. top ≤ word) (top_named set.rows own places sub at inside) above, ap (map (record_of places)) none)
-draw_named set own places sub (suc count) (said.Sync s answer ∷ lines) at inside gives = absurd gives
+draw_named set own places sub (suc count) (said.Sync s note ∷ lines) at inside gives = absurd gives
 draw_named set own places sub (suc count) (said.Give s n answer ∷ lines) at inside gives = absurd gives
 draw_named set own places sub (suc count) (said.Further further ∷ lines) at inside gives = absurd gives
 draw_named set own places sub (suc count) (said.Event r ∷ lines) at inside gives = absurd gives
 
 -- ---- an AUTS
 
--- what follows a verdict is plain
-follow_plain : (set : Setting) (size sub count : ℕ) (answer : SyncVerdict) (lines : List LineRecord) → sub < size → VectorsFollow set sub count answer lines → ArePlainLines size lines
-follow_plain set size sub count (verdict.Moved seen seq_ms) lines inside gives = draw_plain set size sub count lines inside gives
-follow_plain set size sub count (verdict.InRange seen seq_ms) lines inside gives = draw_plain set size sub count lines inside gives
-follow_plain set size sub count (verdict.Beyond seen seq_ms) lines inside gives = All-same (IsPlainRecord size) lines [] gives (All-nil (IsPlainRecord size))
-follow_plain set size sub count verdict.WrongMac lines inside gives = All-same (IsPlainRecord size) lines [] gives (All-nil (IsPlainRecord size))
+-- what follows a resynchronisation is plain
+follow_plain : (set : Setting) (size sub count : ℕ) (note : ResyncNote) (lines : List LineRecord) → sub < size → VectorsFollow set sub count note lines → ArePlainLines size lines
+follow_plain set size sub count (resync.Moved seen seq_ms) lines inside gives = draw_plain set size sub count lines inside gives
+follow_plain set size sub count (resync.InRange seen seq_ms) lines inside gives = draw_plain set size sub count lines inside gives
+follow_plain set size sub count (resync.Beyond seen seq_ms) lines inside gives = All-same (IsPlainRecord size) lines [] gives (All-nil (IsPlainRecord size))
+follow_plain set size sub count resync.BadAuts lines inside gives = All-same (IsPlainRecord size) lines [] gives (All-nil (IsPlainRecord size))
 
 -- what an AUTS gives is
 sync_plain : (set : Setting) (size sub count : ℕ) (report : Report) (lines : List LineRecord) → sub < size → SyncGives set sub report count lines → ArePlainLines size lines
 sync_plain set size sub count report lines inside gives =
-    All-same (IsPlainRecord size) lines (said.Sync sub gives.answer ∷ gives.more) gives.lines_are
-    (All-cons (IsPlainRecord size) (said.Sync sub gives.answer) gives.more inside (follow_plain set size sub count gives.answer gives.more inside gives.follows))
+    All-same (IsPlainRecord size) lines (said.Sync sub gives.note ∷ gives.more) gives.lines_are
+    (All-cons (IsPlainRecord size) (said.Sync sub gives.note) gives.more inside (follow_plain set size sub count gives.note gives.more inside gives.follows))
 
--- the vectors behind a verdict on the subscriber of a place
-follow_named : (set : Setting) (own : List Row) (places : List ℕ) (sub count : ℕ) (answer : SyncVerdict) (lines : List LineRecord) → AreAt set.rows places own → sub < length places
-    → VectorsFollow (with_rows set own) sub count answer lines → VectorsFollow set (slice_index places sub) count answer (map (record_of places) lines)
-follow_named set own places sub count (verdict.Moved seen seq_ms) lines at inside gives = draw_named set own places sub count lines at inside gives
-follow_named set own places sub count (verdict.InRange seen seq_ms) lines at inside gives = draw_named set own places sub count lines at inside gives
-follow_named set own places sub count (verdict.Beyond seen seq_ms) lines at inside gives = ap (map (record_of places)) gives
-follow_named set own places sub count verdict.WrongMac lines at inside gives = ap (map (record_of places)) gives
+-- what follows that of the subscriber of a place
+follow_named : (set : Setting) (own : List Row) (places : List ℕ) (sub count : ℕ) (note : ResyncNote) (lines : List LineRecord) → AreAt set.rows places own → sub < length places
+    → VectorsFollow (with_rows set own) sub count note lines → VectorsFollow set (slice_index places sub) count note (map (record_of places) lines)
+follow_named set own places sub count (resync.Moved seen seq_ms) lines at inside gives = draw_named set own places sub count lines at inside gives
+follow_named set own places sub count (resync.InRange seen seq_ms) lines at inside gives = draw_named set own places sub count lines at inside gives
+follow_named set own places sub count (resync.Beyond seen seq_ms) lines at inside gives = ap (map (record_of places)) gives
+follow_named set own places sub count resync.BadAuts lines at inside gives = ap (map (record_of places)) gives
 
 -- what an AUTS as it came says rests on its row alone
 said_named : (set : Setting) (own : List Row) (row : Row) (sub place : ℕ) (report : Report) → is_as_it_came report ≡ true → said_by (with_rows set own) row sub report ≡ said_by set row place report
@@ -129,11 +130,11 @@ sync_named : (set : Setting) (own : List Row) (places : List ℕ) (sub count : �
 sync_named set own places sub count report lines at inside came gives = record {
   row = gives.row;
   there = sym (at.same sub inside) ∙ gives.there;
-  answer = gives.answer;
+  note = gives.note;
   more = map (record_of places) gives.more;
   lines_are = ap (map (record_of places)) gives.lines_are;
-  verdict = subst (λ read. IsVerdict read gives.answer) (said_named set own gives.row sub (slice_index places sub) report came) gives.verdict;
-  follows = follow_named set own places sub count gives.answer gives.more at inside gives.follows;
+  resynced = subst (λ read. IsResynced read gives.note) (said_named set own gives.row sub (slice_index places sub) report came) gives.resynced;
+  follows = follow_named set own places sub count gives.note gives.more at inside gives.follows;
 }
 
 -- ---- lines

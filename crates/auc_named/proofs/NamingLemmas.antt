@@ -14,7 +14,7 @@ use Rattle.std.proofs.lemmas.Map.Keys.{IsStrictlyIncreasing-dedup}
 use Rattle.std.proofs.lemmas.Option.{get_or_from_slice_get, slice_get-get_or, slice_get_within}
 use Rattle.std.proofs.lemmas.Bool.Decides.{nat_tests}
 use Rattle.auc_cards.specs.Known.{AreKnown, IsKnownLine}
-use Rattle.auc_edge.specs.Identity.{Identity}
+use Rattle.auc_memory.specs.Identity.{Identity}
 use Rattle.auc_lines.specs.declared.part.Line.{Line}
 use Rattle.auc_lines.specs.declared.part.Line.TheVariants as line
 use Rattle.auc_subs.specs.declared.row.Row.{Row}

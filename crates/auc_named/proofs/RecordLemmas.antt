@@ -1,5 +1,5 @@
 -- What the lines of a round of some subscribers say of each of them, said of all.
-use Rattle.std.proofs.Common.{◌≡◌, ℕ, ◌+◌, ◌<◌, ◌==◌, ◌≢◌, ◌&&◌, ◌||◌, Bool, if◌then◌else◌, List, [], ◌∷◌, ◌++◌, length, map, flat_map, All, AllPairs, slice_index, refl, sym, ap, ◌∙◌}
+use Rattle.std.proofs.Common.{◌≡◌, ℕ, ◌+◌, ◌<◌, ◌≢◌, ◌||◌, Bool, if◌then◌else◌, List, [], ◌∷◌, ◌++◌, length, map, flat_map, All, AllPairs, slice_index, Option, Some, None, refl, sym, ap, ◌∙◌}
 use Rattle.std.proofs.lemmas.List.{map-append}
 use Rattle.std.proofs.lemmas.List.Elements.{All-append, All-cons, All-head, All-nil, All-tail}
 use Rattle.auc_history.specs.History.{drawn}
@@ -7,22 +7,24 @@ use Rattle.auc_history.specs.Split.{all_entries}
 use Rattle.auc_history.specs.declared.entry.Entry.{Entry}
 use Rattle.auc_history.specs.declared.entry.Entry.TheVariants.{Drawn, Look}
 use Rattle.auc_named.specs.Named.{record_of, records_of}
-use Rattle.auc_record.specs.Entries.{entries_of_jobs, entries_of_line, entries_of_lines, entries_of_verdict, is_reported, reports}
-use Rattle.auc_record.specs.Lines.{all_lines, held_by, held_of, numbers_of, released_by, withheld_by, withheld_of}
+use Rattle.auc_record.specs.Entries.{entries_of_jobs, entries_of_line, entries_of_lines, entries_of_number, entries_of_resync, is_reported, reports}
+use Rattle.auc_record.specs.Event.{is_exhausted, number_released, number_withheld}
+use Rattle.auc_record.specs.Lines.{all_lines, held_of, number_by, numbers_of, resync_by, withheld_of}
 use Rattle.auc_record.specs.declared.record.LineRecord.{LineRecord}
-use Rattle.auc_record.specs.declared.record.LineRecord.TheVariants.{Vector, Withheld, Exhausted, Sync, Give, Further, Event}
-use Rattle.auc_record.specs.declared.record.SyncVerdict.{SyncVerdict}
-use Rattle.auc_record.specs.declared.record.SyncVerdict.TheVariants as verdict
+use Rattle.auc_record.specs.declared.record.LineRecord.TheVariants.{Number, Sync, Give, Further, Event}
+use Rattle.auc_vector.specs.Notes.{withheld_noted}
+use Rattle.auc_vector.specs.declared.notes.NumberNote.{NumberNote}
+use Rattle.auc_vector.specs.declared.notes.NumberNote.TheVariants as number
+use Rattle.auc_vector.specs.declared.notes.ResyncNote.{ResyncNote}
+use Rattle.auc_vector.specs.declared.notes.ResyncNote.TheVariants as resync
 use Rattle.auc_named.proofs.PlaceLemmas.{IsUnnamed, other_place, same_place}
 
 -- ---- plain records
 
 -- a line's record is one that a plain line may give, of one of so many subscribers
 abbrev pub IsPlainRecord : ℕ → LineRecord → Type 0
-IsPlainRecord size (Vector s n) = s < size
-IsPlainRecord size (Withheld s n stop) = s < size
-IsPlainRecord size (Exhausted s word) = s < size
-IsPlainRecord size (Sync s answer) = s < size
+IsPlainRecord size (Number s note) = s < size
+IsPlainRecord size (Sync s note) = s < size
 IsPlainRecord size (Give s n answer) = ⊥
 IsPlainRecord size (Further said) = ⊥
 IsPlainRecord size (Event r) = ⊥
@@ -47,176 +49,145 @@ all_lines-records_of places [] = refl
 all_lines-records_of places (lines ∷ jobs) =
     ap (λ (rest : List LineRecord). map (record_of places) lines ++ rest) (all_lines-records_of places jobs) ∙ sym (map-append (record_of places) lines (all_lines jobs))
 
--- ---- what each line says
+-- ---- what the centre answered
 
--- what lines say, if each says the same
-flat_map_named : {X : Type 0} (places : List ℕ) (size : ℕ) (f g : LineRecord → List X) → ((line : LineRecord) → IsPlainRecord size line → f (record_of places line) ≡ g line)
-    → (lines : List LineRecord) → ArePlainLines size lines → flat_map f (map (record_of places) lines) ≡ flat_map g lines
-flat_map_named places size f g each [] plain = refl
-flat_map_named {X} places size f g each (line ∷ lines) plain =
-    ap (λ (xs : List X). xs ++ flat_map f (map (record_of places) lines)) (each line (All-head (IsPlainRecord size) line lines plain))
-    ∙ ap (λ (xs : List X). g line ++ xs) (flat_map_named places size f g each lines (All-tail (IsPlainRecord size) line lines plain))
+-- its answer when a line asked for a number of the subscriber of a place
+number_named : (places : List ℕ) (sub : ℕ) → AllPairs ◌<◌ places → sub < length places → (line : LineRecord) → IsPlainRecord (length places) line
+    → number_by (slice_index places sub) (record_of places line) ≡ number_by sub line
+number_named places sub rising inside (Number s note) plain = ap (λ (b : Bool). if b then Some note else None) (same_place places s sub rising plain inside)
+number_named places sub rising inside (Sync s note) plain = refl
+number_named places sub rising inside (Give s n answer) plain = absurd plain
+number_named places sub rising inside (Further said) plain = absurd plain
+number_named places sub rising inside (Event r) plain = absurd plain
 
--- and if each says nothing
-flat_map_unnamed : {X : Type 0} (places : List ℕ) (size : ℕ) (f : LineRecord → List X) → ((line : LineRecord) → IsPlainRecord size line → f (record_of places line) ≡ [])
-    → (lines : List LineRecord) → ArePlainLines size lines → flat_map f (map (record_of places) lines) ≡ []
-flat_map_unnamed places size f each [] plain = refl
-flat_map_unnamed {X} places size f each (line ∷ lines) plain =
-    ap (λ (xs : List X). xs ++ flat_map f (map (record_of places) lines)) (each line (All-head (IsPlainRecord size) line lines plain))
-    ∙ flat_map_unnamed places size f each lines (All-tail (IsPlainRecord size) line lines plain)
+-- and what it made of a synchronisation failure
+resync_named : (places : List ℕ) (sub : ℕ) → AllPairs ◌<◌ places → sub < length places → (line : LineRecord) → IsPlainRecord (length places) line
+    → resync_by (slice_index places sub) (record_of places line) ≡ resync_by sub line
+resync_named places sub rising inside (Number s note) plain = refl
+resync_named places sub rising inside (Sync s note) plain = ap (λ (b : Bool). if b then Some note else None) (same_place places s sub rising plain inside)
+resync_named places sub rising inside (Give s n answer) plain = absurd plain
+resync_named places sub rising inside (Further said) plain = absurd plain
+resync_named places sub rising inside (Event r) plain = absurd plain
+
+-- it wasn't asked for a subscriber without a place
+number_unnamed : (places : List ℕ) (sub : ℕ) → IsUnnamed places sub → (line : LineRecord) → IsPlainRecord (length places) line → number_by sub (record_of places line) ≡ None
+number_unnamed places sub none (Number s note) plain = ap (λ (b : Bool). if b then Some note else None) (other_place places s sub none plain)
+number_unnamed places sub none (Sync s note) plain = refl
+number_unnamed places sub none (Give s n answer) plain = absurd plain
+number_unnamed places sub none (Further said) plain = absurd plain
+number_unnamed places sub none (Event r) plain = absurd plain
+
+resync_unnamed : (places : List ℕ) (sub : ℕ) → IsUnnamed places sub → (line : LineRecord) → IsPlainRecord (length places) line → resync_by sub (record_of places line) ≡ None
+resync_unnamed places sub none (Number s note) plain = refl
+resync_unnamed places sub none (Sync s note) plain = ap (λ (b : Bool). if b then Some note else None) (other_place places s sub none plain)
+resync_unnamed places sub none (Give s n answer) plain = absurd plain
+resync_unnamed places sub none (Further said) plain = absurd plain
+resync_unnamed places sub none (Event r) plain = absurd plain
 
 -- ---- the numbers of lines
 
--- what a line releases for the subscriber of a place
-released_named : (places : List ℕ) (sub : ℕ) → AllPairs ◌<◌ places → sub < length places → (line : LineRecord) → IsPlainRecord (length places) line
-    → released_by (slice_index places sub) (record_of places line) ≡ released_by sub line
-released_named places sub rising inside (Vector s n) plain = ap (λ (b : Bool). if b then n ∷ [] else []) (same_place places s sub rising plain inside)
-released_named places sub rising inside (Withheld s n stop) plain = refl
-released_named places sub rising inside (Exhausted s word) plain = refl
-released_named places sub rising inside (Sync s answer) plain = refl
-released_named places sub rising inside (Give s n answer) plain = absurd plain
-released_named places sub rising inside (Further said) plain = absurd plain
-released_named places sub rising inside (Event r) plain = absurd plain
+-- what lines say of its answers for the subscriber of a place
+answers_named : {X : Type 0} (f : Option NumberNote → List X) (places : List ℕ) (sub : ℕ) → AllPairs ◌<◌ places → sub < length places → (lines : List LineRecord) → ArePlainLines (length places) lines
+    → flat_map (λ (line : LineRecord). f (number_by (slice_index places sub) line)) (map (record_of places) lines) ≡ flat_map (λ (line : LineRecord). f (number_by sub line)) lines
+answers_named f places sub rising inside [] plain = refl
+answers_named {X} f places sub rising inside (line ∷ lines) plain =
+    let P = IsPlainRecord (length places) in
+    ap (λ (o : Option NumberNote). f o ++ flat_map (λ (l : LineRecord). f (number_by (slice_index places sub) l)) (map (record_of places) lines))
+    (number_named places sub rising inside line (All-head P line lines plain))
+    ∙ ap (λ (xs : List X). f (number_by sub line) ++ xs) (answers_named f places sub rising inside lines (All-tail P line lines plain))
 
--- what it withholds from it
-taken_named : (places : List ℕ) (sub : ℕ) → AllPairs ◌<◌ places → sub < length places → (line : LineRecord) → IsPlainRecord (length places) line
-    → withheld_by (slice_index places sub) (record_of places line) ≡ withheld_by sub line
-taken_named places sub rising inside (Vector s n) plain = refl
-taken_named places sub rising inside (Withheld s n stop) plain = ap (λ (b : Bool). if b then n ∷ [] else []) (same_place places s sub rising plain inside)
-taken_named places sub rising inside (Exhausted s word) plain = refl
-taken_named places sub rising inside (Sync s answer) plain = refl
-taken_named places sub rising inside (Give s n answer) plain = absurd plain
-taken_named places sub rising inside (Further said) plain = absurd plain
-taken_named places sub rising inside (Event r) plain = absurd plain
-
--- with the cause
-caused_named : (places : List ℕ) (sub : ℕ) → AllPairs ◌<◌ places → sub < length places → (line : LineRecord) → IsPlainRecord (length places) line
-    → held_by (slice_index places sub) (record_of places line) ≡ held_by sub line
-caused_named places sub rising inside (Vector s n) plain = refl
-caused_named places sub rising inside (Withheld s n stop) plain = ap (λ (b : Bool). if b then (n, stop) ∷ [] else []) (same_place places s sub rising plain inside)
-caused_named places sub rising inside (Exhausted s word) plain = refl
-caused_named places sub rising inside (Sync s answer) plain = refl
-caused_named places sub rising inside (Give s n answer) plain = absurd plain
-caused_named places sub rising inside (Further said) plain = absurd plain
-caused_named places sub rising inside (Event r) plain = absurd plain
-
--- it releases nothing for a subscriber without a place
-released_unnamed : (places : List ℕ) (sub : ℕ) → IsUnnamed places sub → (line : LineRecord) → IsPlainRecord (length places) line → released_by sub (record_of places line) ≡ []
-released_unnamed places sub none (Vector s n) plain = ap (λ (b : Bool). if b then n ∷ [] else []) (other_place places s sub none plain)
-released_unnamed places sub none (Withheld s n stop) plain = refl
-released_unnamed places sub none (Exhausted s word) plain = refl
-released_unnamed places sub none (Sync s answer) plain = refl
-released_unnamed places sub none (Give s n answer) plain = absurd plain
-released_unnamed places sub none (Further said) plain = absurd plain
-released_unnamed places sub none (Event r) plain = absurd plain
-
--- and withholds nothing from it
-taken_unnamed : (places : List ℕ) (sub : ℕ) → IsUnnamed places sub → (line : LineRecord) → IsPlainRecord (length places) line → withheld_by sub (record_of places line) ≡ []
-taken_unnamed places sub none (Vector s n) plain = refl
-taken_unnamed places sub none (Withheld s n stop) plain = ap (λ (b : Bool). if b then n ∷ [] else []) (other_place places s sub none plain)
-taken_unnamed places sub none (Exhausted s word) plain = refl
-taken_unnamed places sub none (Sync s answer) plain = refl
-taken_unnamed places sub none (Give s n answer) plain = absurd plain
-taken_unnamed places sub none (Further said) plain = absurd plain
-taken_unnamed places sub none (Event r) plain = absurd plain
-
--- with or without a cause
-caused_unnamed : (places : List ℕ) (sub : ℕ) → IsUnnamed places sub → (line : LineRecord) → IsPlainRecord (length places) line → held_by sub (record_of places line) ≡ []
-caused_unnamed places sub none (Vector s n) plain = refl
-caused_unnamed places sub none (Withheld s n stop) plain = ap (λ (b : Bool). if b then (n, stop) ∷ [] else []) (other_place places s sub none plain)
-caused_unnamed places sub none (Exhausted s word) plain = refl
-caused_unnamed places sub none (Sync s answer) plain = refl
-caused_unnamed places sub none (Give s n answer) plain = absurd plain
-caused_unnamed places sub none (Further said) plain = absurd plain
-caused_unnamed places sub none (Event r) plain = absurd plain
+-- and for one without a place
+answers_unnamed : {X : Type 0} (f : Option NumberNote → List X) → f None ≡ [] → (places : List ℕ) (sub : ℕ) → IsUnnamed places sub → (lines : List LineRecord) → ArePlainLines (length places) lines
+    → flat_map (λ (line : LineRecord). f (number_by sub line)) (map (record_of places) lines) ≡ []
+answers_unnamed f nothing places sub none [] plain = refl
+answers_unnamed {X} f nothing places sub none (line ∷ lines) plain =
+    let P = IsPlainRecord (length places) in
+    ap (λ (xs : List X). xs ++ flat_map (λ (l : LineRecord). f (number_by sub l)) (map (record_of places) lines)) (ap f (number_unnamed places sub none line (All-head P line lines plain)) ∙ nothing)
+    ∙ answers_unnamed f nothing places sub none lines (All-tail P line lines plain)
 
 -- the numbers that are released for the subscriber of a place
 pub numbers_named : (places : List ℕ) (jobs : List (List LineRecord)) (sub : ℕ) → AllPairs ◌<◌ places → ArePlainRecords (length places) jobs → sub < length places
     → numbers_of (slice_index places sub) (all_lines (records_of places jobs)) ≡ numbers_of sub (all_lines jobs)
 numbers_named places jobs sub rising plain inside =
     ap (numbers_of (slice_index places sub)) (all_lines-records_of places jobs)
-    ∙ flat_map_named places (length places) (released_by (slice_index places sub)) (released_by sub) (released_named places sub rising inside) (all_lines jobs) (all_plain (length places) jobs plain)
+    ∙ answers_named number_released places sub rising inside (all_lines jobs) (all_plain (length places) jobs plain)
 
 -- those that are withheld from it
 pub withheld_named : (places : List ℕ) (jobs : List (List LineRecord)) (sub : ℕ) → AllPairs ◌<◌ places → ArePlainRecords (length places) jobs → sub < length places
     → withheld_of (slice_index places sub) (all_lines (records_of places jobs)) ≡ withheld_of sub (all_lines jobs)
 withheld_named places jobs sub rising plain inside =
     ap (withheld_of (slice_index places sub)) (all_lines-records_of places jobs)
-    ∙ flat_map_named places (length places) (withheld_by (slice_index places sub)) (withheld_by sub) (taken_named places sub rising inside) (all_lines jobs) (all_plain (length places) jobs plain)
+    ∙ answers_named number_withheld places sub rising inside (all_lines jobs) (all_plain (length places) jobs plain)
 
 -- with their causes
 pub held_named : (places : List ℕ) (jobs : List (List LineRecord)) (sub : ℕ) → AllPairs ◌<◌ places → ArePlainRecords (length places) jobs → sub < length places
     → held_of (slice_index places sub) (all_lines (records_of places jobs)) ≡ held_of sub (all_lines jobs)
 held_named places jobs sub rising plain inside =
     ap (held_of (slice_index places sub)) (all_lines-records_of places jobs)
-    ∙ flat_map_named places (length places) (held_by (slice_index places sub)) (held_by sub) (caused_named places sub rising inside) (all_lines jobs) (all_plain (length places) jobs plain)
+    ∙ answers_named withheld_noted places sub rising inside (all_lines jobs) (all_plain (length places) jobs plain)
 
 -- for a subscriber without a place none is released
 pub numbers_unnamed : (places : List ℕ) (jobs : List (List LineRecord)) (sub : ℕ) → ArePlainRecords (length places) jobs → All (λ place. place ≢ sub) places
     → numbers_of sub (all_lines (records_of places jobs)) ≡ []
 numbers_unnamed places jobs sub plain none =
     ap (numbers_of sub) (all_lines-records_of places jobs)
-    ∙ flat_map_unnamed places (length places) (released_by sub) (released_unnamed places sub none) (all_lines jobs) (all_plain (length places) jobs plain)
+    ∙ answers_unnamed number_released refl places sub none (all_lines jobs) (all_plain (length places) jobs plain)
 
 -- none is withheld
 pub withheld_unnamed : (places : List ℕ) (jobs : List (List LineRecord)) (sub : ℕ) → ArePlainRecords (length places) jobs → All (λ place. place ≢ sub) places
     → withheld_of sub (all_lines (records_of places jobs)) ≡ []
 withheld_unnamed places jobs sub plain none =
     ap (withheld_of sub) (all_lines-records_of places jobs)
-    ∙ flat_map_unnamed places (length places) (withheld_by sub) (taken_unnamed places sub none) (all_lines jobs) (all_plain (length places) jobs plain)
+    ∙ answers_unnamed number_withheld refl places sub none (all_lines jobs) (all_plain (length places) jobs plain)
 
 -- with or without a cause
 pub held_unnamed : (places : List ℕ) (jobs : List (List LineRecord)) (sub : ℕ) → ArePlainRecords (length places) jobs → All (λ place. place ≢ sub) places
     → held_of sub (all_lines (records_of places jobs)) ≡ []
 held_unnamed places jobs sub plain none =
     ap (held_of sub) (all_lines-records_of places jobs)
-    ∙ flat_map_unnamed places (length places) (held_by sub) (caused_unnamed places sub none) (all_lines jobs) (all_plain (length places) jobs plain)
+    ∙ answers_unnamed withheld_noted refl places sub none (all_lines jobs) (all_plain (length places) jobs plain)
 
 -- ---- the entries of lines
-
--- a line reports a word for the subscriber of a place
-reports_named : (places : List ℕ) (sub word : ℕ) → AllPairs ◌<◌ places → sub < length places → (line : LineRecord) → IsPlainRecord (length places) line
-    → reports (slice_index places sub) word (record_of places line) ≡ reports sub word line
-reports_named places sub word rising inside (Vector s n) plain = refl
-reports_named places sub word rising inside (Withheld s n stop) plain = refl
-reports_named places sub word rising inside (Exhausted s read) plain = ap (λ (b : Bool). b && read == word) (same_place places s sub rising plain inside)
-reports_named places sub word rising inside (Sync s answer) plain = refl
-reports_named places sub word rising inside (Give s n answer) plain = absurd plain
-reports_named places sub word rising inside (Further said) plain = absurd plain
-reports_named places sub word rising inside (Event r) plain = absurd plain
 
 -- a word is reported for the subscriber of a place
 reported_named : (places : List ℕ) (sub word : ℕ) → AllPairs ◌<◌ places → sub < length places → (lines : List LineRecord) → ArePlainLines (length places) lines
     → is_reported (slice_index places sub) word (map (record_of places) lines) ≡ is_reported sub word lines
 reported_named places sub word rising inside [] plain = refl
 reported_named places sub word rising inside (line ∷ lines) plain =
-    ap (λ (b : Bool). b || is_reported (slice_index places sub) word (map (record_of places) lines)) (reports_named places sub word rising inside line (All-head (IsPlainRecord (length places)) line lines plain))
-    ∙ ap (λ (b : Bool). reports sub word line || b) (reported_named places sub word rising inside lines (All-tail (IsPlainRecord (length places)) line lines plain))
+    let P = IsPlainRecord (length places) in
+    ap (λ (o : Option NumberNote). is_exhausted word o || is_reported (slice_index places sub) word (map (record_of places) lines)) (number_named places sub rising inside line (All-head P line lines plain))
+    ∙ ap (λ (b : Bool). reports sub word line || b) (reported_named places sub word rising inside lines (All-tail P line lines plain))
 
--- the entries of its verdict
-verdict_named : (places : List ℕ) (sub : ℕ) (before : List LineRecord) → AllPairs ◌<◌ places → sub < length places → ArePlainLines (length places) before → (answer : SyncVerdict)
-    → entries_of_verdict (slice_index places sub) (map (record_of places) before) answer ≡ entries_of_verdict sub before answer
-verdict_named places sub before rising inside earlier (verdict.Moved from to) = refl
-verdict_named places sub before rising inside earlier (verdict.InRange seen seq_ms) =
+-- the entry of its resynchronisation
+resync_entries : (places : List ℕ) (sub : ℕ) (before : List LineRecord) → AllPairs ◌<◌ places → sub < length places → ArePlainLines (length places) before → (note : Option ResyncNote)
+    → entries_of_resync (slice_index places sub) (map (record_of places) before) note ≡ entries_of_resync sub before note
+resync_entries places sub before rising inside earlier None = refl
+resync_entries places sub before rising inside earlier (Some (resync.Moved from to)) = refl
+resync_entries places sub before rising inside earlier (Some (resync.InRange seen seq)) =
     ap (λ (b : Bool). if b then [] else Look seen ∷ []) (reported_named places sub seen rising inside before earlier)
-verdict_named places sub before rising inside earlier (verdict.Beyond seen seq_ms) =
+resync_entries places sub before rising inside earlier (Some (resync.Beyond seen seq)) =
     ap (λ (b : Bool). if b then [] else Look seen ∷ []) (reported_named places sub seen rising inside before earlier)
-verdict_named places sub before rising inside earlier verdict.WrongMac = refl
+resync_entries places sub before rising inside earlier (Some resync.BadAuts) = refl
+
+-- of a number that was asked for
+number_entries : (places : List ℕ) (sub : ℕ) (before : List LineRecord) → AllPairs ◌<◌ places → sub < length places → ArePlainLines (length places) before → (note : Option NumberNote)
+    → entries_of_number (slice_index places sub) (map (record_of places) before) note ≡ entries_of_number sub before note
+number_entries places sub before rising inside earlier None = refl
+number_entries places sub before rising inside earlier (Some (number.Drew n)) = refl
+number_entries places sub before rising inside earlier (Some (number.Exhausted word)) =
+    ap (λ (b : Bool). if b then [] else Drawn (word + 1) ∷ []) (reported_named places sub word rising inside before earlier)
+number_entries places sub before rising inside earlier (Some (number.Withheld n stop)) = refl
 
 -- of its line
 line_named : (places : List ℕ) (sub : ℕ) (before : List LineRecord) → AllPairs ◌<◌ places → sub < length places → ArePlainLines (length places) before → (line : LineRecord) → IsPlainRecord (length places) line
     → entries_of_line (slice_index places sub) (map (record_of places) before) (record_of places line) ≡ entries_of_line sub before line
-line_named places sub before rising inside earlier (Vector s n) plain = ap (λ (b : Bool). if b then Drawn n ∷ [] else []) (same_place places s sub rising plain inside)
-line_named places sub before rising inside earlier (Withheld s n stop) plain = ap (λ (b : Bool). if b then Drawn n ∷ [] else []) (same_place places s sub rising plain inside)
-line_named places sub before rising inside earlier (Exhausted s word) plain =
-    ap (λ (b : Bool). if b then (if is_reported (slice_index places sub) word (map (record_of places) before) then [] else Drawn (word + 1) ∷ []) else []) (same_place places s sub rising plain inside)
-    ∙ ap (λ (b : Bool). if s == sub then (if b then [] else Drawn (word + 1) ∷ []) else []) (reported_named places sub word rising inside before earlier)
-line_named places sub before rising inside earlier (Sync s answer) plain =
-    ap (λ (b : Bool). if b then entries_of_verdict (slice_index places sub) (map (record_of places) before) answer else []) (same_place places s sub rising plain inside)
-    ∙ ap (λ (es : List Entry). if s == sub then es else []) (verdict_named places sub before rising inside earlier answer)
-line_named places sub before rising inside earlier (Give s n answer) plain = absurd plain
-line_named places sub before rising inside earlier (Further said) plain = absurd plain
-line_named places sub before rising inside earlier (Event r) plain = absurd plain
+line_named places sub before rising inside earlier line plain =
+    let place = slice_index places sub in
+    let wide = map (record_of places) before in
+    ap (λ (note : Option ResyncNote). entries_of_resync place wide note ++ entries_of_number place wide (number_by place (record_of places line))) (resync_named places sub rising inside line plain)
+    ∙ ap (λ (note : Option NumberNote). entries_of_resync place wide (resync_by sub line) ++ entries_of_number place wide note) (number_named places sub rising inside line plain)
+    ∙ ap (λ (es : List Entry). es ++ entries_of_number place wide (number_by sub line)) (resync_entries places sub before rising inside earlier (resync_by sub line))
+    ∙ ap (λ (es : List Entry). entries_of_resync sub before (resync_by sub line) ++ es) (number_entries places sub before rising inside earlier (number_by sub line))
 
 -- of its lines
 lines_named : (places : List ℕ) (sub : ℕ) (before : List LineRecord) → AllPairs ◌<◌ places → sub < length places → ArePlainLines (length places) before → (lines : List LineRecord) → ArePlainLines (length places) lines
@@ -259,14 +230,9 @@ drawn_named places jobs sub rising plain inside = ap (λ (es : List (List Entry)
 
 -- a line has none
 line_unnamed : (places : List ℕ) (sub : ℕ) (before : List LineRecord) → IsUnnamed places sub → (line : LineRecord) → IsPlainRecord (length places) line → entries_of_line sub before (record_of places line) ≡ []
-line_unnamed places sub before none (Vector s n) plain = ap (λ (b : Bool). if b then Drawn n ∷ [] else []) (other_place places s sub none plain)
-line_unnamed places sub before none (Withheld s n stop) plain = ap (λ (b : Bool). if b then Drawn n ∷ [] else []) (other_place places s sub none plain)
-line_unnamed places sub before none (Exhausted s word) plain =
-    ap (λ (b : Bool). if b then (if is_reported sub word before then [] else Drawn (word + 1) ∷ []) else []) (other_place places s sub none plain)
-line_unnamed places sub before none (Sync s answer) plain = ap (λ (b : Bool). if b then entries_of_verdict sub before answer else []) (other_place places s sub none plain)
-line_unnamed places sub before none (Give s n answer) plain = absurd plain
-line_unnamed places sub before none (Further said) plain = absurd plain
-line_unnamed places sub before none (Event r) plain = absurd plain
+line_unnamed places sub before none line plain =
+    ap (λ (note : Option ResyncNote). entries_of_resync sub before note ++ entries_of_number sub before (number_by sub (record_of places line))) (resync_unnamed places sub none line plain)
+    ∙ ap (entries_of_number sub before) (number_unnamed places sub none line plain)
 
 -- nor have lines
 lines_unnamed : (places : List ℕ) (sub : ℕ) (before : List LineRecord) → IsUnnamed places sub → (lines : List LineRecord) → ArePlainLines (length places) lines → entries_of_lines sub before (map (record_of places) lines) ≡ []

@@ -2,7 +2,7 @@
 use Rattle.std.proofs.Common.{◌≡◌, ℕ, ◌<◌, ◌^◌, ◌≢◌, List, [], length, map, All, AllPairs, get_or, slice_index, Option, Some, None, sym, ap, ◌∙◌, subst, ⊎_elim, arith}
 use Rattle.std.proofs.lemmas.List.{get_or-map, get_or_default, length-map}
 use Rattle.std.proofs.lemmas.List.Elements.{All-map, All-weaker}
-use Rattle.auc_edge.specs.declared.stop.Stop.{Stop}
+use Rattle.auc_memory.specs.declared.stop.Stop.{Stop}
 use Rattle.auc_history.proofs.Facts.{IsLegal-nil, cut_history_is_a_split}
 use Rattle.auc_history.specs.History.{IsLegal}
 use Rattle.auc_history.specs.Split.{Splits, all_entries}
@@ -34,10 +34,8 @@ words_at words places = map (λ place. slice_index words place) places
 
 -- a line about the subscriber of a place names the same cause
 names_named : (places : List ℕ) (stop : Stop) (line : LineRecord) → NamesStop stop line → NamesStop stop (record_of places line)
-names_named places stop (said.Vector s n) names = names
-names_named places stop (said.Withheld s n cause) names = names
-names_named places stop (said.Exhausted s word) names = names
-names_named places stop (said.Sync s answer) names = names
+names_named places stop (said.Number s note) names = names
+names_named places stop (said.Sync s note) names = names
 names_named places stop (said.Give s n answer) names = names
 names_named places stop (said.Further further) names = names
 names_named places stop (said.Event r) names = names

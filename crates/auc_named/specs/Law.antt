@@ -1,6 +1,6 @@
 -- A round of some of the subscribers is a round of all of them.
 use Rattle.std.specs.Prelude.{◌≡◌, ◌<◌, ◌^◌, ℕ, List, length, map, slice_index, Option}
-use Rattle.auc_edge.specs.declared.stop.Stop.{Stop}
+use Rattle.auc_memory.specs.declared.stop.Stop.{Stop}
 use Rattle.auc_lines.specs.declared.part.Line.{Line}
 use Rattle.auc_named.specs.Named.{AreNamed, put_words, round_of}
 use Rattle.auc_subs.specs.declared.row.Row.{Row}

@@ -42,10 +42,8 @@ lines_of places jobs = map (λ job. map (line_of places) job) jobs
 
 -- the same of what a plain line gave
 abbrev pub record_of : List ℕ → LineRecord → LineRecord
-record_of places (said.Vector sub n) = said.Vector (slice_index places sub) n
-record_of places (said.Withheld sub n stop) = said.Withheld (slice_index places sub) n stop
-record_of places (said.Exhausted sub word) = said.Exhausted (slice_index places sub) word
-record_of places (said.Sync sub verdict) = said.Sync (slice_index places sub) verdict
+record_of places (said.Number sub note) = said.Number (slice_index places sub) note
+record_of places (said.Sync sub note) = said.Sync (slice_index places sub) note
 record_of places (said.Give sub n verdict) = said.Give (slice_index places sub) n verdict
 record_of places (said.Further further) = said.Further further
 record_of places (said.Event event) = said.Event event

@@ -4,7 +4,7 @@ ghost use Rattle.std.specs.Prelude.{◌≡◌, ◌<◌, All, IfOk, length, map, 
 ghost use Rattle.auc_named.specs.Named.{closing_of, record_of, records_of};
 ghost use Rattle.auc_record.specs.Record.{IsBelow, subscriber_of};
 
-use auc_edge::{Items, NoMemory};
+use auc_memory::{Items, NoMemory};
 use auc_record::{Closing, JobRecord, LineRecord};
 use std::alloc::Global;
 
@@ -42,22 +42,13 @@ fn record_of_all(places: &[u32], line: LineRecord) -> LineRecord
     ensures { result ≡ record_of places.now line }
 {
     match line {
-        LineRecord::Vector { sub, n } => LineRecord::Vector {
+        LineRecord::Number { sub, note } => LineRecord::Number {
             sub: places[sub as usize],
-            n,
+            note,
         },
-        LineRecord::Withheld { sub, n, stop } => LineRecord::Withheld {
+        LineRecord::Sync { sub, note } => LineRecord::Sync {
             sub: places[sub as usize],
-            n,
-            stop,
-        },
-        LineRecord::Exhausted { sub, word } => LineRecord::Exhausted {
-            sub: places[sub as usize],
-            word,
-        },
-        LineRecord::Sync { sub, verdict } => LineRecord::Sync {
-            sub: places[sub as usize],
-            verdict,
+            note,
         },
         LineRecord::Give { sub, n, verdict } => LineRecord::Give {
             sub: places[sub as usize],

@@ -6,8 +6,8 @@ ghost use Rattle.auc_named.specs.InnerNaming.{IsAtAPlace, IsOwnLine};
 ghost use Rattle.auc_named.specs.Named.{is_plain, line_of, lines_of, sub_of};
 
 use crate::places::position;
-use auc_edge::{Items, NoMemory};
 use auc_lines::{JobPart, Line, Report};
+use auc_memory::{Items, NoMemory};
 use std::alloc::Global;
 
 /// Jobs over the subscribers at some places.

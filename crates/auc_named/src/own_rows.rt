@@ -3,7 +3,7 @@
 ghost use Rattle.std.specs.Prelude.{◌<◌, All, AllPairs, IfOk, length};
 ghost use Rattle.auc_named.specs.Named.{AreAt};
 
-use auc_edge::NoMemory;
+use auc_memory::NoMemory;
 use auc_subs::Subscribers;
 use std::alloc::Global;
 

@@ -4,8 +4,8 @@ ghost use Rattle.std.specs.Prelude.{◌≡◌, ◌<◌, ◌++◌, All, AllPairs,
 ghost use Rattle.auc_named.specs.InnerNaming.{ArePlacesOf};
 ghost use Rattle.auc_named.specs.Named.{ArePlain, is_plain, sub_of, subs_of};
 
-use auc_edge::NoMemory;
 use auc_lines::{JobPart, Line};
+use auc_memory::NoMemory;
 use std::alloc::Global;
 
 /// The places of the subscribers that the plain lines of jobs name, each once, in their order.

@@ -5,7 +5,7 @@ ghost use Rattle.auc_draw.specs.Book.{IsOf};
 ghost use Rattle.auc_draw.specs.Pass.{EndsAbove};
 
 use auc_draw::{Book, Draw, Jump, KeeperPass, Pass, Release};
-use auc_edge::Stop;
+use auc_memory::Stop;
 use auc_sqn::MAX_SEQ;
 use std::alloc::Global;
 use std::process::Abort;

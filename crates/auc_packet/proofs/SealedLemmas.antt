@@ -16,7 +16,7 @@ use Rattle.auc_attr.specs.Mac.{mac_from, IsMacOf, IsMacPlace}
 use Rattle.auc_attr.specs.Spelling.{item_text, texts, spelling, shape_text, writable, writable_from, may_follow, may_stand_row, stands_in, fits_item, fits}
 use Rattle.auc_attr.specs.Table.{row_of}
 use Rattle.auc_attr.proofs.Facts.{and_from, and_parts, frame_again, one_place}
-use Rattle.auc_edge.specs.Reserved.{Reserved, wrote}
+use Rattle.auc_memory.specs.Reserved.{Reserved, wrote}
 use Rattle.auc_hmac.specs.Mac.{no_mac, mac_value, mac_of, mac_at}
 use Rattle.auc_hmac.proofs.Facts.{length-mac_of}
 use Rattle.auc_packet.specs.declared.received.Reading.TheVariants as reading

@@ -1,8 +1,7 @@
 -- Bytes and the packet that they are: EAP (RFC 3748 §4 and §5.1), EAP-AKA (RFC 4187 §8.1) and EAP-AKA'
 -- (RFC 9048 §3). Reserved bytes, fill and the bytes after Length are free.
 use Rattle.std.specs.Prelude.{ℕ, true, false, List}
-use Rattle.auc_hmac.specs.declared.method.Method.{Method}
-use Rattle.auc_hmac.specs.declared.method.Method.TheVariants as method
+pub use Rattle.auc_hmac.specs.Method.{method_type}
 use Rattle.auc_attr.specs.declared.frame.FrameFault.TheVariants as faults
 use Rattle.auc_attr.specs.Frame.{Ended, Named, Message, IsFramed}
 use Rattle.auc_attr.specs.Grammar.{ReadsAttrs}
@@ -13,11 +12,6 @@ use Rattle.auc_packet.specs.declared.refusal.PacketRefusal.{PacketRefusal}
 use Rattle.auc_packet.specs.declared.refusal.PacketRefusal.TheVariants as refusal
 use Rattle.auc_packet.specs.declared.subtype.Subtype.{Subtype}
 use Rattle.auc_packet.specs.declared.subtype.Subtype.TheVariants as subtype
-
--- the type of a method
-abbrev pub method_type : Method → ℕ
-method_type method.Aka = 23
-method_type method.Prime = 50
 
 -- the number of a Subtype (RFC 4187 §11)
 abbrev pub subtype_number : Subtype → ℕ

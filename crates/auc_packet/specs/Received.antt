@@ -1,10 +1,12 @@
 -- Bytes as they were received: what they are, and whether the value of their AT_MAC is right.
-use Rattle.std.specs.Prelude.{◌≡◌, ◌≢◌, ℕ, Bool, true, false, List, Option, Some, None}
+use Rattle.std.specs.Prelude.{◌≡◌, ◌≢◌, ℕ, nat_lt, Bool, true, false, if◌then◌else◌, List, [], length, take, Option, Some, None}
 use Rattle.std.specs.Str.{bytes_eq}
 use Rattle.auc_attr.specs.Frame.{length_of}
+use Rattle.auc_attr.specs.declared.attr.Attr.{Attr}
 use Rattle.auc_attr.specs.Mac.{IsMacPlace}
 use Rattle.auc_hmac.specs.Mac.{mac_value, mac_at}
 use Rattle.auc_hmac.specs.declared.method.Method.{Method}
+use Rattle.auc_packet.specs.declared.packet.Packet.TheVariants as packet
 use Rattle.auc_packet.specs.declared.received.Reading.{Reading}
 use Rattle.auc_packet.specs.declared.received.Reading.TheVariants as reading
 use Rattle.auc_packet.specs.declared.received.Received.{Received}
@@ -14,8 +16,17 @@ use Rattle.auc_packet.specs.Packet.{ReadsPacket, FirstPacketFault}
 
 -- a packet whose numbers have 16 bits, or the first fault, which isn't a lack of memory
 abbrev pub IsReading : List ℕ → Reading → Type 0
-IsReading bytes (reading.Read packet) = ReadsPacket bytes packet × (has_values packet ≡ true)
+IsReading bytes (reading.Read p) = ReadsPacket bytes p × (has_values p ≡ true)
 IsReading bytes (reading.Fault fault) = FirstPacketFault bytes fault × (fault ≢ refusal.NoMemory)
+
+-- the attributes of a message; another packet has none
+abbrev pub attrs_in : Reading → List Attr
+attrs_in (reading.Read (packet.Aka request id m s list)) = list
+attrs_in other = []
+
+-- the packet at the front of received bytes, as long as Length says; a packet has at least 4 bytes
+abbrev pub packet_in : List ℕ → List ℕ
+packet_in bytes = if nat_lt (length bytes) 4 then bytes else take (length_of bytes) bytes
 
 -- bytes, what they are, and the place of the value of their AT_MAC
 pub record Seen : Type 0 where

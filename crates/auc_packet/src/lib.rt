@@ -2,7 +2,8 @@
 //!
 //! [`read_packet`] reads bytes as a packet, or reports their first fault: each fault has a condition of its own,
 //! listed in their order in `auc_attr`'s `specs/Frame` and `specs/Fault`. [`head`] reads code, Identifier and
-//! type alone. [`receive`] takes bytes as one value, and [`is_sealed`] tells whether their AT_MAC is right.
+//! type alone. [`receive`] takes bytes as one value, [`attrs_in`] gives the attributes of what was received, and
+//! [`is_sealed`] tells whether its AT_MAC is right. [`packet_in`] leaves the bytes after Length out.
 //! [`write_packet`] writes the one spelling of a packet, [`put_packet`] does so into memory that was taken
 //! before, and [`put_sealed`] with the right AT_MAC. [`is_malformed`] and [`is_missing`] test a message's types.
 //!
@@ -31,7 +32,7 @@ pub use law::{
 pub use messages::{is_malformed, is_missing};
 pub use packet::{Head, Packet};
 pub use reading::read_packet;
-pub use received::{Reading, Received, is_sealed, receive};
+pub use received::{Reading, Received, attrs_in, is_sealed, packet_in, receive};
 pub use refusal::PacketRefusal;
 pub use sealing::{Draft, put_sealed};
 pub use subtype::Subtype;

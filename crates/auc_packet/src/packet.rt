@@ -2,8 +2,8 @@
 
 use crate::subtype::Subtype;
 use auc_attr::AttrList;
-use auc_edge::Octets;
 use auc_hmac::Method;
+use auc_memory::Octets;
 
 /// A packet of EAP with the contents that EAP-AKA and EAP-AKA' have.
 #[derive(Drop)]

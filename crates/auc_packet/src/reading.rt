@@ -12,7 +12,7 @@ use crate::packet::Packet;
 use crate::refusal::PacketRefusal;
 use crate::subtype::{method_of, subtype_of};
 use auc_attr::{AttrRefusal, FrameFault, Framed, read_attrs, read_frame};
-use auc_edge::Octets;
+use auc_memory::Octets;
 use std::alloc::Global;
 
 /// The packet that bytes are, or their first fault: one of EAP (RFC 3748 §4), else one of the method (RFC 4187

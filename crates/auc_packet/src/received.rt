@@ -3,14 +3,14 @@
 ghost use Rattle.std.specs.Prelude.{◌≡◌, ℕ, List, Some, IfOk};
 ghost use Rattle.auc_attr.specs.Mac.{IsMacPlace};
 ghost use Rattle.auc_packet.specs.Packet.{FirstPacketFault};
-ghost use Rattle.auc_packet.specs.Received.{IsReading, IsReceived, is_sealed, is_sealed_at, seen_of};
+ghost use Rattle.auc_packet.specs.Received.{IsReading, IsReceived, attrs_in, is_sealed, is_sealed_at, packet_in, seen_of};
 
 use crate::packet::Packet;
 use crate::reading::read_packet;
 use crate::refusal::PacketRefusal;
-use auc_attr::{length_of, mac_place};
-use auc_edge::NoMemory;
+use auc_attr::{Attr, length_of, mac_place};
 use auc_hmac::{Method, mac_at, piece_of};
+use auc_memory::NoMemory;
 use std::alloc::Global;
 
 /// What bytes are.
@@ -64,6 +64,30 @@ fn reading_of(fault: PacketRefusal) -> Result<Reading, NoMemory>
         PacketRefusal::NoMemory => Err(NoMemory),
         _ => Ok(Reading::Fault(fault)),
     }
+}
+
+/// The attributes of a message; another packet has none.
+pub fn attrs_in(reading: &Reading) -> &[Attr]
+    ensures { result.now ≡ attrs_in reading.now }
+{
+    match reading {
+        Reading::Read(Packet::Aka { attrs, .. }) => attrs.as_slice(),
+        _ => &[],
+    }
+}
+
+/// The packet at the front of received bytes, as long as Length says; all bytes if there are no more.
+pub fn packet_in(bytes: &[u8]) -> &[u8]
+    ensures { result.now ≡ packet_in bytes.now }
+{
+    if bytes.len() < 4 {
+        return bytes;
+    }
+    let size = length_of(bytes);
+    if bytes.len() <= size {
+        return bytes;
+    }
+    &bytes[..size]
 }
 
 /// Whether received bytes have AT_MAC, and its value is right (RFC 4187 §10.15, RFC 9048 §3.4.2). The message

@@ -4,7 +4,7 @@ ghost use Rattle.std.specs.Prelude.{◌≡◌, ℕ, List};
 ghost use Rattle.auc_packet.specs.declared.refusal.PacketRefusal.TheVariants as refusal;
 
 use auc_attr::{AttrRefusal, FrameFault};
-use auc_edge::NoMemory;
+use auc_memory::NoMemory;
 
 /// The first fault of bytes that are read as a packet.
 #[derive(Clone, Copy, Debug, PartialEq, Eq)]

@@ -2,17 +2,17 @@
 
 ghost use Rattle.std.specs.Prelude.{◌≡◌, ◌+◌, ◌≤◌, ◌++◌, [], length, true, IsTrue, ◌↔◌};
 ghost use Rattle.auc_attr.specs.Spelling.{spelling, writable};
-ghost use Rattle.auc_edge.specs.Reserved.{wrote};
+ghost use Rattle.auc_memory.specs.Reserved.{wrote};
 ghost use Rattle.auc_hmac.specs.Mac.{mac_of, no_mac};
 ghost use Rattle.auc_packet.specs.InnerSealed.{front_of};
 ghost use Rattle.auc_packet.specs.Sealed.{MayBeSealed, sealed, with_mac};
 ghost use Rattle.auc_packet.specs.Spelling.{packet_text};
 
-use crate::subtype::{Subtype, method_type, subtype_number};
+use crate::subtype::{Subtype, subtype_number};
 use crate::writing::{message_code, put_head};
 use auc_attr::{AttrList, put_attrs};
-use auc_edge::Room;
-use auc_hmac::{MacInput, Method, mac_of};
+use auc_hmac::{MacInput, Method, mac_of, method_type};
+use auc_memory::Room;
 
 /// A message that is to be sealed: all that it has but its AT_MAC, which comes after its attributes.
 #[derive(Drop)]

@@ -5,7 +5,7 @@ ghost use Rattle.std.specs.Option.{is_some};
 ghost use Rattle.auc_attr.specs.Frame.{is_method, is_subtype};
 ghost use Rattle.auc_packet.specs.Packet.{method_type, subtype_number};
 
-use auc_hmac::Method;
+use auc_hmac::{Method, method_type};
 
 /// What a message of EAP-AKA or EAP-AKA' is (RFC 4187 §9 and §11).
 #[derive(Clone, Copy, Debug, PartialEq, Eq)]
@@ -63,19 +63,11 @@ pub fn method_of(kind: u8) -> Option<Method>
     ensures value { IfSome result (λ method. method_type method ≡ kind) }
     ensures exact { is_some result ≡ is_method kind }
 {
-    match kind {
-        23 => Some(Method::Aka),
-        50 => Some(Method::Prime),
-        _ => None,
-    }
-}
-
-/// The type of a method in a packet.
-pub fn method_type(method: Method) -> u8
-    ensures { result ≡ method_type method }
-{
-    match method {
-        Method::Aka => 23,
-        Method::Prime => 50,
+    if kind == method_type(Method::Aka) {
+        Some(Method::Aka)
+    } else if kind == method_type(Method::Prime) {
+        Some(Method::Prime)
+    } else {
+        None
     }
 }

@@ -3,13 +3,14 @@
 ghost use Rattle.std.specs.Prelude.{◌≡◌, ◌+◌, ◌≤◌, ◌++◌, length, IsTrue, ◌↔◌, OnOk, OnErr, [], ◌∷◌};
 ghost use Rattle.std.specs.Int.{w16, to_be_bytes};
 ghost use Rattle.auc_attr.specs.Frame.{end_code, message_code};
-ghost use Rattle.auc_edge.specs.Reserved.{wrote};
+ghost use Rattle.auc_memory.specs.Reserved.{wrote};
 ghost use Rattle.auc_packet.specs.Spelling.{packet_text, whole, MayBeWritten};
 
 use crate::packet::Packet;
-use crate::subtype::{method_type, subtype_number};
+use crate::subtype::subtype_number;
 use auc_attr::put_attrs;
-use auc_edge::{NoMemory, Octets, Room};
+use auc_hmac::method_type;
+use auc_memory::{NoMemory, Octets, Room};
 
 /// Appends a packet to `out`, with zeros as reserved bytes and fill. If memory runs out, `out` stays as it was.
 pub fn write_packet(packet: &Packet, out: &mut Octets) -> Result<(), NoMemory>

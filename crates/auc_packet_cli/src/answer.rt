@@ -3,7 +3,7 @@
 ghost use Rattle.std.specs.Prelude.{◌≤◌, length, IfOk};
 ghost use Rattle.auc_packet_cli.specs.Answer.{IsAnswer};
 
-use auc_edge::{NoMemory, Octets};
+use auc_memory::{NoMemory, Octets};
 use auc_packet::{Packet, PacketRefusal, read_packet, write_packet};
 use std::alloc::Global;
 

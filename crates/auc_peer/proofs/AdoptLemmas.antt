@@ -8,7 +8,7 @@ use Rattle.auc_hmac.specs.declared.keys.Master.{Master}
 use Rattle.auc_hmac.specs.declared.method.Method.{Method}
 use Rattle.auc_packet.specs.Received.{Seen, is_sealed}
 use Rattle.auc_peer.specs.Asking.{answer_noted}
-use Rattle.auc_peer.specs.Attributes.{checkcode, differs}
+use Rattle.auc_peer.specs.Attributes.{checkcode}
 use Rattle.auc_peer.specs.Identities.{context_or}
 use Rattle.auc_peer.specs.Laws.{AcceptedIsOfTheContext, Adopted, Counted, EachTurnAdopts, MayResume}
 use Rattle.auc_peer.specs.Rows.{peer_row}
@@ -22,6 +22,7 @@ use Rattle.auc_peer.specs.declared.peer.PeerState.{PeerState}
 use Rattle.auc_peer.specs.declared.peer.PeerState.TheVariants as state
 use Rattle.auc_peer.specs.declared.rows.Row.{Row}
 use Rattle.auc_peer.specs.declared.rows.Row.TheVariants as row
+use Rattle.auc_seal.specs.Checkcode.{differs}
 use Rattle.auc_vector.specs.declared.why.PeerWhy.{PeerWhy}
 use Rattle.auc_vector.specs.declared.why.PeerWhy.TheVariants as why
 use Rattle.auc_ident.specs.Permanent.{username}

@@ -4,9 +4,10 @@ use Rattle.auc_hmac.specs.declared.keys.KeySet.{KeySet}
 use Rattle.auc_hmac.specs.declared.keys.Master.{Master}
 use Rattle.auc_packet.specs.Received.{Seen, is_sealed}
 use Rattle.auc_milenage.specs.Milenage.{f2, f3, f4}
+use Rattle.auc_seal.specs.Checkcode.{differs}
 use Rattle.auc_usim.specs.Usim.{acceptance, sqn_in}
 use Rattle.auc_peer.specs.Laws.{Fits, keys_of_inputs, EachTurnFits}
-use Rattle.auc_peer.specs.Attributes.{checkcode, differs}
+use Rattle.auc_peer.specs.Attributes.{checkcode}
 use Rattle.auc_peer.specs.Subscription.{Subscription}
 use Rattle.auc_peer.specs.Rows.{peer_row}
 use Rattle.auc_peer.specs.Table.{accepted, accepting, challenged, client, genuine, master_at, network_in, opened, own_code, peer_does, reauthenticated, resuming, succeeded, text_or_none, with_inner}

@@ -7,7 +7,7 @@ use Rattle.auc_attr.specs.declared.attr.Attr.TheVariants as attr
 use Rattle.auc_attr.specs.Item.{item}
 use Rattle.auc_attr.specs.Spelling.{writable, spelling, item_text, shape_text, fill, fits_item, fits}
 use Rattle.auc_attr.specs.Table.{row_of}
-use Rattle.auc_edge.specs.Reserved.{Reserved, wrote}
+use Rattle.auc_memory.specs.Reserved.{Reserved, wrote}
 use Rattle.auc_hmac.specs.Mac.{no_mac}
 use Rattle.auc_hmac.specs.declared.method.Method.{Method}
 use Rattle.auc_hmac.specs.declared.method.Method.TheVariants as method

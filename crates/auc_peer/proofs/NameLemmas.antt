@@ -11,7 +11,7 @@ use Rattle.auc_hmac.specs.declared.method.Method.TheVariants as method
 use Rattle.auc_packet.specs.Head.{head_at}
 use Rattle.auc_packet.specs.Messages.{is_malformed, is_missing}
 use Rattle.auc_packet.specs.Packet.{method_type}
-use Rattle.auc_packet.specs.Received.{Seen, is_sealed}
+use Rattle.auc_packet.specs.Received.{Seen, attrs_in, is_sealed}
 use Rattle.auc_packet.specs.declared.packet.Head.{Head}
 use Rattle.auc_packet.specs.declared.packet.Packet.TheVariants as packet
 use Rattle.auc_packet.specs.declared.received.Reading.{Reading}
@@ -20,7 +20,7 @@ use Rattle.auc_packet.specs.declared.subtype.Subtype.{Subtype}
 use Rattle.auc_packet.specs.declared.subtype.Subtype.TheVariants as subtype
 use Rattle.auc_request.specs.Request.{autn_of, bids, first_code, first_kdf, first_value, has_bytes, is_known_kdf, is_right_name, is_separated, name_in, rand_of, request_in}
 use Rattle.auc_peer.specs.Asking.{answer_noted}
-use Rattle.auc_peer.specs.Attributes.{attrs_in, checkcode, differs}
+use Rattle.auc_peer.specs.Attributes.{checkcode}
 use Rattle.auc_peer.specs.Laws.{EachTurnIsNamed, Named}
 use Rattle.auc_peer.specs.Rows.{challenge_of, is_last, is_response, late, method_row, notified_or, of_kind, on_failure, on_sound, on_success, peer_row, repeats, requested, row_headed, row_in, waiting}
 use Rattle.auc_peer.specs.Subscription.{Subscription}
@@ -36,6 +36,7 @@ use Rattle.auc_peer.specs.declared.peer.PeerState.{PeerState}
 use Rattle.auc_peer.specs.declared.peer.PeerState.TheVariants as state
 use Rattle.auc_peer.specs.declared.rows.Row.{Row}
 use Rattle.auc_peer.specs.declared.rows.Row.TheVariants as row
+use Rattle.auc_seal.specs.Checkcode.{differs}
 use Rattle.auc_vector.specs.declared.why.PeerWhy.{PeerWhy}
 use Rattle.auc_vector.specs.declared.why.PeerWhy.TheVariants as why
 use Rattle.auc_usim.specs.declared.answer.Answer.{Answer}

@@ -10,12 +10,11 @@ use Rattle.auc_attr.specs.Laws.{AreBytes}
 use Rattle.auc_attr.specs.Spelling.{fits, fits_item, may_follow, may_stand_row, stands_in, writable_from}
 use Rattle.auc_attr.specs.Table.{row_of}
 use Rattle.auc_packet.specs.Laws.{ReadIsWritable}
-use Rattle.auc_packet.specs.Received.{IsReading, IsReceived, Seen}
+use Rattle.auc_packet.specs.Received.{IsReading, IsReceived, Seen, attrs_in}
 use Rattle.auc_packet.specs.declared.packet.Packet.TheVariants as packet
 use Rattle.auc_packet.specs.declared.received.Reading.{Reading}
 use Rattle.auc_packet.specs.declared.received.Reading.TheVariants as reading
 use Rattle.auc_request.specs.Request.{first_value, name_in, name_of, text_or_none}
-use Rattle.auc_peer.specs.Attributes.{attrs_in}
 
 -- the name in an attribute that may be written
 attr_name : (a : Attr) → fits_item (item_of a) ≡ true → length (text_or_none (name_of a)) ≤ 1016

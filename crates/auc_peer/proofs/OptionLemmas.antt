@@ -4,7 +4,7 @@ use Rattle.auc_hmac.specs.declared.keys.KeySet.{KeySet}
 use Rattle.auc_hmac.specs.declared.keys.Master.{Master}
 use Rattle.auc_packet.specs.Received.{Seen, is_sealed}
 use Rattle.auc_peer.specs.Asking.{answer_noted}
-use Rattle.auc_peer.specs.Attributes.{checkcode, differs}
+use Rattle.auc_peer.specs.Attributes.{checkcode}
 use Rattle.auc_peer.specs.Subscription.{Subscription}
 use Rattle.auc_peer.specs.Table.{accepted, accepting, by_answer, challenged, client, gave_up, genuine, keys_at, master_at, opened, own_code, peer_does, succeeded}
 use Rattle.auc_peer.specs.declared.decrypted.Decrypted.{Decrypted}
@@ -16,6 +16,7 @@ use Rattle.auc_peer.specs.declared.peer.PeerState.{PeerState}
 use Rattle.auc_peer.specs.declared.peer.PeerState.TheVariants as state
 use Rattle.auc_peer.specs.declared.rows.Row.{Row}
 use Rattle.auc_peer.specs.declared.rows.Row.TheVariants as row
+use Rattle.auc_seal.specs.Checkcode.{differs}
 use Rattle.auc_vector.specs.declared.why.PeerWhy.{PeerWhy}
 use Rattle.auc_vector.specs.declared.why.PeerWhy.TheVariants as why
 use Rattle.auc_usim.specs.declared.answer.Answer.{Answer}

@@ -8,7 +8,7 @@ use Rattle.auc_hmac.specs.declared.method.Method.{Method}
 use Rattle.auc_hmac.specs.declared.method.Method.TheVariants as method
 use Rattle.auc_packet.specs.Received.{Seen, is_sealed}
 use Rattle.auc_peer.specs.Asking.{answer_noted}
-use Rattle.auc_peer.specs.Attributes.{checkcode, differs}
+use Rattle.auc_peer.specs.Attributes.{checkcode}
 use Rattle.auc_peer.specs.Identities.{renamed, under, with_next_context, with_next_pseudonym}
 use Rattle.auc_peer.specs.Places.{EachTurnIsOfMethod, EachTurnLeavesTheOther, EachTurnMovesOnce, IsOfMethod, MovesOnce, Originates, Shows, place_in, place_of}
 use Rattle.auc_peer.specs.Rows.{peer_row}
@@ -24,6 +24,7 @@ use Rattle.auc_peer.specs.declared.peer.PeerState.{PeerState}
 use Rattle.auc_peer.specs.declared.peer.PeerState.TheVariants as state
 use Rattle.auc_peer.specs.declared.rows.Row.{Row}
 use Rattle.auc_peer.specs.declared.rows.Row.TheVariants as row
+use Rattle.auc_seal.specs.Checkcode.{differs}
 use Rattle.auc_vector.specs.declared.why.PeerWhy.{PeerWhy}
 use Rattle.auc_vector.specs.declared.why.PeerWhy.TheVariants as why
 use Rattle.auc_reauth.specs.Device.{Keeps, accepting as accepting_counter, is_open, with_accepted, with_context}

@@ -3,7 +3,7 @@ use Rattle.std.proofs.Common.{ℕ, true, false, not, List, [], Some, refl}
 use Rattle.auc_hmac.specs.declared.keys.KeySet.{KeySet}
 use Rattle.auc_hmac.specs.declared.keys.Master.{Master}
 use Rattle.auc_packet.specs.Received.{Seen, is_sealed}
-use Rattle.auc_peer.specs.Attributes.{checkcode, differs}
+use Rattle.auc_peer.specs.Attributes.{checkcode}
 use Rattle.auc_peer.specs.Peer.{PeerEnd}
 use Rattle.auc_peer.specs.Table.{accepted, accepting, by_answer, client, genuine, keys_at, master_at, opened, own_code, reauthenticated, succeeded}
 use Rattle.auc_peer.specs.Turn.{SendsLast}
@@ -12,6 +12,7 @@ use Rattle.auc_peer.specs.declared.decrypted.Decrypted.TheVariants as decrypted
 use Rattle.auc_peer.specs.declared.peer.Challenge.{Challenge}
 use Rattle.auc_peer.specs.declared.peer.PeerState.{PeerState}
 use Rattle.auc_peer.specs.declared.peer.PeerState.TheVariants as state
+use Rattle.auc_seal.specs.Checkcode.{differs}
 use Rattle.auc_vector.specs.declared.why.PeerWhy.{PeerWhy}
 use Rattle.auc_vector.specs.declared.why.PeerWhy.TheVariants as why
 use Rattle.auc_reauth.specs.Device.{Keeps}

@@ -6,12 +6,12 @@ use Rattle.auc_attr.specs.Item.{Item}
 use Rattle.auc_attr.specs.Laws.{OneWalk}
 use Rattle.auc_attr.specs.Value.{IsValueIn, value_of}
 use Rattle.auc_packet.specs.Messages.{is_missing}
-use Rattle.auc_packet.specs.Received.{Seen, OneReceived, is_sealed}
+use Rattle.auc_packet.specs.Received.{Seen, OneReceived, attrs_in, is_sealed}
 use Rattle.auc_packet.specs.declared.subtype.Subtype.TheVariants as subtype
 use Rattle.auc_request.specs.Request.{Gives, Has, block_in, next_name, number_in}
 use Rattle.auc_request.specs.declared.enclosed.Enclosed.{Enclosed}
 use Rattle.auc_peer.specs.Asking.{answer_noted}
-use Rattle.auc_peer.specs.Attributes.{attrs_in, checkcode, differs}
+use Rattle.auc_peer.specs.Attributes.{checkcode}
 use Rattle.auc_peer.specs.Laws.{EqualTurnsAreOne}
 use Rattle.auc_peer.specs.declared.decrypted.Decrypted.{Decrypted}
 use Rattle.auc_peer.specs.declared.decrypted.Decrypted.TheVariants as decrypted
@@ -25,6 +25,7 @@ use Rattle.auc_peer.specs.declared.peer.Challenge.{Challenge}
 use Rattle.auc_peer.specs.Peer.{PeerEnd}
 use Rattle.auc_peer.specs.declared.rows.Row.{Row}
 use Rattle.auc_peer.specs.declared.rows.Row.TheVariants as row
+use Rattle.auc_seal.specs.Checkcode.{differs}
 use Rattle.auc_vector.specs.declared.why.PeerWhy.{PeerWhy}
 use Rattle.auc_vector.specs.declared.why.PeerWhy.TheVariants as why
 use Rattle.auc_seal.specs.Laws.{OneOpening}

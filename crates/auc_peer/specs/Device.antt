@@ -1,6 +1,6 @@
 -- What a subscriber's device holds.
 use Rattle.std.specs.Prelude.{ℕ, List}
-use Rattle.auc_edge.specs.Identity.{Identity}
+use Rattle.auc_memory.specs.Identity.{Identity}
 use Rattle.auc_reauth.specs.Device.{Keeps}
 use Rattle.auc_usim.specs.Usim.{Memory}
 

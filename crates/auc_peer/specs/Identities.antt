@@ -2,8 +2,8 @@
 use Rattle.std.specs.Prelude.{◌≤◌, ℕ, List, length, Option, Some, None, if◌then◌else◌}
 use Rattle.std.specs.Str.{bytes_eq}
 use Rattle.auc_hmac.specs.declared.method.Method.{Method}
-use Rattle.auc_ident.specs.Permanent.{permanent_text}
-use Rattle.auc_peer.specs.Subscription.{Subscription, identity_text, with_realm}
+use Rattle.auc_ident.specs.Permanent.{permanent_text, with_realm}
+use Rattle.auc_peer.specs.Subscription.{Subscription, identity_text}
 use Rattle.auc_peer.specs.declared.identity.FirstIdentity.{FirstIdentity}
 use Rattle.auc_peer.specs.declared.identity.FirstIdentity.TheVariants as first
 use Rattle.auc_request.specs.declared.identities.IdentityRequest.{IdentityRequest}

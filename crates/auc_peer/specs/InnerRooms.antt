@@ -3,7 +3,7 @@ use Rattle.std.specs.Prelude.{◌≡◌, ℕ, ◌≤◌, Bool, List, [], length}
 use Rattle.auc_aes.specs.Cbc.{cbc_encrypted}
 use Rattle.auc_attr.specs.Spelling.{spelling}
 use Rattle.auc_attr.specs.declared.attr.Attr.{Attr}
-use Rattle.auc_edge.specs.Reserved.{Reserved}
+use Rattle.auc_memory.specs.Reserved.{Reserved}
 use Rattle.auc_hmac.specs.Mac.{no_mac}
 use Rattle.auc_packet.specs.Sealed.{with_mac}
 use Rattle.auc_packet.specs.Spelling.{MayBeWritten, packet_text}

@@ -1,8 +1,8 @@
 -- What a peer takes from its device beside the USIM's index array. No turn changes it.
-use Rattle.std.specs.Prelude.{ℕ, List, [], ◌∷◌, ◌++◌}
-use Rattle.auc_edge.specs.Identity.{Identity}
+use Rattle.std.specs.Prelude.{ℕ, List}
+use Rattle.auc_memory.specs.Identity.{Identity}
 use Rattle.auc_hmac.specs.declared.method.Method.{Method}
-use Rattle.auc_ident.specs.Permanent.{permanent_text}
+use Rattle.auc_ident.specs.Permanent.{permanent_text, with_realm}
 use Rattle.auc_milenage.specs.declared.secret.Secret.{Secret}
 use Rattle.auc_peer.specs.Device.{DeviceState}
 
@@ -14,11 +14,6 @@ pub record Subscription : Type 0 where
 
 abbrev pub subscription_of : DeviceState → Subscription
 subscription_of device = record { imsi = device.imsi; realm = device.realm; secret = device.usim.secret }
-
--- a username, followed by `@` and the realm if there is one (RFC 4187 §4.1.1.5)
-abbrev pub with_realm : List ℕ → List ℕ → List ℕ
-with_realm text [] = text
-with_realm text (letter ∷ letters) = text ++ 64 ∷ letter ∷ letters
 
 -- the permanent identity of a method (RFC 4187 §4.1.1.6, RFC 9048 §5.1)
 abbrev pub identity_text : Method → Subscription → List ℕ

@@ -1,5 +1,5 @@
 -- The peer's table: what each row does. The second part of a row's pair is its turn.
-use Rattle.std.specs.Prelude.{ℕ, ◌+◌, ◌%◌, ◌^◌, not, Bool, true, false, List, [], ◌∷◌, Option, Some, None, if◌then◌else◌}
+use Rattle.std.specs.Prelude.{ℕ, not, Bool, true, false, List, [], ◌∷◌, Option, Some, None, if◌then◌else◌}
 use Rattle.std.specs.Int.{w64, from_be_bytes}
 use Rattle.auc_attr.specs.declared.attr.Attr.{Attr}
 use Rattle.auc_hmac.specs.declared.keys.KeySet.{KeySet}
@@ -8,11 +8,11 @@ use Rattle.auc_hmac.specs.declared.method.Method.{Method}
 use Rattle.auc_hmac.specs.declared.method.Method.TheVariants as method
 use Rattle.auc_ident.specs.Permanent.{username}
 use Rattle.auc_packet.specs.Messages.{is_missing}
-use Rattle.auc_packet.specs.Received.{Seen, is_sealed}
+use Rattle.auc_packet.specs.Received.{Seen, attrs_in, is_sealed, packet_in}
 use Rattle.auc_packet.specs.Spelling.{packet_text}
 use Rattle.auc_packet.specs.declared.subtype.Subtype.TheVariants as subtype
 use Rattle.auc_peer.specs.Asking.{answer_noted}
-use Rattle.auc_peer.specs.Attributes.{attrs_in, checkcode, differs, id_of, is_there, packet_in}
+use Rattle.auc_peer.specs.Attributes.{checkcode, id_of, is_there}
 use Rattle.auc_request.specs.Request.{name_in}
 pub use Rattle.auc_request.specs.Request.{text_or_none}
 use Rattle.auc_peer.specs.Identities.{adopted, asked_text, first_text}
@@ -34,12 +34,12 @@ use Rattle.auc_peer.specs.declared.rows.Row.{Row}
 use Rattle.auc_peer.specs.declared.rows.Row.TheVariants as row
 use Rattle.auc_vector.specs.declared.why.PeerWhy.{PeerWhy}
 use Rattle.auc_vector.specs.declared.why.PeerWhy.TheVariants as why
-use Rattle.auc_random.specs.Random.{nonce_of}
+use Rattle.auc_random.specs.Random.{index_after, nonce_of}
 use Rattle.auc_reauth.specs.Device.{Keeps, is_open, with_accepted}
 use Rattle.auc_reauth.specs.Server.{if_named}
 use Rattle.auc_reauth.specs.Store.{entry}
 use Rattle.auc_reauth.specs.declared.context.Context.{Context}
-use Rattle.auc_seal.specs.Checkcode.{checkcode_of, counted, value_bytes}
+use Rattle.auc_seal.specs.Checkcode.{checkcode_of, counted, differs, value_bytes}
 use Rattle.auc_usim.specs.declared.answer.Answer.{Answer}
 use Rattle.auc_usim.specs.declared.answer.Answer.TheVariants as answer
 use Rattle.auc_vector.specs.Keys.{ck_by, ik_by, keys_of, master_of, reauth_keys_of}
@@ -248,12 +248,9 @@ context_of keeps p = context_named p.identity (entry p.options.method keeps.cont
 abbrev pub resuming : PeerEnd → Context → PeerEnd
 resuming p c = record p { source = source.Context c }
 
--- the index of the next initialisation vector; the indices count modulo 2^32
-abbrev pub iv_after : ℕ → ℕ
-iv_after k = (k + 2) % 2 ^ 32
-
+-- an initialisation vector was used
 abbrev pub iv_used : PeerEnd → PeerEnd
-iv_used p = record p { next_iv = iv_after p.next_iv }
+iv_used p = record p { next_iv = index_after p.next_iv }
 
 -- the response to a counter, which may be too small
 abbrev pub counter_bytes : List ℕ → PeerEnd → Seen → Context → List ℕ → ℕ → Bool → List ℕ

@@ -1,12 +1,12 @@
 //! A Challenge, as the USIM answers it (RFC 4187 §6.3.1 and §9.3, RFC 9048 §3).
 
 ghost use Rattle.std.specs.Prelude.{◌≡◌, ◌≤◌, [], false, true, length, IfOk, OnErr, Some};
-ghost use Rattle.auc_packet.specs.Received.{IsReceived, seen_of};
-ghost use Rattle.auc_seal.specs.Checkcode.{IsHash, value_bytes};
+ghost use Rattle.auc_packet.specs.Received.{IsReceived, attrs_in, seen_of};
+ghost use Rattle.auc_seal.specs.Checkcode.{IsHash, differs, value_bytes};
 ghost use Rattle.auc_seal.specs.Encrypted.{ciphertext_of};
 ghost use Rattle.auc_sqn.specs.Past.{Past, Remembers};
 ghost use Rattle.auc_peer.specs.Asking.{note_of as note_by};
-ghost use Rattle.auc_peer.specs.Attributes.{attrs_in, checkcode, id_of, is_there};
+ghost use Rattle.auc_peer.specs.Attributes.{checkcode, id_of, is_there};
 ghost use Rattle.auc_peer.specs.InnerRooms.{HasRoom};
 ghost use Rattle.auc_peer.specs.Messages.{response_bytes};
 ghost use Rattle.auc_peer.specs.Subscription.{subscription_of};
@@ -19,15 +19,15 @@ use crate::device::Device;
 use crate::messages::{OwnCode, Plain, challenge_response, value};
 use crate::next::NextContext;
 use crate::peer::{Challenge, Peer, PeerState, Source};
-use crate::reading::{ciphertext_in, differs, has_checkcode, inner_in, network_in};
+use crate::reading::{checkcode, has_checkcode, inner_in, network_in};
 use crate::rooms::{ChallengeRooms, Parts, Reply, Sent, give_back};
 use crate::turns::noted;
-use auc_edge::{NoMemory, Octets, Room};
 use auc_hmac::{KeySet, Master};
 use auc_ident::Name;
-use auc_packet::{Received, is_sealed};
+use auc_memory::{NoMemory, Octets, Room};
+use auc_packet::{Received, attrs_in, is_sealed};
 use auc_reauth::Context;
-use auc_seal::CheckValue;
+use auc_seal::{CheckValue, ciphertext_size};
 use auc_usim::Answer;
 use auc_vector::{PeerWhy, Turn, UsimNote, keys_by, keys_of, master_of};
 use std::alloc::Global;
@@ -115,7 +115,7 @@ impl Peer {
         ensures device { OnErr result (device.new ≡ device.old) }
     {
         let network = Octets::copied_from(alloc, network_in(self.method(), received))?;
-        let inner = Room::new(alloc, ciphertext_in(&received.reading))?;
+        let inner = Room::new(alloc, ciphertext_size(attrs_in(&received.reading)))?;
         let rooms = ChallengeRooms::new(alloc, received)?;
         let parts = Parts { network, inner };
         let answer = device.ask(challenge);
@@ -202,7 +202,7 @@ impl Peer {
             return self.client(received, PeerWhy::WrongMac, note, false, rooms.into_reply());
         }
         self.accept(challenge, network);
-        if differs(self.own_code().as_slice(), &received.reading) {
+        if self.differs(received) {
             let why = PeerWhy::WrongCheckcode;
             return self.client(received, why, note, true, rooms.into_reply());
         }
@@ -234,8 +234,7 @@ impl Peer {
         ensures note { result.notes.usim ≡ Some (UsimNote.Accepted granted.sqn) }
         ensures decrypts { IsInner granted.keys.k_encr (attrs_in received.now.reading) (inner_of self.new) }
     {
-        let reading = &received.reading;
-        let decrypted = inner_in(granted.keys.k_encr, reading, &rooms.no_attrs, inner);
+        let decrypted = inner_in(granted.keys.k_encr, &received.reading, inner);
         self.inner = decrypted;
         match &decrypted {
             Decrypted::Attributes(given) => {
@@ -304,6 +303,13 @@ impl Peer {
         self.packets.value(self.options.method)
     }
 
+    /// Whether a message has AT_CHECKCODE with another value than the peer's own.
+    pub(crate) fn differs(&self, received: &Received) -> bool
+        ensures { result ≡ differs (own_code self.now) (checkcode (seen_of received.now)) }
+    {
+        self.own_code().differs(checkcode(received))
+    }
+
     /// AT_CHECKCODE of the answer to a request.
     pub(crate) fn own_checkcode(&self, received: &Received, room: Room) -> OwnCode
         requires { HasRoom room 32 }
@@ -312,7 +318,7 @@ impl Peer {
         ensures size { IsHash result.value }
     {
         OwnCode {
-            has: has_checkcode(&received.reading),
+            has: has_checkcode(received),
             value: value(self.own_code().as_slice(), room),
         }
     }

@@ -1,22 +1,23 @@
 //! The device of a subscriber.
 
 ghost use Rattle.std.specs.Prelude.{◌≡◌, ◌≤◌, length, IfOk};
+ghost use Rattle.auc_ident.specs.Permanent.{with_realm};
 ghost use Rattle.auc_reauth.specs.Device.{is_open};
 ghost use Rattle.auc_sqn.specs.Past.{Past, Remembers};
 ghost use Rattle.auc_usim.specs.Usim.{IsAnswer, past_after_answer};
 ghost use Rattle.auc_peer.specs.Asking.{answer_noted, note_of};
 ghost use Rattle.auc_reauth.specs.Store.{entry, method_of};
 ghost use Rattle.auc_peer.specs.Identities.{adopted, asked_text, first_text, full_text, held_text, renamed, under, with_next_context, with_next_pseudonym};
-ghost use Rattle.auc_peer.specs.Subscription.{identity_text, subscription_of, with_realm};
+ghost use Rattle.auc_peer.specs.Subscription.{identity_text, subscription_of};
 ghost use Rattle.auc_peer.specs.Table.{counted_by};
 
 use crate::identity::FirstIdentity;
 use crate::next::NextContext;
 use crate::options::PeerOptions;
 use crate::peer::Challenge;
-use auc_edge::{Imsi, NoMemory, Octets};
 use auc_hmac::{Master, Method};
-use auc_ident::{Name, permanent};
+use auc_ident::{Name, permanent, with_realm};
+use auc_memory::{Imsi, NoMemory, Octets, Room};
 use auc_reauth::{Context, DeviceStore};
 use auc_request::IdentityRequest;
 use auc_usim::{Answer, Usim};
@@ -119,12 +120,9 @@ impl Device {
         ensures text { IfOk result (λ text. text ≡ with_realm name.now self.now.realm) }
         ensures size { IfOk result (λ text. length text ≤ 511) }
     {
-        let mut text = Octets::copied_from(alloc, name)?;
-        if !self.realm.is_empty() {
-            text.append(b"@")?;
-            text.append(self.realm.as_slice())?;
-        }
-        Ok(text)
+        let realm = self.realm.as_slice();
+        let room = Room::new(alloc, name.len() + 1 + realm.len())?;
+        Ok(with_realm(name, realm, room))
     }
 
     /// Hands the USIM a challenge (TS 33.102 §6.3.3). The note of its answer tells the whole answer.

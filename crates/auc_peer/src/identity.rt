@@ -1,6 +1,6 @@
 //! Which identity a peer sends.
 
-use auc_edge::Octets;
+use auc_memory::Octets;
 
 /// What answers the Identity request of EAP (RFC 3748 §5.1).
 #[derive(Drop)]

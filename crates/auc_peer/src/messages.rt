@@ -13,8 +13,8 @@ ghost use Rattle.auc_peer.specs.Messages.{counter_attrs, draft_of, identified, i
 
 use crate::rooms::CounterRooms;
 use auc_attr::{Attr, AttrList};
-use auc_edge::{Octets, Places, Room};
 use auc_hmac::Method;
+use auc_memory::{Octets, Places, Room};
 use auc_packet::{Draft, Packet, Subtype, put_packet, put_sealed};
 use auc_seal::{encrypted_attributes_may_be_written, put_encrypted};
 
@@ -75,16 +75,6 @@ fn response(heading: Heading, subtype: Subtype, attrs: AttrList, room: Room) -> 
     put(&packet, room)
 }
 
-/// A list of one attribute.
-fn one(attr: Attr, places: Places<Attr>) -> AttrList
-    requires { HasPlaces places }
-    ensures { result ≡ attr ∷ [] }
-{
-    let mut places = places;
-    places.put(attr);
-    AttrList::from_places(places)
-}
-
 /// A list of none.
 fn none(places: Places<Attr>) -> AttrList
     requires { HasPlaces places }
@@ -125,7 +115,7 @@ pub(crate) fn identified(heading: Heading, text: Octets, places: Places<Attr>, r
         id: heading.id,
         method: heading.method,
         subtype: Subtype::Identity,
-        attrs: one(Attr::Identity(text), places),
+        attrs: AttrList::one(Attr::Identity(text), places),
     };
     put(&packet, room)
 }
@@ -170,7 +160,7 @@ pub(crate) fn plain_bytes(
 {
     match message {
         Plain::ClientError => {
-            let attrs = one(Attr::ClientErrorCode(0), places);
+            let attrs = AttrList::one(Attr::ClientErrorCode(0), places);
             response(heading, Subtype::ClientError, attrs, room)
         }
         Plain::Reject => {

@@ -1,8 +1,8 @@
 //! What a peer is told before its session.
 
 use crate::identity::FirstIdentity;
-use auc_edge::Octets;
 use auc_hmac::Method;
+use auc_memory::Octets;
 use std::marker::Model;
 
 /// What a peer is told before its session. A first identity that is a text has at most 255 bytes.

@@ -1,26 +1,26 @@
 //! A fast re-authentication (RFC 4187 §5 and §9.7, RFC 9048 §3.3).
 
 ghost use Rattle.std.specs.Prelude.{◌≡◌, ◌≤◌, [], false, true, length, None, Some, IfOk, OnErr};
-ghost use Rattle.auc_packet.specs.Received.{IsReceived, seen_of};
+ghost use Rattle.auc_packet.specs.Received.{IsReceived, attrs_in, seen_of};
 ghost use Rattle.auc_seal.specs.Encrypted.{ciphertext_of};
 ghost use Rattle.auc_reauth.specs.Server.{if_named};
-ghost use Rattle.auc_peer.specs.Attributes.{attrs_in};
 ghost use Rattle.auc_peer.specs.Subscription.{subscription_of};
-ghost use Rattle.auc_peer.specs.Table.{by_counter, client, context_named, context_of, counter_noted, counted_up, counter_bytes, disclosed, iv_after, reauthenticated, resumes, small, taken};
-ghost use Rattle.auc_peer.specs.Turn.{Decrypts, decryption_resumed};
+ghost use Rattle.auc_peer.specs.Table.{by_counter, client, context_named, context_of, counter_noted, counted_up, counter_bytes, disclosed, reauthenticated, resumes, resuming, small, taken, with_inner};
+ghost use Rattle.auc_peer.specs.Turn.{Decrypts, IsInner, decryption_resumed};
 
 use crate::decrypted::Decrypted;
 use crate::device::Device;
 use crate::messages::{Hidden, reauth_response};
 use crate::next::NextContext;
 use crate::peer::{Peer, PeerState, Source};
-use crate::reading::{ciphertext_in, differs, inner_in, lacks_reauthentication};
+use crate::reading::{inner_in, lacks_reauthentication};
 use crate::rooms::{ReauthRooms, Reply, Sent};
-use auc_edge::{NoMemory, Octets, Room};
 use auc_ident::{Name, username};
-use auc_packet::{Received, is_sealed};
-use auc_random::Rands;
+use auc_memory::{NoMemory, Octets, Room};
+use auc_packet::{Received, attrs_in, is_sealed};
+use auc_random::{Rands, index_after};
 use auc_reauth::Context;
+use auc_seal::ciphertext_size;
 use auc_vector::{CounterNote, Notes, PeerWhy, Reason, Turn, reauth_keys};
 use std::alloc::Global;
 
@@ -59,13 +59,6 @@ fn counter_noted(note: CounterNote) -> Notes
     }
 }
 
-/// The index of the initialisation vector after one was used.
-fn iv_after(k: u32) -> u32
-    ensures { result ≡ iv_after k }
-{
-    k.wrapping_add(2)
-}
-
 impl Peer {
     /// The device's context of the method, if the identity that the peer sent last is the context's.
     fn context_of(&self, device: &Device) -> Option<Context>
@@ -98,7 +91,7 @@ impl Peer {
         let Some(context) = self.context_of(device) else {
             return Ok(self.ignore(Reason::NoContext));
         };
-        let inner = Room::new(alloc, ciphertext_in(&received.reading))?;
+        let inner = Room::new(alloc, ciphertext_size(attrs_in(&received.reading)))?;
         let rooms = ReauthRooms::new(alloc, received)?;
         let attempt = Attempt {
             context,
@@ -128,22 +121,52 @@ impl Peer {
         ensures subscription { subscription_of device.new ≡ subscription_of device.old }
         ensures usim { device.new.usim ≡ device.old.usim }
     {
+        if lacks_reauthentication(&received.reading) {
+            return self.refuse(received, attempt, PeerWhy::Missing, false);
+        }
+        let context = attempt.context;
+        if !is_sealed(received, self.method(), &context.k_aut, &[]) {
+            return self.refuse(received, attempt, PeerWhy::WrongMac, false);
+        }
+        self.take_up(context);
+        if self.differs(received) {
+            return self.refuse(received, attempt, PeerWhy::WrongCheckcode, true);
+        }
+        self.disclose(rands, device, received, attempt)
+    }
+
+    /// Takes a context, under whose keys AT_MAC is right, as the one from which keys are derived.
+    fn take_up(&mut self, context: Context)
+        ensures { self.new ≡ resuming self.old context }
+    {
+        self.source = Source::Context(context);
+    }
+
+    /// Takes a Reauthentication whose AT_MAC and AT_CHECKCODE are right.
+    fn disclose(
+        &mut self,
+        rands: &Rands,
+        device: &mut Device,
+        received: &Received,
+        attempt: Attempt,
+    ) -> Turn<PeerWhy>
+        requires request { attempt.rooms ≡ (seen_of received.now).bytes }
+        requires empty { attempt.inner.written ≡ [] }
+        requires room { length (ciphertext_of (attrs_in received.now.reading)) ≤ attempt.inner.left }
+
+        ensures step { (self.new, result) ≡ disclosed rands.now device.old.store (with_inner self.old self.new.inner)
+            (seen_of received.now) attempt.context self.new.inner }
+        ensures decrypts { IsInner attempt.context.k_encr (attrs_in received.now.reading) self.new.inner }
+        ensures stored { device.new.store ≡ counted_up self.old.options.method result.notes.counter device.old.store }
+        ensures subscription { subscription_of device.new ≡ subscription_of device.old }
+        ensures usim { device.new.usim ≡ device.old.usim }
+    {
         let Attempt {
             context,
             inner,
             rooms,
         } = attempt;
-        if lacks_reauthentication(&received.reading) {
-            return self.refuse(received, inner, PeerWhy::Missing, false, rooms);
-        }
-        if !is_sealed(received, self.options.method, &context.k_aut, &[]) {
-            return self.refuse(received, inner, PeerWhy::WrongMac, false, rooms);
-        }
-        self.source = Source::Context(context);
-        if differs(self.own_code().as_slice(), &received.reading) {
-            return self.refuse(received, inner, PeerWhy::WrongCheckcode, true, rooms);
-        }
-        self.inner = inner_in(context.k_encr, &received.reading, &rooms.no_attrs, inner);
+        self.inner = inner_in(context.k_encr, &received.reading, inner);
         self.on_disclosed(rands, device, received, context, rooms)
     }
 
@@ -151,14 +174,14 @@ impl Peer {
     fn refuse(
         &mut self,
         received: &Received,
-        _inner: Room,
+        attempt: Attempt,
         why: PeerWhy,
         checked: bool,
-        rooms: ReauthRooms,
     ) -> Turn<PeerWhy>
-        requires { rooms ≡ (seen_of received.now).bytes }
+        requires { attempt.rooms ≡ (seen_of received.now).bytes }
         ensures { (self.new, result) ≡ client self.old (seen_of received.now) why None checked }
     {
+        let Attempt { rooms, .. } = attempt;
         self.client(received, why, None, checked, rooms.into_reply())
     }
 
@@ -266,7 +289,7 @@ impl Peer {
             counter,
             nonce,
         );
-        self.next_iv = iv_after(self.next_iv);
+        self.next_iv = index_after(self.next_iv);
         self.next = NextContext::Renamed(context.identity, identity);
         let notes = counter_noted(CounterNote::Taken(counter));
         self.answer(received, PeerState::Answered(keys), sent, notes, true)
@@ -287,7 +310,7 @@ impl Peer {
         ensures note { result.notes.counter ≡ Some (CounterNote.Small offer.counter) }
     {
         let sent = self.counter_answer(rands, received, &offer, true, rooms);
-        self.next_iv = iv_after(self.next_iv);
+        self.next_iv = index_after(self.next_iv);
         let notes = counter_noted(CounterNote::Small(offer.counter));
         self.answer(received, PeerState::Waiting, sent, notes, true)
     }

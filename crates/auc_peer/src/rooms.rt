@@ -6,8 +6,8 @@ ghost use Rattle.auc_packet.specs.Spelling.{packet_text};
 ghost use Rattle.auc_peer.specs.InnerRooms.{plain};
 
 use crate::messages::{Heading, Plain, plain_bytes};
-use auc_attr::{Attr, AttrList};
-use auc_edge::{NoMemory, Octets, Places, Room};
+use auc_attr::Attr;
+use auc_memory::{NoMemory, Octets, Places, Room};
 use auc_packet::Received;
 use auc_seal::EncryptionRoom;
 use std::alloc::Global;
@@ -111,19 +111,18 @@ impl Reply {
 pub(crate) struct ChallengeRooms {
     pub(crate) res: Room,
     pub(crate) code: Room,
-    pub(crate) no_attrs: AttrList,
     pub(crate) reply: Reply,
 }
 
 impl Model for ChallengeRooms {
-    ghost use Rattle.std.specs.Prelude.{◌≡◌, ℕ, List, []};
+    ghost use Rattle.std.specs.Prelude.{ℕ, List};
     ghost use Rattle.auc_peer.specs.InnerRooms.{HasRoom};
 
     ghost Value = { List ℕ };
 
     ghost view = { λ r. r.reply };
 
-    ghost invariant = { λ r. HasRoom r.res 8 × HasRoom r.code 32 × (r.no_attrs ≡ []) };
+    ghost invariant = { λ r. HasRoom r.res 8 × HasRoom r.code 32 };
 }
 
 impl ChallengeRooms {
@@ -135,7 +134,6 @@ impl ChallengeRooms {
             res: Room::new(alloc, 8)?,
             code: Room::new(alloc, 32)?,
             reply: Reply::new(alloc, received)?,
-            no_attrs: AttrList::new(alloc),
         })
     }
 
@@ -183,19 +181,18 @@ impl CounterRooms {
 pub(crate) struct ReauthRooms {
     pub(crate) counter: CounterRooms,
     pub(crate) code: Room,
-    pub(crate) no_attrs: AttrList,
     pub(crate) reply: Reply,
 }
 
 impl Model for ReauthRooms {
-    ghost use Rattle.std.specs.Prelude.{◌≡◌, ℕ, List, []};
+    ghost use Rattle.std.specs.Prelude.{ℕ, List};
     ghost use Rattle.auc_peer.specs.InnerRooms.{HasRoom};
 
     ghost Value = { List ℕ };
 
     ghost view = { λ r. r.reply };
 
-    ghost invariant = { λ r. HasRoom r.code 32 × (r.no_attrs ≡ []) };
+    ghost invariant = { λ r. HasRoom r.code 32 };
 }
 
 impl ReauthRooms {
@@ -207,7 +204,6 @@ impl ReauthRooms {
             code: Room::new(alloc, 32)?,
             counter: CounterRooms::new(alloc)?,
             reply: Reply::new(alloc, received)?,
-            no_attrs: AttrList::new(alloc),
         })
     }
 

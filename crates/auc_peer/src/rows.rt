@@ -8,9 +8,9 @@ ghost use Rattle.auc_peer.specs.Rows.{peer_row, row_headed, of_kind, requested, 
 
 use crate::options::PeerOptions;
 use crate::peer::{Challenge, Last, Peer, PeerState};
-use auc_attr::AttrList;
-use auc_edge::Octets;
-use auc_hmac::Method;
+use auc_attr::{Attr, AttrList};
+use auc_hmac::{Method, method_type};
+use auc_memory::Octets;
 use auc_packet::{Head, Packet, Reading, Received, Subtype, head, is_malformed, is_missing};
 use auc_request::{
     IdentityRequest, autn_in, bids, code_in, is_known_kdf, is_right_name, is_separated, kdf_in,
@@ -117,10 +117,7 @@ impl Peer {
 fn is_type_of(method: Method, kind: u8) -> bool
     ensures { result ≡ (kind == 1 || kind == method_type method) }
 {
-    match method {
-        Method::Aka => kind == 1 || kind == 23,
-        Method::Prime => kind == 1 || kind == 50,
-    }
+    kind == 1 || kind == method_type(method)
 }
 
 /// Whether bytes are those of the request that was answered last.
@@ -228,17 +225,18 @@ fn on_challenge(options: &PeerOptions, list: &AttrList) -> Row
     if is_missing(Subtype::Challenge, true, list) {
         return Row::Client(PeerWhy::Missing);
     }
-    let Some(rand) = rand_in(list) else {
+    let attrs = list.as_slice();
+    let Some(rand) = rand_in(attrs) else {
         return Row::Client(PeerWhy::Missing);
     };
-    let Some(autn) = autn_in(list) else {
+    let Some(autn) = autn_in(attrs) else {
         return Row::Client(PeerWhy::Missing);
     };
-    method_row(options, list, Challenge { rand, autn })
+    method_row(options, attrs, Challenge { rand, autn })
 }
 
 /// What a method tests of a Challenge before the USIM is asked.
-fn method_row(options: &PeerOptions, list: &AttrList, challenge: Challenge) -> Row
+fn method_row(options: &PeerOptions, list: &[Attr], challenge: Challenge) -> Row
     ensures { result ≡ method_row options.now.method options.now list.now challenge }
 {
     match options.method {
@@ -248,7 +246,7 @@ fn method_row(options: &PeerOptions, list: &AttrList, challenge: Challenge) -> R
 }
 
 /// EAP-AKA: a device that has EAP-AKA' isn't bid down from it (RFC 9048 §4).
-fn aka_row(has_prime: bool, list: &AttrList, challenge: Challenge) -> Row
+fn aka_row(has_prime: bool, list: &[Attr], challenge: Challenge) -> Row
     ensures { result ≡ aka_row has_prime list.now challenge }
 {
     if has_prime && bids(list) {
@@ -258,7 +256,7 @@ fn aka_row(has_prime: bool, list: &AttrList, challenge: Challenge) -> Row
 }
 
 /// EAP-AKA': the key derivation function, the network's name and the separation bit.
-fn prime_row(own: &Option<Octets>, list: &AttrList, challenge: Challenge) -> Row
+fn prime_row(own: &Option<Octets>, list: &[Attr], challenge: Challenge) -> Row
     ensures { result ≡ prime_row own.now list.now challenge }
 {
     if !is_known_kdf(kdf_in(list)) {
@@ -277,7 +275,7 @@ fn prime_row(own: &Option<Octets>, list: &AttrList, challenge: Challenge) -> Row
 fn on_notification(list: &AttrList) -> Row
     ensures { result ≡ on_notification list.now }
 {
-    match code_in(list) {
+    match code_in(list.as_slice()) {
         None => Row::Client(PeerWhy::Missing),
         Some(code) => notified_row(code),
     }
@@ -306,7 +304,7 @@ fn late_notification(method: Method, list: &AttrList) -> Row
     if is_malformed(Subtype::Notification, true, method, list) {
         return Row::Ignore(Reason::Unexpected);
     }
-    match code_in(list) {
+    match code_in(list.as_slice()) {
         None => Row::Ignore(Reason::Unexpected),
         Some(code) => notified_row(code),
     }

@@ -1,7 +1,7 @@
 -- The words of an event's line determine what is told of the event: each piece is cut off at its first word.
 use Rattle.std.proofs.Common.{ℕ, ◌<◌, ◌≤◌, ◌≡◌, ◌∙◌, refl, sym, ap, subst, Bool, true, false, ◌==◌, min, List, [], ◌∷◌, ◌++◌, get_or, drop, append_assoc, if◌then◌else◌, codes, bytes_eq, Option, Some, None, Result, Ok, Err, arith}
-use Rattle.auc_edge.specs.declared.stop.Stop.{Stop}
-use Rattle.auc_edge.specs.declared.stop.Stop.TheVariants.{Fault, Full}
+use Rattle.auc_memory.specs.declared.stop.Stop.{Stop}
+use Rattle.auc_memory.specs.declared.stop.Stop.TheVariants.{Fault, Full}
 use Rattle.auc_lines.specs.declared.part.End.{End}
 use Rattle.auc_lines.specs.declared.part.End.TheVariants as end
 use Rattle.auc_vector.specs.declared.why.PeerWhy.{PeerWhy}
@@ -69,7 +69,7 @@ mark_of_word word =
     else if bytes_eq word (codes "started") then 19
     else if bytes_eq word (codes "nosuchplace") then 20 else 21
 
-abbrev mark : List (List ℕ) → ℕ
+abbrev pub mark : List (List ℕ) → ℕ
 mark [] = 21
 mark (word ∷ words) = mark_of_word word
 
@@ -126,7 +126,7 @@ resync_low (resync.InRange a0 a1) = omega arith
 resync_low (resync.Beyond a0 a1) = omega arith
 resync_low resync.BadAuts = omega arith
 
-resync_same : (a b : ResyncNote) (r s : List (List ℕ)) → 4 ≤ mark r → 4 ≤ mark s → resync_words (Some a) ++ r ≡ resync_words (Some b) ++ s → (Some a ≡ Some b) × (r ≡ s)
+pub resync_same : (a b : ResyncNote) (r s : List (List ℕ)) → 4 ≤ mark r → 4 ≤ mark s → resync_words (Some a) ++ r ≡ resync_words (Some b) ++ s → (Some a ≡ Some b) × (r ≡ s)
 resync_same (resync.Moved a0 a1) (resync.Moved b0 b1) r s p q e =
     let v0 : a0 ≡ b0 = numeral_injective a0 b0 (ap (λ ws. word_at ws 1) e) in
     let v1 : a1 ≡ b1 = numeral_injective a1 b1 (ap (λ ws. word_at ws 2) e) in

@@ -1,6 +1,6 @@
 -- The words of a line on what follows from a vector, for sites, or for a session of EAP-SIM determine what is told of it, for the lemmas on lines.
 use Rattle.std.proofs.Common.{ℕ, ◌≡◌, ◌∙◌, refl, sym, ap, List, drop, length, if◌then◌else◌, codes, bytes_eq, arith}
-use Rattle.auc_edge.specs.Identity.{Identity}
+use Rattle.auc_memory.specs.Identity.{Identity}
 use Rattle.auc_record.specs.Record.{IsBelow, further_subscriber}
 use Rattle.auc_record.specs.Told.{told_further, told_note_of_sim, told_outcome_of_5g}
 use Rattle.auc_record.specs.declared.further.FivegOutcome.{FivegOutcome}

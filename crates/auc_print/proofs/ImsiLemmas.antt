@@ -1,8 +1,8 @@
 -- The IMSI of a known subscriber determines the subscriber, for the lemmas on lines.
 use Rattle.std.proofs.Common.{ℕ, zero, suc, ◌+◌, ◌/◌, ◌%◌, ◌<◌, ◌≤◌, ◌≡◌, ◌∙◌, refl, sym, List, [], ◌∷◌, ◌++◌, length, slice_index_or, ◌⊎◌, inl, inr, arith}
 use Rattle.std.proofs.lemmas.Bool.{cases_order}
-use Rattle.auc_edge.specs.Identity.{Identity, last_digits}
-use Rattle.auc_edge.proofs.Facts.{digits_of_injective}
+use Rattle.auc_memory.specs.Identity.{Identity, last_digits}
+use Rattle.auc_memory.proofs.Facts.{digits_of_injective}
 use Rattle.auc_print.specs.Text.{imsi_of}
 use Rattle.auc_print.specs.OneText.{AreIdentities}
 use Rattle.auc_print.proofs.SpacedLemmas.{IsWord, last_digits_word}

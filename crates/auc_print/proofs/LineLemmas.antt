@@ -2,7 +2,7 @@
 use Rattle.std.proofs.Common.{ℕ, ◌<◌, ◌≡◌, ◌∙◌, refl, sym, ap, Bool, true, false, ◌||◌, List, [], ◌∷◌, ◌++◌, map, drop, length, flat_map, if◌then◌else◌, codes, bytes_eq, slice_get, Option, Some, None, Result, Ok, Err, arith}
 use Rattle.std.specs.List.{AllByRecursion}
 use Rattle.std.proofs.lemmas.List.Concat.{flat_map-append}
-use Rattle.auc_edge.specs.Identity.{Identity}
+use Rattle.auc_memory.specs.Identity.{Identity}
 use Rattle.auc_lines.specs.declared.part.End.{End}
 use Rattle.auc_milenage.specs.Milenage.{auts}
 use Rattle.auc_vector.specs.declared.why.PeerWhy.{PeerWhy}
@@ -46,9 +46,7 @@ use Rattle.auc_record.specs.declared.further.Further.{Further as Said}
 use Rattle.auc_record.specs.declared.further.Further.TheVariants as further
 use Rattle.auc_record.specs.declared.record.Breach.{Breach}
 use Rattle.auc_record.specs.declared.record.LineRecord.{LineRecord}
-use Rattle.auc_record.specs.declared.record.LineRecord.TheVariants.{Vector, Withheld, Exhausted, Sync, Give, Further, Event}
-use Rattle.auc_record.specs.declared.record.SyncVerdict.{SyncVerdict}
-use Rattle.auc_record.specs.declared.record.SyncVerdict.TheVariants.{Moved, InRange, Beyond, WrongMac}
+use Rattle.auc_record.specs.declared.record.LineRecord.TheVariants.{Number, Sync, Give, Further, Event}
 use Rattle.auc_record.specs.declared.record.GiveVerdict.{GiveVerdict}
 use Rattle.auc_record.specs.declared.record.GiveVerdict.TheVariants.{Accepted, Sync as SyncFailure, Absent}
 use Rattle.auc_record.specs.declared.record.Closing.{Closing}
@@ -59,7 +57,7 @@ use Rattle.auc_print.specs.SimText.{became_lines, sim_lines}
 use Rattle.auc_print.specs.Text.{Line, RoundLine, JobLine, RecordLine, ClosedLine, SessionLine, HeldLine, BrokenLine, RestartLine, added_lines, broken_words, bytes_words, closing_words, further_lines, further_words, give_words, identities_of, line_text, line_words, record_words, session_words, shown_lines, spaced, sync_words}
 use Rattle.auc_print.specs.OneText.{AnswerFits, AreIdentities, GiveFits}
 use Rattle.auc_record.specs.Ends.{IsAtItsEnd}
-use Rattle.auc_print.proofs.EventLemmas.{agree_injective, end_injective, event_injective, notes_flat, stop_injective, word_at}
+use Rattle.auc_print.proofs.EventLemmas.{agree_injective, end_injective, event_injective, mark, notes_flat, resync_same, stop_injective, word_at}
 use Rattle.auc_print.proofs.FurtherLemmas.{further_injective, further_words_are}
 use Rattle.auc_print.proofs.HexLemmas.{hex_injective}
 use Rattle.auc_print.proofs.ImsiLemmas.{imsi_injective, imsi_word}
@@ -102,12 +100,6 @@ told_of RestartLine = RestartLine
 
 -- ---- words
 
-sync_words_are : (verdict : SyncVerdict) → AllWords (sync_words verdict)
-sync_words_are (Moved seen seq_ms) = two_numbers (codes "moved") seen seq_ms refl
-sync_words_are (InRange seen seq_ms) = two_numbers (codes "inrange") seen seq_ms refl
-sync_words_are (Beyond seen seq_ms) = two_numbers (codes "beyond") seen seq_ms refl
-sync_words_are WrongMac = no_more (codes "wrongmac") refl
-
 give_words_are : (verdict : GiveVerdict) → AllWords (give_words verdict)
 give_words_are Accepted = no_more (codes "accepted") refl
 give_words_are (SyncFailure sqn_ms) = some_bytes (codes "sync") sqn_ms refl
@@ -119,6 +111,11 @@ resync_words_are (Some (resync.Moved from to)) = two_numbers (codes "moved") fro
 resync_words_are (Some (resync.InRange seen seq_ms)) = two_numbers (codes "inrange") seen seq_ms refl
 resync_words_are (Some (resync.Beyond seen seq_ms)) = two_numbers (codes "beyond") seen seq_ms refl
 resync_words_are (Some resync.BadAuts) = no_more (codes "badauts") refl
+
+-- a line on a synchronisation failure has the words of an event's note, except for AUTS whose MAC-S isn't right
+sync_words_are : (note : ResyncNote) → AllWords (sync_words note)
+sync_words_are resync.BadAuts = no_more (codes "wrongmac") refl
+sync_words_are note = resync_words_are (Some note)
 
 number_words_are : (a : Option NumberNote) → AllWords (number_words a)
 number_words_are None = tt
@@ -214,14 +211,14 @@ event_words_are (event.Cut packet count) words are = (word_from_test (codes "cut
 
 -- the words of a job's record are words
 answer_words_are : (identities : List Identity) (answer : LineRecord) → AreWords (record_words identities answer)
-answer_words_are identities (Vector sub n) =
+answer_words_are identities (Number sub (number.Drew n)) =
     (word_from_test (codes "vector") refl, (imsi_word identities sub, (numeral_word n, tt)))
-answer_words_are identities (Withheld sub n stop) =
+answer_words_are identities (Number sub (number.Withheld n stop)) =
     (word_from_test (codes "withheld") refl, (imsi_word identities sub, (numeral_word n, (stop_word_is stop, tt))))
-answer_words_are identities (Exhausted sub word) =
+answer_words_are identities (Number sub (number.Exhausted word)) =
     (word_from_test (codes "exhausted") refl, (imsi_word identities sub, (numeral_word word, tt)))
-answer_words_are identities (Sync sub verdict) =
-    (word_from_test (codes "sync") refl, (imsi_word identities sub, sync_words_are verdict))
+answer_words_are identities (Sync sub note) =
+    (word_from_test (codes "sync") refl, (imsi_word identities sub, sync_words_are note))
 answer_words_are identities (Give sub n verdict) =
     (word_from_test (codes "give") refl, (imsi_word identities sub, (numeral_word n, give_words_are verdict)))
 answer_words_are identities (Further said) = further_words_are identities said
@@ -337,10 +334,8 @@ usim_added row rand (Some (usim.Sync sqn_ms)) = auts_are_added row rand sqn_ms
 usim_added row rand (Some usim.WrongMac) = tt
 
 auts_added : (set : Setting) (job : List LineRecord) (answer : LineRecord) → AreAdded (auts_after set job answer)
-auts_added set job (Vector sub n) = tt
-auts_added set job (Withheld sub n stop) = tt
-auts_added set job (Exhausted sub word) = tt
-auts_added set job (Sync sub verdict) = tt
+auts_added set job (Number sub note) = tt
+auts_added set job (Sync sub note) = tt
 auts_added set job (Give sub n verdict) = give_added (slice_get set.rows sub) (rand_of set.key sub n) verdict
 auts_added set job (Further said) = tt
 auts_added set job (Event r) = usim_added (row_at set.rows (device_in r.result)) (rand_delivered job r.event) (usim_in r.result)
@@ -389,10 +384,8 @@ further_added (further.Fiveg sub (fiveg.Confirmed home device)) =
     (refl, (word_from_test (codes "seaf") refl, (hex_word home, (hex_word device, tt))), tt)
 
 shown_added : (answer : LineRecord) → AreAdded (shown_lines answer)
-shown_added (Vector sub n) = tt
-shown_added (Withheld sub n stop) = tt
-shown_added (Exhausted sub word) = tt
-shown_added (Sync sub verdict) = tt
+shown_added (Number sub note) = tt
+shown_added (Sync sub note) = tt
 shown_added (Give sub n verdict) = tt
 shown_added (Further said) = further_added said
 shown_added (Event r) = came_added r.result
@@ -459,10 +452,10 @@ own_of_words identities (SessionLine verdict) rest = refl
 own_of_words identities HeldLine rest = refl
 own_of_words identities (BrokenLine job breach) rest = refl
 own_of_words identities RestartLine rest = refl
-own_of_words identities (RecordLine job (Vector sub n)) rest = refl
-own_of_words identities (RecordLine job (Withheld sub n stop)) rest = refl
-own_of_words identities (RecordLine job (Exhausted sub word)) rest = refl
-own_of_words identities (RecordLine job (Sync sub verdict)) rest = refl
+own_of_words identities (RecordLine job (Number sub (number.Drew n))) rest = refl
+own_of_words identities (RecordLine job (Number sub (number.Withheld n stop))) rest = refl
+own_of_words identities (RecordLine job (Number sub (number.Exhausted word))) rest = refl
+own_of_words identities (RecordLine job (Sync sub note)) rest = refl
 own_of_words identities (RecordLine job (Give sub n verdict)) rest = refl
 own_of_words identities (RecordLine job (Further said)) rest = own_of_further identities said rest
 own_of_words identities (RecordLine job (Event r)) rest = own_of_event r.event (came_words r.result) rest
@@ -590,10 +583,10 @@ kind_is identities (SessionLine verdict) =
 kind_is identities HeldLine = refl
 kind_is identities (BrokenLine job breach) = refl
 kind_is identities RestartLine = refl
-kind_is identities (RecordLine job (Vector sub n)) = refl
-kind_is identities (RecordLine job (Withheld sub n stop)) = refl
-kind_is identities (RecordLine job (Exhausted sub word)) = refl
-kind_is identities (RecordLine job (Sync sub verdict)) = refl
+kind_is identities (RecordLine job (Number sub (number.Drew n))) = refl
+kind_is identities (RecordLine job (Number sub (number.Withheld n stop))) = refl
+kind_is identities (RecordLine job (Number sub (number.Exhausted word))) = refl
+kind_is identities (RecordLine job (Sync sub note)) = refl
 kind_is identities (RecordLine job (Give sub n verdict)) = refl
 kind_is identities (RecordLine job (Further said)) = kind_of_further identities said
 kind_is identities (RecordLine job (Event r)) = kind_of_event r.event (came_words r.result) (in_came r.result)
@@ -604,34 +597,34 @@ is_further word =
     bytes_eq word (codes "kasme")
     || (bytes_eq word (codes "hxresstar") || (bytes_eq word (codes "fiveg") || (bytes_eq word (codes "sites") || bytes_eq word (codes "sim"))))
 
+-- whether a word is the first of a line on what the centre answered when it was asked for a number
+abbrev is_number : List ℕ → Bool
+is_number word = bytes_eq word (codes "vector") || (bytes_eq word (codes "withheld") || bytes_eq word (codes "exhausted"))
+
 -- a number for each kind of record, by its first word
 abbrev record_of_word : List ℕ → ℕ
 record_of_word word =
-    if bytes_eq word (codes "vector") then 0
-    else if bytes_eq word (codes "withheld") then 1
-    else if bytes_eq word (codes "exhausted") then 2
-    else if bytes_eq word (codes "sync") then 3
-    else if bytes_eq word (codes "give") then 4
-    else if is_further word then 5 else 6
+    if is_number word then 0
+    else if bytes_eq word (codes "sync") then 1
+    else if bytes_eq word (codes "give") then 2
+    else if is_further word then 3 else 4
 
 -- the same number, by the record
 abbrev record_number : LineRecord → ℕ
-record_number (Vector sub n) = 0
-record_number (Withheld sub n stop) = 1
-record_number (Exhausted sub word) = 2
-record_number (Sync sub verdict) = 3
-record_number (Give sub n verdict) = 4
-record_number (Further said) = 5
-record_number (Event r) = 6
+record_number (Number sub note) = 0
+record_number (Sync sub note) = 1
+record_number (Give sub n verdict) = 2
+record_number (Further said) = 3
+record_number (Event r) = 4
 
-record_of_further : (identities : List Identity) (said : Said) → 5 ≡ record_of_word (word_at (further_words identities said) 0)
+record_of_further : (identities : List Identity) (said : Said) → 3 ≡ record_of_word (word_at (further_words identities said) 0)
 record_of_further identities (further.Kasme key) = refl
 record_of_further identities (further.HxresStar half) = refl
 record_of_further identities (further.Fiveg sub outcome) = refl
 record_of_further identities (further.Sites sub note) = refl
 record_of_further identities (further.Sim sub note) = refl
 
-record_of_event : (e : SessionEvent) (words : List (List ℕ)) → 6 ≡ record_of_word (word_at (event_words e ++ words) 0)
+record_of_event : (e : SessionEvent) (words : List (List ℕ)) → 4 ≡ record_of_word (word_at (event_words e ++ words) 0)
 record_of_event (event.Open opening) words = refl
 record_of_event (event.Start session) words = refl
 record_of_event (event.Deliver session at' packet) words = refl
@@ -642,50 +635,22 @@ record_of_event (event.Cut packet count) words = refl
 
 -- the first word says the kind of record
 record_is : (identities : List Identity) (answer : LineRecord) → record_number answer ≡ record_of_word (word_at (record_words identities answer) 0)
-record_is identities (Vector sub n) = refl
-record_is identities (Withheld sub n stop) = refl
-record_is identities (Exhausted sub word) = refl
-record_is identities (Sync sub verdict) = refl
+record_is identities (Number sub (number.Drew n)) = refl
+record_is identities (Number sub (number.Withheld n stop)) = refl
+record_is identities (Number sub (number.Exhausted word)) = refl
+record_is identities (Sync sub note) = refl
 record_is identities (Give sub n verdict) = refl
 record_is identities (Further said) = record_of_further identities said
 record_is identities (Event r) = record_of_event r.event (came_words r.result)
 
--- a number for each verdict on an AUTS, by its first word
-abbrev verdict_of_word : List ℕ → ℕ
-verdict_of_word word =
-    if bytes_eq word (codes "moved") then 0
-    else if bytes_eq word (codes "inrange") then 1
-    else if bytes_eq word (codes "beyond") then 2 else 3
-
--- the same number, by the verdict
-abbrev verdict_number : SyncVerdict → ℕ
-verdict_number (Moved seen seq_ms) = 0
-verdict_number (InRange seen seq_ms) = 1
-verdict_number (Beyond seen seq_ms) = 2
-verdict_number WrongMac = 3
-
--- the first word says which verdict it is
-verdict_is : (verdict : SyncVerdict) → verdict_number verdict ≡ verdict_of_word (word_at (sync_words verdict) 0)
-verdict_is (Moved seen seq_ms) = refl
-verdict_is (InRange seen seq_ms) = refl
-verdict_is (Beyond seen seq_ms) = refl
-verdict_is WrongMac = refl
-
--- a verdict on an AUTS is determined by its words
-sync_injective : (a b : SyncVerdict) → sync_words a ≡ sync_words b → a ≡ b
-sync_injective (Moved s m) (Moved t n) e =
-    let first : s ≡ t = numeral_injective s t (ap (λ ws. word_at ws 1) e) in
-    let second : m ≡ n = numeral_injective m n (ap (λ ws. word_at ws 2) e) in (cc)
-sync_injective (InRange s m) (InRange t n) e =
-    let first : s ≡ t = numeral_injective s t (ap (λ ws. word_at ws 1) e) in
-    let second : m ≡ n = numeral_injective m n (ap (λ ws. word_at ws 2) e) in (cc)
-sync_injective (Beyond s m) (Beyond t n) e =
-    let first : s ≡ t = numeral_injective s t (ap (λ ws. word_at ws 1) e) in
-    let second : m ≡ n = numeral_injective m n (ap (λ ws. word_at ws 2) e) in (cc)
-sync_injective WrongMac WrongMac e = refl
-sync_injective a b e =
-    let kinds : verdict_number a ≡ verdict_number b = verdict_is a ∙ ap (λ ws. verdict_of_word (word_at ws 0)) e ∙ sym (verdict_is b) in
-    absurd (omega arith)
+-- what the home network made of an AUTS is determined by its words
+sync_injective : (a b : ResyncNote) → sync_words a ≡ sync_words b → a ≡ b
+sync_injective resync.BadAuts resync.BadAuts e = refl
+sync_injective resync.BadAuts b e =
+    let marks : mark (sync_words resync.BadAuts) ≡ mark (sync_words b) = ap mark e in absurd (omega arith)
+sync_injective a resync.BadAuts e =
+    let marks : mark (sync_words a) ≡ mark (sync_words resync.BadAuts) = ap mark e in absurd (omega arith)
+sync_injective a b e = let same : Some a ≡ Some b = (resync_same a b [] [] (omega arith) (omega arith) e).0 in (cc)
 
 -- a number for each answer of a USIM, by its first word
 abbrev answer_of_word : List ℕ → ℕ
@@ -714,23 +679,30 @@ give_injective a b p e =
     let kinds : answer_number a ≡ answer_number b = answer_is a ∙ ap (λ ws. answer_of_word (word_at ws 0)) e ∙ sym (answer_is b) in
     absurd (omega arith)
 
+-- what the centre answered when it was asked for a number is determined by its words, and so is the subscriber
+number_injective : (identities : List Identity) (s t : ℕ) (a b : NumberNote) → AreIdentities identities → s < length identities
+    → record_words identities (Number s a) ≡ record_words identities (Number t b) → Number s a ≡ Number t b
+number_injective identities s t (number.Drew m) (number.Drew n) are p e =
+    let sub : s ≡ t = imsi_injective identities s t are p (ap (λ ws. word_at ws 1) e) in
+    let drawn : m ≡ n = numeral_injective m n (ap (λ ws. word_at ws 2) e) in (cc)
+number_injective identities s t (number.Withheld m a) (number.Withheld n b) are p e =
+    let sub : s ≡ t = imsi_injective identities s t are p (ap (λ ws. word_at ws 1) e) in
+    let drawn : m ≡ n = numeral_injective m n (ap (λ ws. word_at ws 2) e) in
+    let stop : a ≡ b = stop_injective a b (ap (λ ws. word_at ws 3) e) in (cc)
+number_injective identities s t (number.Exhausted m) (number.Exhausted n) are p e =
+    let sub : s ≡ t = imsi_injective identities s t are p (ap (λ ws. word_at ws 1) e) in
+    let read : m ≡ n = numeral_injective m n (ap (λ ws. word_at ws 2) e) in (cc)
+number_injective identities s t a b are p e =
+    let marks : mark (record_words identities (Number s a)) ≡ mark (record_words identities (Number t b)) = ap mark e in absurd (omega arith)
+
 -- what is told of a job's record is determined by its words
 answer_injective : (identities : List Identity) (a b : LineRecord) → AreIdentities identities
     → LineFits identities (RecordLine [] a) → IsAtItsEnd a → IsAtItsEnd b
     → record_words identities a ≡ record_words identities b → told_line a ≡ told_line b
-answer_injective identities (Vector s m) (Vector t n) are p x y e =
-    let sub : s ≡ t = imsi_injective identities s t are p.0 (ap (λ ws. word_at ws 1) e) in
-    let number : m ≡ n = numeral_injective m n (ap (λ ws. word_at ws 2) e) in (cc)
-answer_injective identities (Withheld s m a) (Withheld t n b) are p x y e =
-    let sub : s ≡ t = imsi_injective identities s t are p.0 (ap (λ ws. word_at ws 1) e) in
-    let number : m ≡ n = numeral_injective m n (ap (λ ws. word_at ws 2) e) in
-    let stop : a ≡ b = stop_injective a b (ap (λ ws. word_at ws 3) e) in (cc)
-answer_injective identities (Exhausted s m) (Exhausted t n) are p x y e =
-    let sub : s ≡ t = imsi_injective identities s t are p.0 (ap (λ ws. word_at ws 1) e) in
-    let number : m ≡ n = numeral_injective m n (ap (λ ws. word_at ws 2) e) in (cc)
+answer_injective identities (Number s a) (Number t b) are p x y e = number_injective identities s t a b are p.0 e
 answer_injective identities (Sync s a) (Sync t b) are p x y e =
     let sub : s ≡ t = imsi_injective identities s t are p.0 (ap (λ ws. word_at ws 1) e) in
-    let verdict : a ≡ b = sync_injective a b (ap (λ ws. drop 2 ws) e) in (cc)
+    let note : a ≡ b = sync_injective a b (ap (λ ws. drop 2 ws) e) in (cc)
 answer_injective identities (Give s m a) (Give t n b) are p x y e =
     let sub : s ≡ t = imsi_injective identities s t are p.0 (ap (λ ws. word_at ws 1) e) in
     let number : m ≡ n = numeral_injective m n (ap (λ ws. word_at ws 2) e) in

@@ -5,8 +5,8 @@ use Rattle.std.proofs.lemmas.List.Concat.{flat_map-append}
 use Rattle.std.proofs.lemmas.Option.{get_or_from_slice_get, slice_get_within}
 use Rattle.std.proofs.lemmas.Result.{on_ok_weaker}
 use Rattle.hex.specs.Hex.{encode_lower, encode_with, lower_digits}
-use Rattle.auc_edge.specs.Identity.{digits_of}
-use Rattle.auc_edge.specs.declared.no_memory.NoMemory.{NoMemory}
+use Rattle.auc_memory.specs.Identity.{digits_of}
+use Rattle.auc_memory.specs.declared.no_memory.NoMemory.{NoMemory}
 use Rattle.auc_milenage.specs.Milenage.{auts}
 use Rattle.auc_subs.specs.declared.row.Row.{Row}
 use Rattle.auc_vector.specs.declared.notes.Notes.{Notes}

@@ -3,7 +3,7 @@ use Rattle.std.proofs.Common.{ℕ, zero, suc, ◌+◌, ◌/◌, ◌%◌, ◌<◌
 use Rattle.std.proofs.lemmas.Bool.{and_parts}
 use Rattle.std.proofs.lemmas.Bool.Decides.{nat_tests}
 use Rattle.hex.specs.Hex.{encode_lower, encode_with, lower_digits}
-use Rattle.auc_edge.specs.Identity.{last_digits}
+use Rattle.auc_memory.specs.Identity.{last_digits}
 use Rattle.auc_print.specs.Text.{spaced}
 
 -- the codes of the space and of the line feed

@@ -12,7 +12,8 @@ use Rattle.auc_record.specs.Record.{IsBelow, subscriber_of}
 use Rattle.auc_subs.specs.Setting.{Setting}
 use Rattle.auc_record.specs.Vectors.{vector_with, vector_at, vector_in, vectors_in}
 use Rattle.auc_record.specs.declared.record.LineRecord.{LineRecord}
-use Rattle.auc_record.specs.declared.record.LineRecord.TheVariants.{Vector, Withheld, Exhausted, Sync, Give, Further, Event}
+use Rattle.auc_record.specs.declared.record.LineRecord.TheVariants.{Number, Sync, Give, Further, Event}
+use Rattle.auc_vector.specs.declared.notes.NumberNote.TheVariants as number
 use Rattle.auc_record.specs.declared.record.Closing.{Closing}
 use Rattle.auc_record.specs.declared.record.Premise.{Premise}
 use Rattle.auc_record.specs.declared.record.Premise.TheVariants as premise
@@ -45,19 +46,19 @@ none_left None = refl
 none_left (Some vector) = refl
 
 brief_shown : (answer : LineRecord) → shown_after answer [] ≡ []
-brief_shown (Vector sub n) = refl
-brief_shown (Withheld sub n stop) = refl
-brief_shown (Exhausted sub word) = refl
-brief_shown (Sync sub verdict) = refl
+brief_shown (Number sub (number.Drew n)) = refl
+brief_shown (Number sub (number.Withheld n stop)) = refl
+brief_shown (Number sub (number.Exhausted word)) = refl
+brief_shown (Sync sub note) = refl
 brief_shown (Give sub n verdict) = refl
 brief_shown (Further said) = refl
 brief_shown (Event r) = none_shown (event_vector r.result)
 
 brief_left : (answer : LineRecord) → left_after answer [] ≡ []
-brief_left (Vector sub n) = refl
-brief_left (Withheld sub n stop) = refl
-brief_left (Exhausted sub word) = refl
-brief_left (Sync sub verdict) = refl
+brief_left (Number sub (number.Drew n)) = refl
+brief_left (Number sub (number.Withheld n stop)) = refl
+brief_left (Number sub (number.Exhausted word)) = refl
+brief_left (Sync sub note) = refl
 brief_left (Give sub n verdict) = refl
 brief_left (Further said) = refl
 brief_left (Event r) = none_left (event_vector r.result)
@@ -79,20 +80,20 @@ vector_left (Some vector) more = refl
 
 full_shown : (set : Setting) (answer : LineRecord) (more : List AuthVector) → IsBelow (length set.rows) (subscriber_of answer)
     → shown_after answer (vector_in set answer ++ more) ≡ vector_in set answer
-full_shown set (Vector sub n) more named = number_shown set sub n more named
-full_shown set (Withheld sub n stop) more named = refl
-full_shown set (Exhausted sub word) more named = refl
-full_shown set (Sync sub verdict) more named = refl
+full_shown set (Number sub (number.Drew n)) more named = number_shown set sub n more named
+full_shown set (Number sub (number.Withheld n stop)) more named = refl
+full_shown set (Number sub (number.Exhausted word)) more named = refl
+full_shown set (Sync sub note) more named = refl
 full_shown set (Give sub n verdict) more named = refl
 full_shown set (Further said) more named = refl
 full_shown set (Event r) more named = vector_shown (event_vector r.result) more
 
 full_left : (set : Setting) (answer : LineRecord) (more : List AuthVector) → IsBelow (length set.rows) (subscriber_of answer)
     → left_after answer (vector_in set answer ++ more) ≡ more
-full_left set (Vector sub n) more named = number_left set sub n more named
-full_left set (Withheld sub n stop) more named = refl
-full_left set (Exhausted sub word) more named = refl
-full_left set (Sync sub verdict) more named = refl
+full_left set (Number sub (number.Drew n)) more named = number_left set sub n more named
+full_left set (Number sub (number.Withheld n stop)) more named = refl
+full_left set (Number sub (number.Exhausted word)) more named = refl
+full_left set (Sync sub note) more named = refl
 full_left set (Give sub n verdict) more named = refl
 full_left set (Further said) more named = refl
 full_left set (Event r) more named = vector_left (event_vector r.result) more

@@ -18,7 +18,7 @@ use Rattle.auc_record.specs.declared.event.WorldRefusal.{WorldRefusal}
 use Rattle.auc_record.specs.declared.record.GiveVerdict.{GiveVerdict}
 use Rattle.auc_record.specs.declared.record.GiveVerdict.TheVariants.{Accepted, Sync as SyncFailure, Absent}
 use Rattle.auc_record.specs.declared.record.LineRecord.{LineRecord}
-use Rattle.auc_record.specs.declared.record.LineRecord.TheVariants.{Vector, Withheld, Exhausted, Sync, Give, Further, Event}
+use Rattle.auc_record.specs.declared.record.LineRecord.TheVariants.{Number, Sync, Give, Further, Event}
 use Rattle.auc_print.specs.EventText.{step_sent}
 
 -- ---- the line
@@ -56,10 +56,8 @@ packet_in packet (Err why) = None
 
 -- the same of a job's record
 abbrev pub packet_of : ℕ → LineRecord → Option (List ℕ)
-packet_of packet (Vector sub n) = None
-packet_of packet (Withheld sub n stop) = None
-packet_of packet (Exhausted sub word) = None
-packet_of packet (Sync sub verdict) = None
+packet_of packet (Number sub note) = None
+packet_of packet (Sync sub note) = None
 packet_of packet (Give sub n verdict) = None
 packet_of packet (Further said) = None
 packet_of packet (Event r) = packet_in packet r.result
@@ -108,10 +106,8 @@ event_auts set job r = usim_auts (row_at set.rows (device_in r.result)) (rand_de
 
 -- after a record of such a job
 abbrev pub auts_after : Setting → List LineRecord → LineRecord → List (List (List ℕ))
-auts_after set job (Vector sub n) = []
-auts_after set job (Withheld sub n stop) = []
-auts_after set job (Exhausted sub word) = []
-auts_after set job (Sync sub verdict) = []
+auts_after set job (Number sub note) = []
+auts_after set job (Sync sub note) = []
 auts_after set job (Give sub n verdict) = give_auts (slice_get set.rows sub) (rand_of set.key sub n) verdict
 auts_after set job (Further said) = []
 auts_after set job (Event r) = event_auts set job r

@@ -1,8 +1,8 @@
 -- The words of an event's line: those of the event, of the notes in their order, and of the step.
 use Rattle.std.specs.Prelude.{ℕ, Bool, true, false, List, [], ◌∷◌, ◌++◌, Option, Some, None, Result, Ok, Err, codes}
 use Rattle.hex.specs.Hex.{encode_lower}
-use Rattle.auc_edge.specs.declared.stop.Stop.{Stop}
-use Rattle.auc_edge.specs.declared.stop.Stop.TheVariants.{Fault, Full}
+use Rattle.auc_memory.specs.declared.stop.Stop.{Stop}
+use Rattle.auc_memory.specs.declared.stop.Stop.TheVariants.{Fault, Full}
 use Rattle.auc_hmac.specs.declared.keys.KeySet.{KeySet}
 use Rattle.auc_lines.specs.declared.part.End.{End}
 use Rattle.auc_lines.specs.declared.part.End.TheVariants as end

@@ -1,7 +1,7 @@
 -- Inner facts: what only private contracts of this crate cite.
 use Rattle.std.specs.Prelude.{ℕ, ◌≡◌, Bool, true, false, List, [], ◌∷◌, ◌++◌, map, take, drop, flat_map, Option, Some, None, Result, OnOk, codes}
 use Rattle.hex.specs.Hex.{encode_lower}
-use Rattle.auc_edge.specs.declared.no_memory.NoMemory.{NoMemory}
+use Rattle.auc_memory.specs.declared.no_memory.NoMemory.{NoMemory}
 use Rattle.auc_vector.specs.declared.turn.Outcome.TheVariants as outcome
 use Rattle.auc_vector.specs.declared.turn.Step.{Step}
 use Rattle.auc_vector.specs.declared.turn.Step.TheVariants as step
@@ -11,7 +11,8 @@ use Rattle.auc_subs.specs.Setting.{Setting}
 use Rattle.auc_record.specs.declared.event.NoteStep.{NoteStep}
 use Rattle.auc_record.specs.declared.event.NoteStep.TheVariants as did
 use Rattle.auc_record.specs.declared.record.LineRecord.{LineRecord}
-use Rattle.auc_record.specs.declared.record.LineRecord.TheVariants.{Vector, Withheld, Exhausted, Sync, Give, Further, Event}
+use Rattle.auc_record.specs.declared.record.LineRecord.TheVariants.{Number, Sync, Give, Further, Event}
+use Rattle.auc_vector.specs.declared.notes.NumberNote.TheVariants as number
 use Rattle.auc_record.specs.declared.record.Premise.{Premise}
 use Rattle.auc_record.specs.declared.record.Premise.TheVariants as premise
 use Rattle.auc_print.specs.declared.word.Word.{Word}
@@ -100,19 +101,19 @@ left_for (Some vector) vectors = drop 1 vectors
 
 -- the same for a record's line
 abbrev pub shown_after : LineRecord → List AuthVector → List AuthVector
-shown_after (Vector sub n) vectors = take 1 vectors
-shown_after (Withheld sub n stop) vectors = []
-shown_after (Exhausted sub word) vectors = []
-shown_after (Sync sub verdict) vectors = []
+shown_after (Number sub (number.Drew n)) vectors = take 1 vectors
+shown_after (Number sub (number.Withheld n stop)) vectors = []
+shown_after (Number sub (number.Exhausted word)) vectors = []
+shown_after (Sync sub note) vectors = []
 shown_after (Give sub n verdict) vectors = []
 shown_after (Further said) vectors = []
 shown_after (Event r) vectors = shown_for (event_vector r.result) vectors
 
 abbrev pub left_after : LineRecord → List AuthVector → List AuthVector
-left_after (Vector sub n) vectors = drop 1 vectors
-left_after (Withheld sub n stop) vectors = vectors
-left_after (Exhausted sub word) vectors = vectors
-left_after (Sync sub verdict) vectors = vectors
+left_after (Number sub (number.Drew n)) vectors = drop 1 vectors
+left_after (Number sub (number.Withheld n stop)) vectors = vectors
+left_after (Number sub (number.Exhausted word)) vectors = vectors
+left_after (Sync sub note) vectors = vectors
 left_after (Give sub n verdict) vectors = vectors
 left_after (Further said) vectors = vectors
 left_after (Event r) vectors = left_for (event_vector r.result) vectors

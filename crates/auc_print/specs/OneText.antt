@@ -1,7 +1,7 @@
 -- A text tells what is told of its transcript.
 use Rattle.std.specs.Prelude.{ℕ, ◌≡◌, ◌≢◌, Bool, List, [], ◌∷◌, length, Option, Some, None, Result, Ok, Err, All, AllPairs}
 use Rattle.hex.specs.Hex.{IsBytes}
-use Rattle.auc_edge.specs.Identity.{Identity, IsIdentity}
+use Rattle.auc_memory.specs.Identity.{Identity, IsIdentity}
 use Rattle.auc_vector.specs.declared.notes.UsimNote.{UsimNote}
 use Rattle.auc_vector.specs.declared.notes.UsimNote.TheVariants as usim
 use Rattle.auc_record.specs.Record.{PartNamesBelow}
@@ -64,10 +64,8 @@ FurtherFits (further.Sim sub note) = Unit {0}
 
 -- those of a job's record, if it has any
 abbrev pub AnswerFits : LineRecord → Type 0
-AnswerFits (record_of.Vector sub n) = Unit {0}
-AnswerFits (record_of.Withheld sub n stop) = Unit {0}
-AnswerFits (record_of.Exhausted sub word) = Unit {0}
-AnswerFits (record_of.Sync sub verdict) = Unit {0}
+AnswerFits (record_of.Number sub note) = Unit {0}
+AnswerFits (record_of.Sync sub note) = Unit {0}
 AnswerFits (record_of.Give sub n verdict) = GiveFits verdict
 AnswerFits (record_of.Further said) = FurtherFits said
 AnswerFits (record_of.Event r) = EventFits r.event × CameFits r.result

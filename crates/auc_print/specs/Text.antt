@@ -1,7 +1,7 @@
 -- The text of a transcript: lines of words. One space stands between two words, and a line feed ends the line.
 use Rattle.std.specs.Prelude.{ℕ, ◌+◌, Bool, if◌then◌else◌, List, [], ◌∷◌, ◌++◌, map, slice_index_or, flat_map, codes}
 use Rattle.hex.specs.Hex.{encode_lower}
-use Rattle.auc_edge.specs.Identity.{Identity, digits_of}
+use Rattle.auc_memory.specs.Identity.{Identity, digits_of}
 use Rattle.auc_subs.specs.declared.row.Row.{Row}
 use Rattle.auc_vector.specs.declared.parts.Vector.{Vector as AuthVector}
 use Rattle.auc_record.specs.declared.further.FivegOutcome.{FivegOutcome}
@@ -10,9 +10,10 @@ use Rattle.auc_record.specs.declared.further.Further.{Further as Said}
 use Rattle.auc_record.specs.declared.further.Further.TheVariants.{Kasme, HxresStar, Fiveg, Sites, Sim}
 use Rattle.auc_record.specs.declared.record.Breach.{Breach}
 use Rattle.auc_record.specs.declared.record.LineRecord.{LineRecord}
-use Rattle.auc_record.specs.declared.record.LineRecord.TheVariants.{Vector, Withheld, Exhausted, Sync, Give, Further, Event}
-use Rattle.auc_record.specs.declared.record.SyncVerdict.{SyncVerdict}
-use Rattle.auc_record.specs.declared.record.SyncVerdict.TheVariants.{Moved, InRange, Beyond, WrongMac}
+use Rattle.auc_record.specs.declared.record.LineRecord.TheVariants.{Number, Sync, Give, Further, Event}
+use Rattle.auc_vector.specs.declared.notes.NumberNote.TheVariants as number
+use Rattle.auc_vector.specs.declared.notes.ResyncNote.{ResyncNote}
+use Rattle.auc_vector.specs.declared.notes.ResyncNote.TheVariants as resync
 use Rattle.auc_record.specs.declared.record.GiveVerdict.{GiveVerdict}
 use Rattle.auc_record.specs.declared.record.GiveVerdict.TheVariants.{Accepted, Sync as SyncFailure, Absent}
 use Rattle.auc_record.specs.declared.record.Closing.{Closing}
@@ -79,11 +80,11 @@ abbrev pub imsi_of : List Identity → ℕ → List ℕ
 imsi_of identities sub = digits_of (slice_index_or identities sub (record { digits = 0; number = 0 }))
 
 -- the words that say what the home network made of an AUTS
-abbrev pub sync_words : SyncVerdict → List (List ℕ)
-sync_words (Moved seen seq_ms) = codes "moved" ∷ numeral seen ∷ numeral seq_ms ∷ []
-sync_words (InRange seen seq_ms) = codes "inrange" ∷ numeral seen ∷ numeral seq_ms ∷ []
-sync_words (Beyond seen seq_ms) = codes "beyond" ∷ numeral seen ∷ numeral seq_ms ∷ []
-sync_words WrongMac = codes "wrongmac" ∷ []
+abbrev pub sync_words : ResyncNote → List (List ℕ)
+sync_words (resync.Moved seen seq_ms) = codes "moved" ∷ numeral seen ∷ numeral seq_ms ∷ []
+sync_words (resync.InRange seen seq_ms) = codes "inrange" ∷ numeral seen ∷ numeral seq_ms ∷ []
+sync_words (resync.Beyond seen seq_ms) = codes "beyond" ∷ numeral seen ∷ numeral seq_ms ∷ []
+sync_words resync.BadAuts = codes "wrongmac" ∷ []
 
 -- the words that say what a USIM answered to a vector
 abbrev pub give_words : GiveVerdict → List (List ℕ)
@@ -108,10 +109,10 @@ further_words identities (Sim sub note) = codes "sim" ∷ imsi_of identities sub
 
 -- the words of a job's record
 abbrev pub record_words : List Identity → LineRecord → List (List ℕ)
-record_words identities (Vector sub n) = codes "vector" ∷ imsi_of identities sub ∷ numeral n ∷ []
-record_words identities (Withheld sub n stop) = codes "withheld" ∷ imsi_of identities sub ∷ numeral n ∷ stop_word stop ∷ []
-record_words identities (Exhausted sub word) = codes "exhausted" ∷ imsi_of identities sub ∷ numeral word ∷ []
-record_words identities (Sync sub verdict) = codes "sync" ∷ imsi_of identities sub ∷ sync_words verdict
+record_words identities (Number sub (number.Drew n)) = codes "vector" ∷ imsi_of identities sub ∷ numeral n ∷ []
+record_words identities (Number sub (number.Withheld n stop)) = codes "withheld" ∷ imsi_of identities sub ∷ numeral n ∷ stop_word stop ∷ []
+record_words identities (Number sub (number.Exhausted word)) = codes "exhausted" ∷ imsi_of identities sub ∷ numeral word ∷ []
+record_words identities (Sync sub note) = codes "sync" ∷ imsi_of identities sub ∷ sync_words note
 record_words identities (Give sub n verdict) = codes "give" ∷ imsi_of identities sub ∷ numeral n ∷ give_words verdict
 record_words identities (Further said) = further_words identities said
 record_words identities (Event r) = event_words r.event ++ came_words r.result
@@ -174,10 +175,8 @@ further_lines (Sim sub note) = sim_lines note
 -- the lines that a full print adds after a record's line, besides the bytes of a vector and an AUTS: K_SEAF of a 5G
 -- authentication, or the packet and the keys of an event or of a session of EAP-SIM
 abbrev pub shown_lines : LineRecord → List (List (List ℕ))
-shown_lines (Vector sub n) = []
-shown_lines (Withheld sub n stop) = []
-shown_lines (Exhausted sub word) = []
-shown_lines (Sync sub verdict) = []
+shown_lines (Number sub note) = []
+shown_lines (Sync sub note) = []
 shown_lines (Give sub n verdict) = []
 shown_lines (Further said) = further_lines said
 shown_lines (Event r) = came_lines r.result

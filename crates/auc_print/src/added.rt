@@ -8,8 +8,8 @@ ghost use Rattle.auc_print.specs.Text.{shown_lines, spaced};
 use crate::further::print_further_lines;
 use crate::word::{Word, decimal};
 use crate::writer::print_line;
-use auc_edge::{NoMemory, Octets};
 use auc_hmac::KeySet;
+use auc_memory::{NoMemory, Octets};
 use auc_record::{LineRecord, Note, NoteStep, WorldRefusal};
 use auc_vector::{Outcome, Step};
 
@@ -21,11 +21,7 @@ pub fn print_added(answer: &LineRecord, out: &mut Octets) -> Result<(), NoMemory
     match answer {
         LineRecord::Further(further) => print_further_lines(further.said(), out),
         LineRecord::Event(event) => print_came_lines(&event.record().result, out),
-        LineRecord::Vector { .. }
-        | LineRecord::Withheld { .. }
-        | LineRecord::Exhausted { .. }
-        | LineRecord::Sync { .. }
-        | LineRecord::Give { .. } => Ok(()),
+        LineRecord::Number { .. } | LineRecord::Sync { .. } | LineRecord::Give { .. } => Ok(()),
     }
 }
 

@@ -7,7 +7,7 @@ ghost use Rattle.auc_print.specs.Inner.{Prints, lines_text};
 use crate::added::bytes_of_step;
 use crate::word::Word;
 use crate::writer::print_line;
-use auc_edge::{NoMemory, Octets};
+use auc_memory::{NoMemory, Octets};
 use auc_milenage::make_auts;
 use auc_record::{Event, EventRecord, GiveVerdict, LineRecord, Setting};
 use auc_vector::UsimNote;
@@ -31,9 +31,7 @@ pub fn print_auts(
             print_failure(*sub, Some(rand), *sqn_ms, set, out)
         }
         LineRecord::Event(event) => print_of_event(event.record(), job, set, out),
-        LineRecord::Vector { .. }
-        | LineRecord::Withheld { .. }
-        | LineRecord::Exhausted { .. }
+        LineRecord::Number { .. }
         | LineRecord::Sync { .. }
         | LineRecord::Give { .. }
         | LineRecord::Further(_) => Ok(()),

@@ -10,7 +10,7 @@ ghost use Rattle.auc_print.specs.Text.{spaced};
 use crate::notes::{print_notes, stopped};
 use crate::word::{Group, Word, byte_word, decimal, none, one, pair, two, value};
 use crate::writer::print_group;
-use auc_edge::{NoMemory, Octets};
+use auc_memory::{NoMemory, Octets};
 use auc_record::{End, Event, EventRecord, Note, NoteStep, WorldRefusal};
 use auc_vector::{Outcome, PeerWhy, Reason, ServerWhy, Step};
 

@@ -10,7 +10,7 @@ use crate::sim::{print_sim_lines, words_of_sim};
 use crate::sites::words_of_note;
 use crate::word::{Word, hex_word};
 use crate::writer::{print_line, print_named};
-use auc_edge::{NoMemory, Octets};
+use auc_memory::{NoMemory, Octets};
 use auc_record::{FivegOutcome, Further};
 use auc_subs::Subscribers;
 

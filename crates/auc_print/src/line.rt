@@ -2,6 +2,7 @@
 
 ghost use Rattle.std.specs.Prelude.{◌≡◌, ◌++◌, ◌∷◌, [], ◌<◌, codes, flat_map, length, take, All, OnOk};
 ghost use Rattle.auc_record.specs.Record.{IsBelow, subscriber_of};
+ghost use Rattle.auc_record.specs.declared.record.LineRecord.TheVariants as record_of;
 ghost use Rattle.auc_print.specs.EventText.{agree_word};
 ghost use Rattle.auc_print.specs.Inner.{Prints, bytes_text, group_texts, premise_text};
 ghost use Rattle.auc_print.specs.Numeral.{numeral};
@@ -13,10 +14,10 @@ use crate::further::print_further;
 use crate::notes::word_of;
 use crate::word::{Group, Word, decimal, one, pair};
 use crate::writer::{print_line, print_named};
-use auc_edge::{NoMemory, Octets};
-use auc_record::{Breach, Closing, GiveVerdict, LineRecord, Premise, SessionVerdict, SyncVerdict};
+use auc_memory::{NoMemory, Octets};
+use auc_record::{Breach, Closing, GiveVerdict, LineRecord, Premise, SessionVerdict};
 use auc_subs::Subscribers;
-use auc_vector::Vector;
+use auc_vector::{NumberNote, ResyncNote, Vector};
 
 /// Appends the line of a job's record.
 pub fn print_record(
@@ -31,18 +32,9 @@ pub fn print_record(
     ensures fits { OnOk result (AnswerFits answer.now) }
 {
     match answer {
-        LineRecord::Vector { sub, n } => {
-            print_named(b"vector", *sub, &[Word::Number(*n)], subs, out)
-        }
-        LineRecord::Withheld { sub, n, stop } => {
-            let words = [Word::Number(*n), Word::Text(word_of(*stop))];
-            print_named(b"withheld", *sub, &words, subs, out)
-        }
-        LineRecord::Exhausted { sub, word } => {
-            print_named(b"exhausted", *sub, &[Word::Number(*word)], subs, out)
-        }
-        LineRecord::Sync { sub, verdict } => {
-            print_named(b"sync", *sub, &words_of_sync(*verdict), subs, out)
+        LineRecord::Number { sub, note } => print_asked(*sub, *note, subs, out),
+        LineRecord::Sync { sub, note } => {
+            print_named(b"sync", *sub, &words_of_sync(*note), subs, out)
         }
         LineRecord::Give { sub, n, verdict } => {
             print_named(b"give", *sub, &words_of_give(*n, *verdict), subs, out)
@@ -52,15 +44,38 @@ pub fn print_record(
     }
 }
 
-/// What the home network made of an AUTS.
-fn words_of_sync(verdict: SyncVerdict) -> Group<'static>
-    ensures { group_texts result ≡ sync_words verdict }
+/// Appends the line of what the centre answered when it was asked for a subscriber's next number.
+fn print_asked(
+    sub: u32,
+    note: NumberNote,
+    subs: &Subscribers,
+    out: &mut Octets,
+) -> Result<(), NoMemory>
+    requires { sub < length subs.now }
+    ensures { Prints result out.old out.new
+        (spaced (record_words (identities_of subs.now) (record_of.Number sub note))) }
 {
-    match verdict {
-        SyncVerdict::Moved(seen, seq_ms) => pair(b"moved", seen, seq_ms),
-        SyncVerdict::InRange(seen, seq_ms) => pair(b"inrange", seen, seq_ms),
-        SyncVerdict::Beyond(seen, seq_ms) => pair(b"beyond", seen, seq_ms),
-        SyncVerdict::WrongMac => one(b"wrongmac"),
+    match note {
+        NumberNote::Drew(n) => print_named(b"vector", sub, &[Word::Number(n)], subs, out),
+        NumberNote::Exhausted(word) => {
+            print_named(b"exhausted", sub, &[Word::Number(word)], subs, out)
+        }
+        NumberNote::Withheld(n, stop) => {
+            let words = [Word::Number(n), Word::Text(word_of(stop))];
+            print_named(b"withheld", sub, &words, subs, out)
+        }
+    }
+}
+
+/// What the home network made of an AUTS.
+fn words_of_sync(note: ResyncNote) -> Group<'static>
+    ensures { group_texts result ≡ sync_words note }
+{
+    match note {
+        ResyncNote::Moved(seen, seq_ms) => pair(b"moved", seen, seq_ms),
+        ResyncNote::InRange(seen, seq_ms) => pair(b"inrange", seen, seq_ms),
+        ResyncNote::Beyond(seen, seq_ms) => pair(b"beyond", seen, seq_ms),
+        ResyncNote::BadAuts => one(b"wrongmac"),
     }
 }
 

@@ -8,7 +8,7 @@ ghost use Rattle.auc_print.specs.OneText.{UsimFits};
 
 use crate::word::{Group, Word, none, one, pair, sqn_after, value};
 use crate::writer::print_group;
-use auc_edge::{NoMemory, Octets, Stop};
+use auc_memory::{NoMemory, Octets, Stop};
 use auc_vector::{CounterNote, Notes, NumberNote, ResyncNote, UsimNote};
 
 /// Appends the words of the notes, each after a space.

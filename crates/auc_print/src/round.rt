@@ -12,9 +12,9 @@ use crate::auts::print_auts;
 use crate::line::{print_closings, print_first, print_premise, print_record, print_sessions};
 use crate::word::Word;
 use crate::writer::print_line;
-use auc_edge::{NoMemory, Octets};
+use auc_memory::{NoMemory, Octets};
 use auc_record::{JobRecord, JobVectors, LineRecord, RoundRecord, Setting};
-use auc_vector::Vector;
+use auc_vector::{NumberNote, Vector};
 
 /// Appends the text of a restart. If memory runs out, `out` stays as it was.
 pub fn print_restart(out: &mut Octets) -> Result<(), NoMemory>
@@ -159,7 +159,10 @@ fn print_shown(answer: &LineRecord, vectors: &[Vector], out: &mut Octets) -> Res
     ensures { Prints result out.old out.new (bytes_text (shown_after answer.now vectors.now)) }
 {
     match answer {
-        LineRecord::Vector { .. } => print_first(vectors, out),
+        LineRecord::Number {
+            note: NumberNote::Drew(_),
+            ..
+        } => print_first(vectors, out),
         LineRecord::Event(event) if event.record().vector().is_some() => print_first(vectors, out),
         _ => Ok(()),
     }
@@ -170,7 +173,10 @@ fn after<'a>(answer: &LineRecord, vectors: &'a [Vector]) -> &'a [Vector]
     ensures { result.now ≡ left_after answer.now vectors.now }
 {
     match answer {
-        LineRecord::Vector { .. } => behind_first(vectors),
+        LineRecord::Number {
+            note: NumberNote::Drew(_),
+            ..
+        } => behind_first(vectors),
         LineRecord::Event(event) if event.record().vector().is_some() => behind_first(vectors),
         _ => vectors,
     }

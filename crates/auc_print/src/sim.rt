@@ -11,7 +11,7 @@ use crate::event::{word_of_end, word_of_reason};
 use crate::line::word_of_verdict;
 use crate::word::Word::{Nothing, Number, Text};
 use crate::word::{Group, Word, decimal, one};
-use auc_edge::{NoMemory, Octets};
+use auc_memory::{NoMemory, Octets};
 use auc_record::End;
 use auc_vector::{Outcome, SimBecame, SimNote, SimWhy, Step};
 

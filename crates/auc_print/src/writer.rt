@@ -7,7 +7,7 @@ ghost use Rattle.auc_print.specs.Numeral.{numeral};
 ghost use Rattle.auc_print.specs.Text.{identities_of, imsi_of, spaced};
 
 use crate::word::Word;
-use auc_edge::{NoMemory, Octets};
+use auc_memory::{NoMemory, Octets};
 use auc_subs::Subscribers;
 
 /// Appends a line: its first word and the others.

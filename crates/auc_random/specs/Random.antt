@@ -1,5 +1,5 @@
 -- Random bytes, as the words of ChaCha20 by key, stream and place.
-use Rattle.std.specs.Prelude.{ℕ, ◌+◌, ◌*◌, ◌^◌, List, ◌++◌}
+use Rattle.std.specs.Prelude.{ℕ, ◌+◌, ◌*◌, ◌%◌, ◌^◌, List, ◌++◌}
 use Rattle.std.specs.Int.{w32, to_le_bytes}
 use Rattle.rand_chacha.specs.ChaCha.{word_at, key_of}
 
@@ -21,6 +21,10 @@ rand_of key sub n = sixteen_at key sub (4 * n)
 -- those of 2^32 subscribers
 unfoldable pub nonce_of : List ℕ → ℕ → ℕ → List ℕ
 nonce_of key session k = sixteen_at key (4294967296 + session) (4 * k)
+
+-- the index after next; the indices count modulo 2^32
+abbrev pub index_after : ℕ → ℕ
+index_after k = (k + 2) % 2 ^ 32
 
 -- NONCE_MT (RFC 4186 §10.4) of the EAP-SIM session whose first vector is a number of a subscriber: 2^32 streams from 2^42 on
 unfoldable pub sim_nonce : List ℕ → ℕ → ℕ → List ℕ

@@ -1,7 +1,7 @@
 -- What a session's line says, by its parts, for `read_session`.
 use Rattle.std.proofs.Common.{ℕ, ◌≡◌, ◌&&◌, Bool, true, false, List, Result, Ok, refl}
 use Rattle.std.specs.Option.{ok_or}
-use Rattle.auc_edge.specs.Identity.{Identity, identity_of}
+use Rattle.auc_memory.specs.Identity.{Identity, identity_of}
 use Rattle.auc_hmac.specs.declared.method.Method.{Method}
 use Rattle.auc_lines.specs.declared.part.Line.{Line}
 use Rattle.auc_lines.specs.declared.part.Line.TheVariants.{Session}

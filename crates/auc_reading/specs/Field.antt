@@ -3,7 +3,7 @@ use Rattle.std.specs.Prelude.{ℕ, ◌&&◌, nat_le, Bool, true, false, List, []
 use Rattle.std.specs.List.{list_all}
 use Rattle.std.specs.Option.{ok_or}
 use Rattle.std.specs.Char.{is_ascii_digit}
-use Rattle.auc_edge.specs.Identity.{number_of}
+use Rattle.auc_memory.specs.Identity.{number_of}
 use Rattle.auc_subs.specs.Steps.{◌>>=◌}
 use Rattle.auc_text.specs.Field.{octets_in}
 use Rattle.auc_text.specs.Text.{is_text}

@@ -1,7 +1,7 @@
 -- What the fields of a job's line say, by the word before them.
 use Rattle.std.specs.Prelude.{ℕ, nat_le, List, length, Result, Ok}
 use Rattle.std.specs.Option.{ok_or}
-use Rattle.auc_edge.specs.Identity.{identity_of}
+use Rattle.auc_memory.specs.Identity.{identity_of}
 use Rattle.auc_sqn.specs.Number.{max_seq}
 use Rattle.auc_subs.specs.declared.row.Row.{Row}
 use Rattle.auc_text.specs.Field.{octets_in}

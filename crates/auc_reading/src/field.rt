@@ -2,7 +2,7 @@
 
 ghost use Rattle.std.specs.Prelude.{◌≡◌, ◌≤◌, [], ◌∷◌, ◌<◌, nat_le, MatchResult, IfOk, IfSome};
 ghost use Rattle.std.specs.Option.{option_copied};
-ghost use Rattle.auc_edge.specs.Identity.{number_of};
+ghost use Rattle.auc_memory.specs.Identity.{number_of};
 ghost use Rattle.auc_text.specs.Text.{is_text, words_of};
 ghost use Rattle.auc_reading.specs.Field.{bit_in, byte_in, end_in, four_fields, full_in, is_number, no_field, number_between, one_field, optional_field, three_fields, two_fields};
 ghost use Rattle.auc_reading.specs.declared.refusal.ScriptWhy.TheVariants as cause;

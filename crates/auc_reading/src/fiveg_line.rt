@@ -13,8 +13,8 @@ ghost use Rattle.auc_reading.specs.Texts.{has_fit_texts};
 
 use crate::field::{LAST_STAR_BIT, first_field, is_text, optional_field, read_bit};
 use crate::refusal::{LineRefusal, ScriptWhy};
-use auc_edge::{Imsi, NoMemory, Octets};
 use auc_lines::{FivegLine, Line};
+use auc_memory::{Imsi, NoMemory, Octets};
 use auc_subs::Subscribers;
 use std::alloc::Global;
 

@@ -20,8 +20,8 @@ use crate::session_line::{read_deliver, read_give_up, read_one_number, read_sess
 use crate::sim_line::read_sim;
 use crate::sites_line::read_sites;
 use crate::word::JobWord;
-use auc_edge::Imsi;
 use auc_lines::{Line, Report};
+use auc_memory::Imsi;
 use auc_sqn::{MAX_SEQ, top};
 use auc_subs::Subscribers;
 use auc_text::read_octets;

@@ -4,7 +4,7 @@ ghost use Rattle.std.specs.Prelude.{◌≡◌};
 ghost use Rattle.auc_reading.specs.declared.refusal.LineRefusal.TheVariants as line;
 ghost use Rattle.auc_reading.specs.Field.{require};
 
-use auc_edge::NoMemory;
+use auc_memory::NoMemory;
 use auc_subs::SubsWhy;
 
 /// What is wrong with a line, in the order of the tests, except the last cause.

@@ -5,7 +5,7 @@ ghost use Rattle.std.specs.List.{list_all};
 ghost use Rattle.std.specs.Option.{option_copied};
 ghost use Rattle.auc_reading.specs.Schedule.{behind, is_there, parts_in};
 
-use auc_edge::NoMemory;
+use auc_memory::NoMemory;
 use std::alloc::Global;
 
 /// How many parts a schedule has.

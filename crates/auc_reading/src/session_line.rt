@@ -18,9 +18,9 @@ use crate::field::{
 };
 use crate::limits::{LAST_PACKET, LAST_SESSION};
 use crate::refusal::{LineRefusal, ScriptWhy, require};
-use auc_edge::{Imsi, NoMemory, Octets};
 use auc_hmac::Method;
 use auc_lines::{Identity, Line, SessionLine};
+use auc_memory::{Imsi, NoMemory, Octets};
 use auc_subs::Subscribers;
 use std::alloc::Global;
 

@@ -16,8 +16,8 @@ use crate::field::{is_text, read_number, three_fields};
 use crate::limits::{LAST_PACKET, MAX_EVENTS, MAX_TRIPLETS, MIN_TRIPLETS};
 use crate::refusal::{LineRefusal, ScriptWhy, require};
 use crate::schedule::{are_there, behind, part_count, part_texts};
-use auc_edge::{Imsi, Items};
 use auc_lines::{End, Line, SimDelivery, SimLine, SimSchedule};
+use auc_memory::{Imsi, Items};
 use auc_subs::Subscribers;
 use std::alloc::Global;
 

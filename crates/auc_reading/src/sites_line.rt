@@ -17,8 +17,8 @@ use crate::field::{four_fields, is_text, read_number};
 use crate::limits::{LAST_PACKET, MAX_EVENTS, MAX_LEASED, MAX_SITES};
 use crate::refusal::{LineRefusal, ScriptWhy, require};
 use crate::schedule::{are_there, behind, part_count, part_texts};
-use auc_edge::{Imsi, Items};
 use auc_lines::{Line, SiteEvent, SitesLine};
+use auc_memory::{Imsi, Items};
 use auc_subs::Subscribers;
 use std::alloc::Global;
 

@@ -4,8 +4,8 @@ ghost use Rattle.std.specs.Prelude.{◌≡◌};
 ghost use Rattle.auc_reading.specs.Texts.{has_fit_texts, is_first, is_short};
 
 use crate::limits::{MAX_NAME, MAX_TEXT};
-use auc_edge::Octets;
 use auc_lines::{Identity, Line};
+use auc_memory::Octets;
 
 /// Whether the names of the session that a line opens, and its first identity, are within their limits; or the two names of
 /// a line's serving network.

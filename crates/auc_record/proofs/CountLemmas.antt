@@ -7,13 +7,14 @@ use Rattle.std.proofs.lemmas.List.{length-append, length-replicate, length-set}
 use Rattle.std.proofs.lemmas.List.Sums.{sum_by-append, sum_by-cons}
 use Rattle.std.proofs.lemmas.Option.{get_or_from_slice_get}
 use Rattle.auc_lines.specs.Part.{is_that}
-use Rattle.auc_record.specs.Event.{asked_in, number_for, number_in, number_passed, number_released, number_withheld, resync_for, resync_in}
+use Rattle.auc_vector.specs.declared.notes.NumberNote.{NumberNote}
+use Rattle.auc_record.specs.Event.{asked_in, number_passed, number_released, number_withheld}
 use Rattle.auc_record.specs.Record.{subscriber_of}
 use Rattle.auc_record.specs.declared.record.LineRecord.{LineRecord}
-use Rattle.auc_record.specs.declared.record.LineRecord.TheVariants.{Vector, Withheld, Exhausted, Sync, Give, Further, Event}
-use Rattle.auc_record.specs.Lines.{all_lines, numbers_of, released_by, withheld_of, withheld_by}
+use Rattle.auc_record.specs.declared.record.LineRecord.TheVariants.{Number, Sync, Give, Further, Event}
+use Rattle.auc_record.specs.Lines.{all_lines, number_by, number_said, numbers_of, released_by, resync_by, resync_said, withheld_of, withheld_by}
 use Rattle.auc_record.specs.declared.counting.Count.{Count}
-use Rattle.auc_record.specs.Counts.{passed, passed_by, passed_in, capped, count_with, counted_in, AreCounted}
+use Rattle.auc_record.specs.Counts.{passed_by, passed_in, capped, count_with, counted_in, AreCounted}
 
 -- the withheld and the released numbers of some lines and of further ones
 withheld_of-append : (sub : ℕ) (xs ys : List LineRecord) → withheld_of sub (xs ++ ys) ≡ withheld_of sub xs ++ withheld_of sub ys
@@ -94,67 +95,53 @@ that_other : (sub : ℕ) (o : Option ℕ) → o ≢ Some sub → is_that sub o �
 that_other sub None other = refl
 that_other sub (Some s) other = other_eqb s sub (λ same. other (ap Some same))
 
+-- what the centre answered a line of the subscriber
+number_same : (sub : ℕ) (line : LineRecord) → subscriber_of line ≡ Some sub → number_by sub line ≡ number_said line
+number_same sub (Number s note) is = let e : eqb s sub ≡ true = that_is sub (Some s) is in rw e refl
+number_same sub (Sync s note) is = refl
+number_same sub (Give s n verdict) is = refl
+number_same sub (Further said) is = refl
+number_same sub (Event r) is = let e = that_is sub (asked_in r.result) is in rw e refl
+
+resync_same : (sub : ℕ) (line : LineRecord) → subscriber_of line ≡ Some sub → resync_by sub line ≡ resync_said line
+resync_same sub (Number s note) is = refl
+resync_same sub (Sync s note) is = let e : eqb s sub ≡ true = that_is sub (Some s) is in rw e refl
+resync_same sub (Give s n verdict) is = refl
+resync_same sub (Further said) is = refl
+resync_same sub (Event r) is = let e = that_is sub (asked_in r.result) is in rw e refl
+
+-- and a line of another one
+number_other : (sub : ℕ) (line : LineRecord) → subscriber_of line ≢ Some sub → number_by sub line ≡ None
+number_other sub (Number s note) other = let e : eqb s sub ≡ false = that_other sub (Some s) other in rw e refl
+number_other sub (Sync s note) other = refl
+number_other sub (Give s n verdict) other = refl
+number_other sub (Further said) other = refl
+number_other sub (Event r) other = let e = that_other sub (asked_in r.result) other in rw e refl
+
+resync_other : (sub : ℕ) (line : LineRecord) → subscriber_of line ≢ Some sub → resync_by sub line ≡ None
+resync_other sub (Number s note) other = refl
+resync_other sub (Sync s note) other = let e : eqb s sub ≡ false = that_other sub (Some s) other in rw e refl
+resync_other sub (Give s n verdict) other = refl
+resync_other sub (Further said) other = refl
+resync_other sub (Event r) other = let e = that_other sub (asked_in r.result) other in rw e refl
+
 -- the count with a line of the subscriber is that of the lines with it
 pub count_same : (sub : ℕ) (before : List LineRecord) (line : LineRecord) → subscriber_of line ≡ Some sub → count_with (counted_in sub before) line ≡ counted_in sub (before ++ line ∷ [])
-count_same sub before (Vector s n) is =
-    let e : eqb s sub ≡ true = ap (λ (n : ℕ). eqb n sub) (some_is s sub is) ∙ same_eqb sub in
-    count_more sub before (Vector s n) _ _ _ (cap_more (length (numbers_of sub before)) 1 (length (released_by sub (Vector s n))) (rw e refl))
-    (cap_none (length (withheld_of sub before)) 0 refl) (cap_none (passed_in sub before) 0 refl)
-count_same sub before (Withheld s n stop) is =
-    let e : eqb s sub ≡ true = ap (λ (n : ℕ). eqb n sub) (some_is s sub is) ∙ same_eqb sub in
-    count_more sub before (Withheld s n stop) _ _ _ (cap_none (length (numbers_of sub before)) 0 refl)
-    (cap_more (length (withheld_of sub before)) 1 (length (withheld_by sub (Withheld s n stop))) (rw e refl)) (cap_none (passed_in sub before) 0 refl)
-count_same sub before (Exhausted s word) is =
-    count_more sub before (Exhausted s word) _ _ _ (cap_none (length (numbers_of sub before)) 0 refl) (cap_none (length (withheld_of sub before)) 0 refl) (cap_none (passed_in sub before) 0 refl)
-count_same sub before (Sync s answer) is =
-    let e : eqb s sub ≡ true = ap (λ (n : ℕ). eqb n sub) (some_is s sub is) ∙ same_eqb sub in
-    count_more sub before (Sync s answer) _ _ _ (cap_none (length (numbers_of sub before)) 0 refl) (cap_none (length (withheld_of sub before)) 0 refl)
-    (cap_more (passed_in sub before) (passed answer) (passed_by sub (Sync s answer)) (rw e refl))
-count_same sub before (Give s n answer) is =
-    count_more sub before (Give s n answer) _ _ _ (cap_none (length (numbers_of sub before)) 0 refl) (cap_none (length (withheld_of sub before)) 0 refl) (cap_none (passed_in sub before) 0 refl)
-count_same sub before (Further said) is =
-    count_more sub before (Further said) _ _ _ (cap_none (length (numbers_of sub before)) 0 refl) (cap_none (length (withheld_of sub before)) 0 refl) (cap_none (passed_in sub before) 0 refl)
-count_same sub before (Event r) is =
-    let e = that_is sub (asked_in r.result) is in
-    count_more sub before (Event r) _ _ _
-    (cap_more (length (numbers_of sub before)) (length (number_released (number_in r.result))) (length (number_released (number_for sub r))) (rw e refl))
-    (cap_more (length (withheld_of sub before)) (length (number_withheld (number_in r.result))) (length (number_withheld (number_for sub r))) (rw e refl))
-    (cap_more (passed_in sub before) (number_passed (resync_in r.result)) (number_passed (resync_for sub r)) (rw e refl))
+count_same sub before line is =
+    let drew = number_same sub line is in
+    count_more sub before line _ _ _
+    (cap_more (length (numbers_of sub before)) (length (number_released (number_said line))) (length (released_by sub line)) (ap (λ (o : Option NumberNote). length (number_released o)) drew))
+    (cap_more (length (withheld_of sub before)) (length (number_withheld (number_said line))) (length (withheld_by sub line)) (ap (λ (o : Option NumberNote). length (number_withheld o)) drew))
+    (cap_more (passed_in sub before) (number_passed (resync_said line)) (passed_by sub line) (ap number_passed (resync_same sub line is)))
 
 -- a line of another subscriber adds nothing
-released_other : (sub : ℕ) (line : LineRecord) → subscriber_of line ≢ Some sub → length (released_by sub line) ≡ 0
-released_other sub (Vector s n) other = rw (other_eqb s sub (λ same. other (ap Some same))) refl
-released_other sub (Withheld s n stop) other = refl
-released_other sub (Exhausted s word) other = refl
-released_other sub (Sync s answer) other = refl
-released_other sub (Give s n answer) other = refl
-released_other sub (Further said) other = refl
-released_other sub (Event r) other = rw (that_other sub (asked_in r.result) other) refl
-
-withheld_other : (sub : ℕ) (line : LineRecord) → subscriber_of line ≢ Some sub → length (withheld_by sub line) ≡ 0
-withheld_other sub (Vector s n) other = refl
-withheld_other sub (Withheld s n stop) other = rw (other_eqb s sub (λ same. other (ap Some same))) refl
-withheld_other sub (Exhausted s word) other = refl
-withheld_other sub (Sync s answer) other = refl
-withheld_other sub (Give s n answer) other = refl
-withheld_other sub (Further said) other = refl
-withheld_other sub (Event r) other = rw (that_other sub (asked_in r.result) other) refl
-
-passed_other : (sub : ℕ) (line : LineRecord) → subscriber_of line ≢ Some sub → passed_by sub line ≡ 0
-passed_other sub (Vector s n) other = refl
-passed_other sub (Withheld s n stop) other = refl
-passed_other sub (Exhausted s word) other = refl
-passed_other sub (Sync s answer) other = rw (other_eqb s sub (λ same. other (ap Some same))) refl
-passed_other sub (Give s n answer) other = refl
-passed_other sub (Further said) other = refl
-passed_other sub (Event r) other = rw (that_other sub (asked_in r.result) other) refl
-
 pub count_other : (sub : ℕ) (before : List LineRecord) (line : LineRecord) → subscriber_of line ≢ Some sub → counted_in sub before ≡ counted_in sub (before ++ line ∷ [])
 count_other sub before line other =
+    let drew = number_other sub line other in
     count_more sub before line (capped (length (numbers_of sub before))) (capped (length (withheld_of sub before))) (capped (passed_in sub before))
-    (cap_none (length (numbers_of sub before)) (length (released_by sub line)) (released_other sub line other))
-    (cap_none (length (withheld_of sub before)) (length (withheld_by sub line)) (withheld_other sub line other))
-    (cap_none (passed_in sub before) (passed_by sub line) (passed_other sub line other))
+    (cap_none (length (numbers_of sub before)) (length (released_by sub line)) (ap (λ (o : Option NumberNote). length (number_released o)) drew))
+    (cap_none (length (withheld_of sub before)) (length (withheld_by sub line)) (ap (λ (o : Option NumberNote). length (number_withheld o)) drew))
+    (cap_none (passed_in sub before) (passed_by sub line) (ap number_passed (resync_other sub line other)))
 
 -- an element that was set, and the others
 pub get-set_same : {X : Type 0} (xs : List X) (i : ℕ) (x : X) → i < length xs → slice_get (slice_set xs i x) i ≡ Some x

@@ -6,8 +6,8 @@ use Rattle.std.proofs.lemmas.List.Concat.{flat_map-append}
 use Rattle.std.proofs.lemmas.List.Elements.{All-push, All-weaker}
 use Rattle.std.proofs.lemmas.List.Folds.{list_any-append}
 use Rattle.auc_released.specs.Room.{KeepsRoom}
-use Rattle.auc_record.specs.Lines.{is_in, numbers_of, released_by, all_lines}
-use Rattle.auc_record.specs.InnerRoom.{HasRoomFor, HasRoomForLine, HasRoomForLines, number_of}
+use Rattle.auc_record.specs.Lines.{is_in, number_of, numbers_of, released_by, all_lines}
+use Rattle.auc_record.specs.InnerRoom.{HasRoomFor, HasRoomForLine, HasRoomForLines}
 use Rattle.auc_record.specs.Released.{Released, has, AreReleased}
 use Rattle.auc_record.specs.declared.record.LineRecord.{LineRecord}
 

@@ -2,30 +2,13 @@
 use Rattle.std.specs.Prelude.{◌≡◌, ℕ, ◌+◌, ◌-◌, ◌^◌, ◌<◌, ◌==◌, min, List, [], ◌∷◌, ◌++◌, length, sum_by, Some, slice_get, if◌then◌else◌}
 use Rattle.auc_record.specs.declared.record.Closing.{Closing}
 use Rattle.auc_record.specs.declared.record.LineRecord.{LineRecord}
-use Rattle.auc_record.specs.Event.{number_in, number_passed, number_released, number_withheld, resync_for, resync_in}
-use Rattle.auc_record.specs.declared.event.EventRecord.{EventRecord}
-use Rattle.auc_record.specs.declared.record.LineRecord.TheVariants.{Vector, Withheld, Exhausted, Sync, Give, Further, Event}
-use Rattle.auc_record.specs.declared.record.SyncVerdict.{SyncVerdict}
-use Rattle.auc_record.specs.declared.record.SyncVerdict.TheVariants as verdict
-use Rattle.auc_record.specs.Lines.{numbers_of, withheld_of}
+use Rattle.auc_record.specs.Event.{number_passed, number_released, number_withheld}
+use Rattle.auc_record.specs.Lines.{number_said, numbers_of, resync_by, resync_said, withheld_of}
 use Rattle.auc_record.specs.declared.counting.Count.{Count}
-
--- how many numbers a verdict passed over
-abbrev pub passed : SyncVerdict → ℕ
-passed (verdict.Moved from to) = to - from
-passed (verdict.InRange seen seq_ms) = 0
-passed (verdict.Beyond seen seq_ms) = 0
-passed verdict.WrongMac = 0
 
 -- how many numbers of a subscriber a line passed over
 abbrev pub passed_by : ℕ → LineRecord → ℕ
-passed_by sub (Vector s n) = 0
-passed_by sub (Withheld s n stop) = 0
-passed_by sub (Exhausted s word) = 0
-passed_by sub (Sync s answer) = if s == sub then passed answer else 0
-passed_by sub (Give s n answer) = 0
-passed_by sub (Further said) = 0
-passed_by sub (Event r) = number_passed (resync_for sub r)
+passed_by sub line = number_passed (resync_by sub line)
 
 -- how many numbers of a subscriber some lines passed over
 abbrev pub passed_in : ℕ → List LineRecord → ℕ
@@ -35,23 +18,13 @@ passed_in sub lines = sum_by (passed_by sub) lines
 abbrev pub capped : ℕ → ℕ
 capped n = min n (2 ^ 64 - 1)
 
--- a count with an event in which the centre was asked for its subscriber
-abbrev pub count_event : Count → EventRecord → Count
-count_event count r = record {
-  released = capped (count.released + length (number_released (number_in r.result)));
-  withheld = capped (count.withheld + length (number_withheld (number_in r.result)));
-  skipped = capped (count.skipped + number_passed (resync_in r.result));
-}
-
 -- a count with a further line of its subscriber
 abbrev pub count_with : Count → LineRecord → Count
-count_with count (Vector s n) = record { released = capped (count.released + 1); withheld = count.withheld; skipped = count.skipped }
-count_with count (Withheld s n stop) = record { released = count.released; withheld = capped (count.withheld + 1); skipped = count.skipped }
-count_with count (Exhausted s word) = count
-count_with count (Sync s answer) = record { released = count.released; withheld = count.withheld; skipped = capped (count.skipped + passed answer) }
-count_with count (Give s n answer) = count
-count_with count (Further said) = count
-count_with count (Event r) = count_event count r
+count_with count line = record {
+  released = capped (count.released + length (number_released (number_said line)));
+  withheld = capped (count.withheld + length (number_withheld (number_said line)));
+  skipped = capped (count.skipped + number_passed (resync_said line));
+}
 
 -- the count of a subscriber in some lines
 abbrev pub counted_in : ℕ → List LineRecord → Count

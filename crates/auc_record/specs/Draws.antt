@@ -3,6 +3,7 @@ use Rattle.std.specs.Prelude.{◌≡◌, ℕ, ◌<◌, ◌≤◌, zero, suc, Lis
 use Rattle.auc_subs.specs.Subscriber.{top_at}
 use Rattle.auc_record.specs.declared.record.LineRecord.{LineRecord}
 use Rattle.auc_record.specs.declared.record.LineRecord.TheVariants as record_of
+use Rattle.auc_vector.specs.declared.notes.NumberNote.TheVariants as number
 use Rattle.auc_subs.specs.Setting.{Setting}
 
 -- a released vector has a number that a vector may have, and its subscriber has a row
@@ -15,10 +16,10 @@ pub record IsReleasable (set : Setting) (sub n : ℕ) : Type 0 where
 -- of a spent subscriber, which is at least its greatest number, and nothing else
 abbrev pub OneGives : Setting → ℕ → (ℕ → List LineRecord → Type 0) → List LineRecord → Type 0
 OneGives set sub Follows [] = ⊥
-OneGives set sub Follows (record_of.Vector s n ∷ lines) = (s ≡ sub) × IsReleasable set sub n × Follows n lines
-OneGives set sub Follows (record_of.Withheld s n stop ∷ lines) = (s ≡ sub) × (1 ≤ n) × (n ≤ top_at set.rows sub) × (lines ≡ [])
-OneGives set sub Follows (record_of.Exhausted s word ∷ lines) = (s ≡ sub) × (top_at set.rows sub ≤ word) × (lines ≡ [])
-OneGives set sub Follows (record_of.Sync s answer ∷ lines) = ⊥
+OneGives set sub Follows (record_of.Number s (number.Drew n) ∷ lines) = (s ≡ sub) × IsReleasable set sub n × Follows n lines
+OneGives set sub Follows (record_of.Number s (number.Withheld n stop) ∷ lines) = (s ≡ sub) × (1 ≤ n) × (n ≤ top_at set.rows sub) × (lines ≡ [])
+OneGives set sub Follows (record_of.Number s (number.Exhausted word) ∷ lines) = (s ≡ sub) × (top_at set.rows sub ≤ word) × (lines ≡ [])
+OneGives set sub Follows (record_of.Sync s note ∷ lines) = ⊥
 OneGives set sub Follows (record_of.Give s n answer ∷ lines) = ⊥
 OneGives set sub Follows (record_of.Further said ∷ lines) = ⊥
 OneGives set sub Follows (record_of.Event r ∷ lines) = ⊥

@@ -37,10 +37,8 @@ CameAt at' (Err why) = Unit {0}
 
 -- what came of a record's event is a step of the end that the event concerns
 abbrev pub IsAtItsEnd : LineRecord → Type 0
-IsAtItsEnd (record_of.Vector sub n) = Unit {0}
-IsAtItsEnd (record_of.Withheld sub n stop) = Unit {0}
-IsAtItsEnd (record_of.Exhausted sub word) = Unit {0}
-IsAtItsEnd (record_of.Sync sub verdict) = Unit {0}
+IsAtItsEnd (record_of.Number sub note) = Unit {0}
+IsAtItsEnd (record_of.Sync sub note) = Unit {0}
 IsAtItsEnd (record_of.Give sub n verdict) = Unit {0}
 IsAtItsEnd (record_of.Further said) = Unit {0}
 IsAtItsEnd (record_of.Event r) = CameAt (end_of r.event) r.result

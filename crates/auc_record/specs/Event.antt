@@ -54,9 +54,6 @@ number_with (Some sub) (Some (number.Drew n)) = Some (record { sub = sub; n = n 
 number_with (Some sub) (Some (number.Exhausted word)) = None
 number_with (Some sub) (Some (number.Withheld n stop)) = None
 
-abbrev pub event_number : Result Note WorldRefusal → Option Number
-event_number result = number_with (asked_in result) (number_in result)
-
 -- ---- of a subscriber
 
 abbrev pub number_for : ℕ → EventRecord → Option NumberNote

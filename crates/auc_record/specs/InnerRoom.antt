@@ -2,20 +2,9 @@
 use Rattle.std.specs.Prelude.{List, All, Option, Some, None}
 use Rattle.auc_released.specs.Room.{HasRoom}
 use Rattle.auc_released.specs.declared.numbers.Number.{Number}
-use Rattle.auc_record.specs.Event.{event_number}
+use Rattle.auc_record.specs.Lines.{number_of}
 use Rattle.auc_record.specs.Released.{Released}
 use Rattle.auc_record.specs.declared.record.LineRecord.{LineRecord}
-use Rattle.auc_record.specs.declared.record.LineRecord.TheVariants.{Vector, Withheld, Exhausted, Sync, Give, Further, Event}
-
--- the number that a line releases, if it releases one
-abbrev pub number_of : LineRecord → Option Number
-number_of (Vector sub n) = Some (record { sub = sub; n = n })
-number_of (Withheld sub n stop) = None
-number_of (Exhausted sub word) = None
-number_of (Sync sub verdict) = None
-number_of (Give sub n verdict) = None
-number_of (Further said) = None
-number_of (Event r) = event_number r.result
 
 -- a set has room for a number, if there is one
 abbrev pub HasRoomFor : Released → Option Number → Type 0

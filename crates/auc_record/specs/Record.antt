@@ -4,7 +4,7 @@ use Rattle.auc_record.specs.Event.{asked_in}
 use Rattle.auc_record.specs.declared.further.Further.{Further as Said}
 use Rattle.auc_record.specs.declared.further.Further.TheVariants.{Kasme, HxresStar, Fiveg, Sites, Sim}
 use Rattle.auc_record.specs.declared.record.LineRecord.{LineRecord}
-use Rattle.auc_record.specs.declared.record.LineRecord.TheVariants.{Vector, Withheld, Exhausted, Sync, Give, Further, Event}
+use Rattle.auc_record.specs.declared.record.LineRecord.TheVariants.{Number, Sync, Give, Further, Event}
 use Rattle.auc_record.specs.declared.record.PartRecord.{PartRecord}
 use Rattle.auc_record.specs.declared.record.PartRecord.TheVariants.{Round, Restart}
 use Rattle.auc_record.specs.declared.record.RoundRecord.{RoundRecord}
@@ -18,10 +18,8 @@ further_subscriber (Sites sub note) = Some sub
 further_subscriber (Sim sub note) = Some sub
 
 abbrev pub subscriber_of : LineRecord → Option ℕ
-subscriber_of (Vector sub n) = Some sub
-subscriber_of (Withheld sub n stop) = Some sub
-subscriber_of (Exhausted sub word) = Some sub
-subscriber_of (Sync sub verdict) = Some sub
+subscriber_of (Number sub note) = Some sub
+subscriber_of (Sync sub note) = Some sub
 subscriber_of (Give sub n verdict) = Some sub
 subscriber_of (Further said) = further_subscriber said
 subscriber_of (Event r) = asked_in r.result

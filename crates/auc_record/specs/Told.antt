@@ -107,10 +107,8 @@ told_further (further.Sim sub note) = further.Sim sub (told_note_of_sim note)
 
 -- the other lines are told whole
 abbrev pub told_line : LineRecord → LineRecord
-told_line (line.Vector sub n) = line.Vector sub n
-told_line (line.Withheld sub n stop) = line.Withheld sub n stop
-told_line (line.Exhausted sub word) = line.Exhausted sub word
-told_line (line.Sync sub verdict) = line.Sync sub verdict
+told_line (line.Number sub note) = line.Number sub note
+told_line (line.Sync sub note) = line.Sync sub note
 told_line (line.Give sub n verdict) = line.Give sub n verdict
 told_line (line.Further said) = line.Further (told_further said)
 told_line (line.Event r) = line.Event (told_record r)

@@ -11,16 +11,18 @@ use Rattle.auc_vector.specs.declared.parts.Vector.{Vector as AuthVector}
 use Rattle.auc_record.specs.Draws.{IsReleasable}
 use Rattle.auc_subs.specs.Setting.{Setting}
 use Rattle.auc_record.specs.declared.record.LineRecord.{LineRecord}
-use Rattle.auc_released.specs.declared.numbers.Number.{Number}
-use Rattle.auc_record.specs.Event.{event_number, event_vector}
-use Rattle.auc_record.specs.declared.record.LineRecord.TheVariants.{Vector, Withheld, Exhausted, Sync, Give, Further, Event}
+use Rattle.auc_released.specs.declared.numbers.Number.{Number as NumberOf}
+use Rattle.auc_vector.specs.declared.notes.NumberNote.TheVariants as number
+use Rattle.auc_record.specs.Event.{event_vector}
+use Rattle.auc_record.specs.Lines.{number_of}
+use Rattle.auc_record.specs.declared.record.LineRecord.TheVariants.{Number, Sync, Give, Further, Event}
 
 -- the vector that a line releases; an event's is that of its session's challenge, by the session's method and name
 abbrev pub vector_in : Setting → LineRecord → List AuthVector
-vector_in set (Vector sub n) = vector_at set sub n
-vector_in set (Withheld sub n stop) = []
-vector_in set (Exhausted sub word) = []
-vector_in set (Sync sub verdict) = []
+vector_in set (Number sub (number.Drew n)) = vector_at set sub n
+vector_in set (Number sub (number.Exhausted word)) = []
+vector_in set (Number sub (number.Withheld n stop)) = []
+vector_in set (Sync sub note) = []
 vector_in set (Give sub n verdict) = []
 vector_in set (Further said) = []
 vector_in set (Event r) = option_to_list (event_vector r.result)
@@ -46,16 +48,10 @@ pub record IsOfRow (key : List ℕ) (rows : List Row) (sub n : ℕ) (vector : Au
   pub made : vector ≡ vector_of row.secret method.Aka row.amf [] row.bits n (rand_of key sub n)
 
 -- a number that was released, if one was, is one that a vector may have, of a known subscriber
-abbrev pub IsReleasableNumber : Setting → Option Number → Type 0
+abbrev pub IsReleasableNumber : Setting → Option NumberOf → Type 0
 IsReleasableNumber set None = Unit {0}
 IsReleasableNumber set (Some number) = IsReleasable set number.sub number.n
 
 -- a line that releases a vector names a number that a vector may have, and a known subscriber
 abbrev pub IsReleasableLine : Setting → LineRecord → Type 0
-IsReleasableLine set (Vector s n) = IsReleasable set s n
-IsReleasableLine set (Withheld s n stop) = Unit {0}
-IsReleasableLine set (Exhausted s word) = Unit {0}
-IsReleasableLine set (Sync s answer) = Unit {0}
-IsReleasableLine set (Give s n answer) = Unit {0}
-IsReleasableLine set (Further said) = Unit {0}
-IsReleasableLine set (Event r) = IsReleasableNumber set (event_number r.result)
+IsReleasableLine set line = IsReleasableNumber set (number_of line)

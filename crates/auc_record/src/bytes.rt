@@ -6,9 +6,9 @@ ghost use Rattle.auc_record.specs.Vectors.{AreOfRow, IsOfRow, IsReleasableLine, 
 ghost use Rattle.auc_record.specs.InnerVectors.{IsSourceOf};
 
 use crate::record::{JobVectors, LineRecord};
-use auc_edge::{Items, NoMemory};
+use auc_memory::{Items, NoMemory};
 use auc_subs::Setting;
-use auc_vector::{Vector, Vectors};
+use auc_vector::{NumberNote, Vector, Vectors};
 use std::alloc::Global;
 
 /// The vectors of a subscriber, by its row.
@@ -65,7 +65,10 @@ fn add_vector(
     ensures source { IfOk result (IsSourceOf set.now) }
 {
     match line {
-        LineRecord::Vector { sub, n } => {
+        LineRecord::Number {
+            sub,
+            note: NumberNote::Drew(n),
+        } => {
             let mut source = source_of(set, last, *sub);
             all.push(source.vectors.vector_of(*n))?;
             Ok(Some(source))
@@ -76,8 +79,7 @@ fn add_vector(
             }
             Ok(last)
         }
-        LineRecord::Withheld { .. }
-        | LineRecord::Exhausted { .. }
+        LineRecord::Number { .. }
         | LineRecord::Sync { .. }
         | LineRecord::Give { .. }
         | LineRecord::Further(_) => Ok(last),

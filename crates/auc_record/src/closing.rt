@@ -9,7 +9,7 @@ ghost use Rattle.auc_record.specs.Counts.{counted_closing, counted_closings};
 
 use crate::counting::Count;
 use crate::record::Closing;
-use auc_edge::{Items, NoMemory};
+use auc_memory::{Items, NoMemory};
 use auc_sqn::top;
 use auc_subs::Subscribers;
 use std::alloc::Global;

@@ -2,8 +2,8 @@
 
 ghost use Rattle.std.specs.Prelude.{◌≡◌, IfOk};
 
-use auc_edge::{NoMemory, Octets};
 use auc_lines::Identity;
+use auc_memory::{NoMemory, Octets};
 use std::alloc::Global;
 
 /// A copy of some bytes.

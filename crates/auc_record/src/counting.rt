@@ -3,11 +3,10 @@
 ghost use Rattle.std.specs.Prelude.{◌≡◌, ◌++◌, ◌∷◌, [], List, length, IfOk};
 ghost use Rattle.auc_record.specs.declared.record.LineRecord.{LineRecord};
 ghost use Rattle.auc_record.specs.Lines.{all_lines};
-ghost use Rattle.auc_record.specs.Counts.{passed, count_event, count_with, AreCounted};
+ghost use Rattle.auc_record.specs.Counts.{count_with, AreCounted};
 
-use crate::event::EventRecord;
-use crate::record::{JobRecord, LineRecord, SyncVerdict};
-use auc_edge::NoMemory;
+use crate::record::{JobRecord, LineRecord};
+use auc_memory::NoMemory;
 use auc_vector::{NumberNote, ResyncNote};
 use std::alloc::Global;
 
@@ -22,45 +21,16 @@ pub struct Count {
     pub skipped: u64,
 }
 
-/// How many numbers a verdict passed over.
-fn passed(verdict: SyncVerdict) -> u64
-    ensures { result ≡ passed verdict }
-{
-    match verdict {
-        SyncVerdict::Moved(from, to) => to.saturating_sub(from),
-        SyncVerdict::InRange(..) | SyncVerdict::Beyond(..) | SyncVerdict::WrongMac => 0,
-    }
-}
-
 /// A count with a further line of its subscriber.
 fn count_line(mut count: Count, line: &LineRecord) -> Count
     ensures { result ≡ count_with count line.now }
 {
-    match line {
-        LineRecord::Vector { .. } => count.released = count.released.saturating_add(1),
-        LineRecord::Withheld { .. } => count.withheld = count.withheld.saturating_add(1),
-        LineRecord::Sync { verdict, .. } => {
-            count.skipped = count.skipped.saturating_add(passed(*verdict));
-        }
-        LineRecord::Exhausted { .. } | LineRecord::Give { .. } | LineRecord::Further(_) => {}
-        LineRecord::Event(event) => return count_event(count, event.record()),
-    }
-    count
-}
-
-/// A count with an event in which the centre was asked for its subscriber.
-fn count_event(mut count: Count, event: &EventRecord) -> Count
-    ensures { result ≡ count_event count event.now }
-{
-    let Ok(note) = &event.result else {
-        return count;
-    };
-    match note.notes.number {
+    match line.number_note() {
         Some(NumberNote::Drew(_)) => count.released = count.released.saturating_add(1),
         Some(NumberNote::Withheld(..)) => count.withheld = count.withheld.saturating_add(1),
         Some(NumberNote::Exhausted(_)) | None => {}
     }
-    if let Some(ResyncNote::Moved(from, to)) = note.notes.resync {
+    if let Some(ResyncNote::Moved(from, to)) = line.resync_note() {
         count.skipped = count.skipped.saturating_add(to.saturating_sub(from));
     }
     count

@@ -3,10 +3,9 @@
 ghost use Rattle.std.specs.Prelude.{◌≡◌, IfOk};
 
 use crate::copying::{copy_identity, copy_if_any, copy_of};
-use auc_edge::{NoMemory, Octets};
 use auc_lines::{End, SessionLine};
-use auc_released::Number;
-use auc_vector::{Notes, NumberNote, PeerWhy, ServerWhy, Step, Vector};
+use auc_memory::{NoMemory, Octets};
+use auc_vector::{Notes, NumberNote, PeerWhy, ResyncNote, ServerWhy, Step, Vector};
 use std::alloc::Global;
 use std::marker::Model;
 
@@ -105,7 +104,7 @@ pub struct EventRecord {
 }
 
 impl EventRecord {
-    ghost use Rattle.auc_record.specs.Event.{asked_in, event_number, event_vector};
+    ghost use Rattle.auc_record.specs.Event.{asked_in, event_vector, number_in, resync_in};
 
     /// The subscriber for whom the centre was asked, if it was asked.
     pub fn asked(&self) -> Option<u32>
@@ -127,16 +126,23 @@ impl EventRecord {
         }
     }
 
-    /// The number that was released, if one was.
-    pub fn number(&self) -> Option<Number>
-        ensures { result ≡ event_number self.now.result }
+    /// What the centre answered, if it was asked for a number.
+    pub fn number_note(&self) -> Option<NumberNote>
+        ensures { result ≡ number_in self.now.result }
     {
-        let Ok(note) = &self.result else {
-            return None;
-        };
-        match (note.asked, note.notes.number) {
-            (Some(sub), Some(NumberNote::Drew(n))) => Some(Number { sub, n }),
-            _ => None,
+        match &self.result {
+            Ok(note) => note.notes.number,
+            Err(_) => None,
+        }
+    }
+
+    /// What the centre made of a synchronisation failure, if one was reported.
+    pub fn resync_note(&self) -> Option<ResyncNote>
+        ensures { result ≡ resync_in self.now.result }
+    {
+        match &self.result {
+            Ok(note) => note.notes.resync,
+            Err(_) => None,
         }
     }
 }

@@ -3,7 +3,7 @@
 ghost use Rattle.std.specs.Prelude.{◌≡◌, IfOk};
 
 use crate::sites::SitesNote;
-use auc_edge::NoMemory;
+use auc_memory::NoMemory;
 use auc_vector::SimNote;
 use std::alloc::Global;
 use std::marker::Model;

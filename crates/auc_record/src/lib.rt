@@ -34,6 +34,6 @@ pub use further::{BoxedFurther, FivegOutcome, Further};
 pub use noting::{note, note_all};
 pub use record::{
     Breach, Closing, GiveVerdict, JobRecord, JobSessions, JobVectors, LineRecord, PartRecord,
-    Premise, RoundRecord, SessionVerdict, SyncVerdict,
+    Premise, RoundRecord, SessionVerdict,
 };
 pub use sites::{SitesNote, SitesOutcome};

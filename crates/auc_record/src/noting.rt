@@ -8,7 +8,7 @@ ghost use Rattle.auc_record.specs.Released.{has, AreReleased};
 ghost use Rattle.auc_record.specs.InnerRoom.{HasRoomForLine, HasRoomForLines};
 
 use crate::record::{JobRecord, LineRecord};
-use auc_edge::NoMemory;
+use auc_memory::NoMemory;
 use auc_released::Numbers;
 
 /// Notes the number that a line releases, if it releases one.

@@ -2,35 +2,24 @@
 
 use crate::event::BoxedEvent;
 use crate::further::BoxedFurther;
-use auc_edge::{Items, Stop};
 use auc_lines::End;
+use auc_memory::Items;
 use auc_released::Number;
-use auc_vector::Vector;
+use auc_vector::{NumberNote, ResyncNote, Vector};
 
 /// What one line of the output says of a job.
 #[derive(Drop)]
 pub enum LineRecord {
-    /// The authentication vector of the number was released for the subscriber.
-    Vector {
+    /// The centre was asked for the subscriber's next number, with its answer. The vector of a number that it drew was
+    /// released.
+    Number {
         sub: u32,
-        n: u64,
+        note: NumberNote,
     },
-    /// The number was drawn for the subscriber, and its vector withheld.
-    Withheld {
-        sub: u32,
-        n: u64,
-        stop: Stop,
-    },
-    /// A request for a vector ended because the subscriber's numbers are spent. The word was read in place
-    /// of a number, and is at least the greatest number.
-    Exhausted {
-        sub: u32,
-        word: u64,
-    },
-    /// A synchronisation failure was reported for the subscriber, with the verdict on its AUTS.
+    /// A synchronisation failure was reported for the subscriber, with what the centre made of its AUTS.
     Sync {
         sub: u32,
-        verdict: SyncVerdict,
+        note: ResyncNote,
     },
     /// The vector of the number was presented to the subscriber's USIM, with the USIM's answer.
     Give {
@@ -47,7 +36,7 @@ pub enum LineRecord {
 
 impl LineRecord {
     ghost use Rattle.std.specs.Prelude.{◌≡◌};
-    ghost use Rattle.auc_record.specs.InnerRoom.{number_of};
+    ghost use Rattle.auc_record.specs.Lines.{number_of, number_said, resync_said};
     ghost use Rattle.auc_record.specs.Record.{subscriber_of};
 
     /// The subscriber whom the line names, by its place: an event's is the one for whom the centre was asked, if it was
@@ -56,9 +45,7 @@ impl LineRecord {
         ensures { result ≡ subscriber_of self.now }
     {
         match self {
-            LineRecord::Vector { sub, .. }
-            | LineRecord::Withheld { sub, .. }
-            | LineRecord::Exhausted { sub, .. }
+            LineRecord::Number { sub, .. }
             | LineRecord::Sync { sub, .. }
             | LineRecord::Give { sub, .. } => Some(*sub),
             LineRecord::Further(further) => further.said().subscriber(),
@@ -66,35 +53,37 @@ impl LineRecord {
         }
     }
 
+    /// What the centre answered, if the line asked it for a number.
+    pub fn number_note(&self) -> Option<NumberNote>
+        ensures { result ≡ number_said self.now }
+    {
+        match self {
+            LineRecord::Number { note, .. } => Some(*note),
+            LineRecord::Event(event) => event.record().number_note(),
+            LineRecord::Sync { .. } | LineRecord::Give { .. } | LineRecord::Further(_) => None,
+        }
+    }
+
+    /// What the centre made of a synchronisation failure, if the line reported one.
+    pub fn resync_note(&self) -> Option<ResyncNote>
+        ensures { result ≡ resync_said self.now }
+    {
+        match self {
+            LineRecord::Sync { note, .. } => Some(*note),
+            LineRecord::Event(event) => event.record().resync_note(),
+            LineRecord::Number { .. } | LineRecord::Give { .. } | LineRecord::Further(_) => None,
+        }
+    }
+
     /// The number that the line releases, if it releases one.
     pub(crate) fn number(&self) -> Option<Number>
         ensures { result ≡ number_of self.now }
     {
-        match self {
-            LineRecord::Vector { sub, n } => Some(Number { sub: *sub, n: *n }),
-            LineRecord::Event(event) => event.record().number(),
-            LineRecord::Withheld { .. }
-            | LineRecord::Exhausted { .. }
-            | LineRecord::Sync { .. }
-            | LineRecord::Give { .. }
-            | LineRecord::Further(_) => None,
+        match (self.subscriber(), self.number_note()) {
+            (Some(sub), Some(NumberNote::Drew(n))) => Some(Number { sub, n }),
+            _ => None,
         }
     }
-}
-
-/// What the home network makes of an AUTS (TS 33.102 §6.3.5).
-#[derive(Clone, Copy)]
-pub enum SyncVerdict {
-    /// The word of the subscriber's numbers rose from the first value to the second, which is SEQ_MS.
-    Moved(u64, u64),
-    /// The word (first value) is at least SEQ_MS (second value), and the next number is in the USIM's range.
-    /// The word stays.
-    InRange(u64, u64),
-    /// The word (first value) is so far above SEQ_MS (second value) that the next number is out of the
-    /// USIM's range. The word stays.
-    Beyond(u64, u64),
-    /// The AUTS has a wrong MAC-S. The word wasn't read.
-    WrongMac,
 }
 
 /// What a USIM answers to a vector (TS 33.102 §6.3.3).

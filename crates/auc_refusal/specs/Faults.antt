@@ -1,6 +1,6 @@
 -- What a call did to the counts of faults of what it spoke to.
 use Rattle.std.specs.Prelude.{◌≡◌, ◌≢◌, ◌⊎◌, ℕ, List, Err, Result, IsErrOf}
-use Rattle.auc_edge.specs.Faults.{Rose}
+use Rattle.auc_memory.specs.Faults.{Rose}
 use Rattle.auc_refusal.specs.Refusal.{status_in}
 use Rattle.auc_refusal.specs.declared.refusal.Refusal.{Refusal}
 use Rattle.auc_refusal.specs.declared.status.Status.{Status}

@@ -8,8 +8,9 @@ ghost use Rattle.auc_refusal.specs.declared.refusal.Refusal.TheVariants as refus
 use crate::status::Status;
 use auc_block::Trouble;
 use auc_compact::CompactRefusal;
-use auc_edge::{Failed, NoMemory, ReadRefusal};
+use auc_edge::ReadRefusal;
 use auc_journal::OpenWhy;
+use auc_memory::{Failed, NoMemory};
 use auc_reading::ScriptWhy;
 use auc_subs::{SubsRefusal, SubsWhy};
 

@@ -1,7 +1,7 @@
 //! How a refusal is told: by its line and its status.
 
 ghost use Rattle.std.specs.Prelude.{◌≡◌, ◌≢◌, ◌++◌, OnOk, IfOk, IfErr, IsErrOf, Err, codes, decimal};
-ghost use Rattle.auc_edge.specs.Faults.{Rose};
+ghost use Rattle.auc_memory.specs.Faults.{Rose};
 ghost use Rattle.auc_edge.specs.Sink.{Appends, AppendsFront};
 ghost use Rattle.auc_refusal.specs.Told.{IsUntold, Tells};
 ghost use Rattle.auc_refusal.specs.Faults.{RoseAt};
@@ -9,7 +9,8 @@ ghost use Rattle.auc_refusal.specs.Refusal.{line_of, status_of, why_word, subs_w
 
 use crate::refusal::Refusal;
 use crate::status::Status;
-use auc_edge::{NoMemory, Octets, Sink, write_whole};
+use auc_edge::{Sink, write_whole};
+use auc_memory::{NoMemory, Octets};
 use auc_reading::ScriptWhy;
 use auc_subs::SubsWhy;
 use std::alloc::Global;

@@ -1,7 +1,7 @@
 //! What a service says: its replies, and the line of a refusal with which it ends.
 
 ghost use Rattle.std.specs.Prelude.{◌≡◌, ◌≢◌, ◌≤◌, ◌++◌, [], None, length, Err, OnOk, OnErr, IfErr};
-ghost use Rattle.auc_edge.specs.Faults.{Rose};
+ghost use Rattle.auc_memory.specs.Faults.{Rose};
 ghost use Rattle.auc_block.specs.Turns.{Says, SaysFront};
 ghost use Rattle.auc_refusal.specs.Told.{IsUntold, Tells, IsSaidUpTo, SaysTold};
 ghost use Rattle.auc_refusal.specs.Faults.{RoseAt};
@@ -13,7 +13,7 @@ use crate::refusal::Refusal;
 use crate::refusing::refusal_line;
 use crate::status::Status;
 use auc_block::{Wire, say_whole};
-use auc_edge::{NoMemory, Octets};
+use auc_memory::{NoMemory, Octets};
 use auc_reading::ScriptWhy;
 use std::alloc::Global;
 

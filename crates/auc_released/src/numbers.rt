@@ -5,7 +5,7 @@ ghost use Rattle.std.specs.Map.{keys_of, lookup};
 ghost use Rattle.auc_released.specs.Numbers.{has, is_same_block};
 ghost use Rattle.auc_released.specs.Room.{HasRoom, KeepsRoom, IsRoomier};
 
-use auc_edge::NoMemory;
+use auc_memory::NoMemory;
 use indexmap::IndexMap;
 use std::alloc::Global;
 use std::marker::Model;

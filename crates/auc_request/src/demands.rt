@@ -3,7 +3,7 @@
 ghost use Rattle.std.specs.Prelude.{◌≡◌};
 ghost use Rattle.auc_request.specs.Request.{has_bytes, is_known_kdf, is_own, is_right_name, is_separated};
 
-use auc_edge::Octets;
+use auc_memory::Octets;
 
 /// Whether the key derivation function that is offered first is the one that the peer has (RFC 9048 §3.2).
 pub fn is_known_kdf(first: Option<u16>) -> bool

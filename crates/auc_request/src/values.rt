@@ -4,14 +4,14 @@ ghost use Rattle.std.specs.Prelude.{◌≡◌};
 ghost use Rattle.std.specs.Option.{option_copied};
 ghost use Rattle.auc_request.specs.Request.{autn_of, bids, checkcode_of, code_of, first_code, first_kdf, first_value, is_bid, kdf_of, name_in, name_of, rand_of};
 
-use auc_attr::{Attr, AttrList};
-use auc_edge::Octets;
+use auc_attr::Attr;
+use auc_memory::Octets;
 
 /// The value of the first AT_RAND.
-pub fn rand_in(list: &AttrList) -> Option<[u8; 16]>
+pub fn rand_in(list: &[Attr]) -> Option<[u8; 16]>
     ensures { result ≡ first_value rand_of list.now }
 {
-    for attr in list.as_slice() {
+    for attr in list {
         if let Some(rand) = rand_of(attr) {
             return Some(rand);
         }
@@ -29,10 +29,10 @@ fn rand_of(attr: &Attr) -> Option<[u8; 16]>
 }
 
 /// The value of the first AT_AUTN.
-pub fn autn_in(list: &AttrList) -> Option<[u8; 16]>
+pub fn autn_in(list: &[Attr]) -> Option<[u8; 16]>
     ensures { result ≡ first_value autn_of list.now }
 {
-    for attr in list.as_slice() {
+    for attr in list {
         if let Some(autn) = autn_of(attr) {
             return Some(autn);
         }
@@ -50,10 +50,10 @@ fn autn_of(attr: &Attr) -> Option<[u8; 16]>
 }
 
 /// The code of the first AT_NOTIFICATION.
-pub fn code_in(list: &AttrList) -> Option<u16>
+pub fn code_in(list: &[Attr]) -> Option<u16>
     ensures { result ≡ first_code list.now }
 {
-    for attr in list.as_slice() {
+    for attr in list {
         if let Some(code) = code_of(attr) {
             return Some(code);
         }
@@ -71,10 +71,10 @@ fn code_of(attr: &Attr) -> Option<u16>
 }
 
 /// The number of the first AT_KDF.
-pub fn kdf_in(list: &AttrList) -> Option<u16>
+pub fn kdf_in(list: &[Attr]) -> Option<u16>
     ensures { result ≡ first_kdf list.now }
 {
-    for attr in list.as_slice() {
+    for attr in list {
         if let Some(kdf) = kdf_of(attr) {
             return Some(kdf);
         }
@@ -92,10 +92,10 @@ fn kdf_of(attr: &Attr) -> Option<u16>
 }
 
 /// The name in the first AT_KDF_INPUT, empty if there is none.
-pub fn name_in(list: &AttrList) -> &[u8]
+pub fn name_in(list: &[Attr]) -> &[u8]
     ensures { result.now ≡ name_in list.now }
 {
-    for attr in list.as_slice() {
+    for attr in list {
         if let Some(name) = name_of(attr) {
             return name.as_slice();
         }
@@ -113,10 +113,10 @@ fn name_of(attr: &Attr) -> Option<&Octets>
 }
 
 /// Whether there is an AT_BIDDING with D set.
-pub fn bids(list: &AttrList) -> bool
+pub fn bids(list: &[Attr]) -> bool
     ensures { result ≡ bids list.now }
 {
-    list.as_slice().iter().any(|attr| is_bid(attr))
+    list.iter().any(|attr| is_bid(attr))
 }
 
 fn is_bid(attr: &Attr) -> bool
@@ -129,10 +129,10 @@ fn is_bid(attr: &Attr) -> bool
 }
 
 /// The value of the first AT_CHECKCODE.
-pub fn checkcode_in(list: &AttrList) -> Option<&Octets>
+pub fn checkcode_in(list: &[Attr]) -> Option<&Octets>
     ensures { option_copied result ≡ first_value checkcode_of list.now }
 {
-    for attr in list.as_slice() {
+    for attr in list {
         if let Some(code) = checkcode_of(attr) {
             return Some(code);
         }

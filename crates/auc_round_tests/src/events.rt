@@ -1,7 +1,7 @@
 //! The text of lines for sites, and of events that change a packet.
 
 use crate::printing::{is_further_printed, is_printed};
-use auc_edge::Octets;
+use auc_memory::Octets;
 use auc_record::{
     BoxedEvent, Event, EventRecord, Further, LineRecord, Note, NoteStep, SitesNote, SitesOutcome,
     WorldRefusal,

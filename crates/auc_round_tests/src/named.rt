@@ -3,12 +3,13 @@
 ghost use Rattle.std.specs.Prelude.{All, IsTrue};
 ghost use Rattle.auc_cards.specs.Known.{AreKnown, IsKnownLine};
 
-use crate::printing::{names_below, one, subscribers_of};
-use auc_edge::{Imsi, Items, Stop};
+use crate::printing::{drew, names_below, one, subscribers_of};
 use auc_lines::{JobPart, Line, Report};
+use auc_memory::{Imsi, Items, Stop};
 use auc_named::{Named, are_plain, name};
-use auc_record::{Closing, JobRecord, LineRecord, Premise, RoundRecord, SyncVerdict};
+use auc_record::{Closing, JobRecord, LineRecord, Premise, RoundRecord};
 use auc_subs::Subscribers;
+use auc_vector::{NumberNote, ResyncNote};
 use std::alloc::Global;
 use std::process::Abort;
 
@@ -178,16 +179,15 @@ fn each_named_subscriber_has_one_place_in_the_order_of_all(rt: HostRuntime) {
 
 // The records of two jobs over two subscribers.
 fn records(rt: &impl Abort, alloc: Global) -> Items<JobRecord> {
-    let mut first = one(rt, alloc, LineRecord::Vector { sub: 1, n: 8 });
-    let withheld = LineRecord::Withheld {
+    let mut first = one(rt, alloc, drew(1, 8));
+    let withheld = LineRecord::Number {
         sub: 0,
-        n: 9,
-        stop: Stop::Fault,
+        note: NumberNote::Withheld(9, Stop::Fault),
     };
     first.push(withheld).expect(rt, "memory");
     let sync = LineRecord::Sync {
         sub: 1,
-        verdict: SyncVerdict::WrongMac,
+        note: ResyncNote::BadAuts,
     };
     let mut jobs = one(rt, alloc, first);
     jobs.push(one(rt, alloc, sync)).expect(rt, "memory");
@@ -224,10 +224,11 @@ fn round_of_all(rt: &impl Abort, alloc: Global) -> RoundRecord {
 
 // The subscriber of a record, and its number, or 0 if it has none.
 fn record_value(record: &LineRecord) -> (Option<u32>, u64) {
-    match record {
-        LineRecord::Vector { n, .. } | LineRecord::Withheld { n, .. } => (record.subscriber(), *n),
-        _ => (record.subscriber(), 0),
-    }
+    let n = match record.number_note() {
+        Some(NumberNote::Drew(n) | NumberNote::Withheld(n, _)) => n,
+        Some(NumberNote::Exhausted(_)) | None => 0,
+    };
+    (record.subscriber(), n)
 }
 
 // The records of two jobs, if the first one has two and the second one has one.

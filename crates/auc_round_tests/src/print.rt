@@ -1,15 +1,16 @@
 //! The text of a transcript. Further lines are seen in the stored runs of the program and in the tests of `auc_runs`.
 
 use crate::printing::{
-    is_further_printed, job_text, names_below, one, print_alone, rands, subscribers, subscribers_of,
+    drew, is_further_printed, job_text, names_below, one, print_alone, rands, subscribers,
+    subscribers_of,
 };
-use auc_edge::{Items, Octets, Stop};
 use auc_hmac::KeySet;
 use auc_ident::Names;
+use auc_memory::{Items, Octets, Stop};
 use auc_print::{print_restart, print_round};
 use auc_record::{
     BoxedEvent, Closing, End, Event, EventRecord, FivegOutcome, Further, GiveVerdict, JobRecord,
-    LineRecord, Note, NoteStep, Premise, RoundRecord, SessionVerdict, Setting, SyncVerdict,
+    LineRecord, Note, NoteStep, Premise, RoundRecord, SessionVerdict, Setting,
 };
 use auc_subs::Subscribers;
 use auc_vector::{CounterNote, Notes, NumberNote, Outcome, ResyncNote, Step, UsimNote, Vector};
@@ -30,16 +31,15 @@ fn vector() -> Vector {
 }
 
 fn job(rt: &impl Abort, alloc: Global) -> JobRecord {
-    let mut job = one(rt, alloc, LineRecord::Vector { sub: 1, n: 0 });
-    let withheld = LineRecord::Withheld {
+    let mut job = one(rt, alloc, drew(1, 0));
+    let withheld = LineRecord::Number {
         sub: 1,
-        n: u64::MAX,
-        stop: Stop::Fault,
+        note: NumberNote::Withheld(u64::MAX, Stop::Fault),
     };
     job.push(withheld).expect(rt, "memory");
     let sync = LineRecord::Sync {
         sub: 0,
-        verdict: SyncVerdict::Beyond(8796093022207, 0),
+        note: ResyncNote::Beyond(8796093022207, 0),
     };
     job.push(sync).expect(rt, "memory");
     job
@@ -107,7 +107,7 @@ fn print_parts(
     }
     print_round(round, &[], set, false, out).expect(rt, "memory");
     print_restart(out).expect(rt, "memory");
-    print_alone(rt, alloc, LineRecord::Vector { sub: 0, n: 1 }, set, out)
+    print_alone(rt, alloc, drew(0, 1), set, out)
 }
 
 // The text of these parts, which have to be printable.
@@ -160,7 +160,7 @@ bytes 8a35d86fbcde6accb2cc7d4cd8ea2492 5c932ea779be8000a813424684fb5679 59fce589
 
 // The text of a round with the first vector of the subscriber of a line.
 fn first_vector(rt: &impl Abort, alloc: Global, line: &[u8]) -> Octets {
-    let job = one(rt, alloc, LineRecord::Vector { sub: 0, n: 1 });
+    let job = one(rt, alloc, drew(0, 1));
     job_text(rt, alloc, &subscribers_of(rt, alloc, &[line]), job, true)
 }
 

@@ -4,8 +4,8 @@ ghost use Rattle.std.specs.Prelude.{◌≡◌, IsTrue, All, ◌<◌};
 ghost use Rattle.auc_record.specs.Record.{IsBelow, NamesBelow, subscriber_of};
 ghost use Rattle.auc_record.specs.Vectors.{IsReleasableLine};
 
-use auc_edge::{Items, Octets};
 use auc_ident::Names;
+use auc_memory::{Items, Octets};
 use auc_print::print_round;
 use auc_random::Rands;
 use auc_record::{
@@ -13,6 +13,7 @@ use auc_record::{
 };
 use auc_sqn::top;
 use auc_subs::Subscribers;
+use auc_vector::NumberNote;
 use std::alloc::Global;
 use std::process::Abort;
 
@@ -51,16 +52,11 @@ fn is_below(sub: Option<u32>, count: usize) -> bool
 fn is_releasable(line: &LineRecord, set: &Setting) -> bool
     ensures { IsTrue result → IsReleasableLine set.now line.now }
 {
-    match line {
-        LineRecord::Vector { sub, n } => {
-            *sub < set.subs.len() && 1 <= *n && *n <= top(set.subs.row(*sub).bits)
+    match (line.subscriber(), line.number_note()) {
+        (Some(sub), Some(NumberNote::Drew(n))) => {
+            sub < set.subs.len() && 1 <= n && n <= top(set.subs.row(sub).bits)
         }
-        LineRecord::Event(event) => event.record().number().is_none(),
-        LineRecord::Withheld { .. }
-        | LineRecord::Exhausted { .. }
-        | LineRecord::Sync { .. }
-        | LineRecord::Give { .. }
-        | LineRecord::Further(_) => true,
+        _ => true,
     }
 }
 
@@ -120,6 +116,14 @@ fn print_one_job(
         print_round(round, &[], set, false, out).expect(rt, "memory");
     }
     true
+}
+
+// The record of a number that was drawn, and whose vector was released.
+pub(crate) fn drew(sub: u32, n: u64) -> LineRecord {
+    LineRecord::Number {
+        sub,
+        note: NumberNote::Drew(n),
+    }
 }
 
 // A list of one record.

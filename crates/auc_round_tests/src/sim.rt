@@ -1,8 +1,8 @@
 //! The text of lines for sessions of EAP-SIM.
 
 use crate::printing::is_further_printed;
-use auc_edge::Octets;
 use auc_hmac::KeySet;
+use auc_memory::Octets;
 use auc_record::{End, Further};
 use auc_vector::{Outcome, Reason, SimBecame, SimNote, SimWhy, Step};
 use std::alloc::Global;

@@ -3,7 +3,7 @@ use Rattle.std.proofs.Common.{◌≡◌, ◌<◌, ◌≤◌, ◌⊎◌, ℕ, Lis
 use Rattle.std.specs.Prelude.{slice_index}
 use Rattle.std.proofs.Math.ListN.{length-map}
 use Rattle.std.proofs.lemmas.List.Elements.{All-nil, All-cons}
-use Rattle.auc_edge.specs.Identity.{Identity}
+use Rattle.auc_memory.specs.Identity.{Identity}
 use Rattle.auc_history.proofs.Facts.{AllPairs-cons}
 use Rattle.auc_journal.specs.Image.{Frame, Reading, read_image, reserved_as, reserved_by}
 use Rattle.auc_journal.specs.Journal.{JournalState, imsi_at}

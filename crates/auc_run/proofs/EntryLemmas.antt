@@ -1,7 +1,8 @@
 -- For a load: the entries for which lines stand, and the words that lines of draws tell of them.
-use Rattle.std.proofs.Common.{◌≡◌, ℕ, zero, suc, ◌+◌, ◌-◌, ◌<◌, ◌≤◌, ◌⊎◌, Bool, true, false, List, [], ◌∷◌, ◌++◌, length, get_or, All, Any, Some, refl, sym, ◌∙◌, ap, append_assoc, append-nil, arith, inl, inr}
+use Rattle.std.proofs.Common.{◌≡◌, ℕ, zero, suc, ◌+◌, ◌-◌, ◌<◌, ◌≤◌, ◌⊎◌, Bool, true, false, List, [], ◌∷◌, ◌++◌, length, get_or, All, Any, Some, None, refl, sym, ◌∙◌, ap, append_assoc, append-nil, arith, inl, inr}
 use Rattle.std.specs.Prelude.{◌==◌, ◌||◌, if◌then◌else◌}
 use Rattle.std.specs.List.{list_any}
+use Rattle.std.proofs.lemmas.Bool.{false≢true}
 use Rattle.std.proofs.lemmas.Bool.Decides.{nat_tests}
 use Rattle.std.proofs.lemmas.List.Elements.{All-nil, All-cons, All-head, All-tail}
 use Rattle.std.proofs.lemmas.List.Folds.{list_any-append}
@@ -11,10 +12,13 @@ use Rattle.auc_history.specs.declared.entry.Entry.{Entry}
 use Rattle.auc_history.specs.declared.entry.Entry.TheVariants.{Drawn, Moved, Look}
 use Rattle.auc_history.proofs.Facts.{times-append, times-numbers_after}
 use Rattle.auc_sqn.specs.Number.{max_seq}
-use Rattle.auc_record.specs.Entries.{reports, entries_of_line, entries_of_lines, entries_of_jobs}
+use Rattle.auc_record.specs.Entries.{reports, entries_of_line, entries_of_lines, entries_of_jobs, entries_of_number}
+use Rattle.auc_record.specs.Event.{is_exhausted}
 use Rattle.auc_record.specs.Lines.{all_lines}
 use Rattle.auc_record.specs.declared.record.LineRecord.{LineRecord}
-use Rattle.auc_record.specs.declared.record.LineRecord.TheVariants.{Vector, Withheld, Exhausted, Sync, Give, Further, Event}
+use Rattle.auc_record.specs.declared.record.LineRecord.TheVariants.{Number, Sync, Give, Further, Event}
+use Rattle.auc_vector.specs.declared.notes.NumberNote.{NumberNote}
+use Rattle.auc_vector.specs.declared.notes.NumberNote.TheVariants as number
 
 -- the entries of lines and of further ones
 entries_of_lines-append : (sub : ℕ) (before xs ys : List LineRecord)
@@ -91,30 +95,28 @@ splits_within top opening closing lists splits k d inside =
 
 -- a line of a draw: a word that it tells is that of a spent subscriber
 abbrev pub IsOfDraw : LineRecord → Type 0
-IsOfDraw (Vector s n) = Unit {0}
-IsOfDraw (Withheld s n stop) = Unit {0}
-IsOfDraw (Exhausted s word) = max_seq ≤ word
-IsOfDraw (Sync s answer) = ⊥
+IsOfDraw (Number s (number.Drew n)) = Unit {0}
+IsOfDraw (Number s (number.Withheld n stop)) = Unit {0}
+IsOfDraw (Number s (number.Exhausted word)) = max_seq ≤ word
+IsOfDraw (Sync s note) = ⊥
 IsOfDraw (Give s n answer) = ⊥
 IsOfDraw (Further said) = ⊥
 IsOfDraw (Event r) = ⊥
 
 -- its subscriber
 abbrev pub sub_of : LineRecord → ℕ
-sub_of (Vector s n) = s
-sub_of (Withheld s n stop) = s
-sub_of (Exhausted s word) = s
-sub_of (Sync s answer) = s
+sub_of (Number s note) = s
+sub_of (Sync s note) = s
 sub_of (Give s n answer) = s
 sub_of (Further said) = 0
 sub_of (Event r) = 0
 
 -- a word that it tells is at most another
 abbrev pub WordWithin : ℕ → LineRecord → Type 0
-WordWithin closing (Vector s n) = Unit {0}
-WordWithin closing (Withheld s n stop) = Unit {0}
-WordWithin closing (Exhausted s word) = word ≤ closing
-WordWithin closing (Sync s answer) = Unit {0}
+WordWithin closing (Number s (number.Drew n)) = Unit {0}
+WordWithin closing (Number s (number.Withheld n stop)) = Unit {0}
+WordWithin closing (Number s (number.Exhausted word)) = word ≤ closing
+WordWithin closing (Sync s note) = Unit {0}
 WordWithin closing (Give s n answer) = Unit {0}
 WordWithin closing (Further said) = Unit {0}
 WordWithin closing (Event r) = Unit {0}
@@ -128,23 +130,29 @@ mark_within : (told : Bool) (closing word : ℕ) → (told ≡ true → word ≤
 mark_within true closing word reported within = reported refl
 mark_within false closing word reported within = let above = All-head (IsWithin closing) (Drawn (word + 1)) [] within in omega (arith, above)
 
--- the entries of a line that names the subscriber
-named_entries : (there : Bool) (closing : ℕ) (entries : List Entry) → there ≡ true → All (IsWithin closing) (if there then entries else []) → All (IsWithin closing) entries
-named_entries true closing entries is within = within
-named_entries false closing entries is within = absurd (cc)
+-- the entries of a number that was asked for, for the subscriber
+named_entries : (there : Bool) (sub closing : ℕ) (before : List LineRecord) (note : NumberNote) → there ≡ true
+    → All (IsWithin closing) (entries_of_number sub before (if there then Some note else None)) → All (IsWithin closing) (entries_of_number sub before (Some note))
+named_entries true sub closing before note is within = within
+named_entries false sub closing before note is within = absurd (false≢true is)
 
 -- a line of the subscriber whose entry reaches no further
 line_within : (sub closing : ℕ) (before : List LineRecord) (line : LineRecord) → IsOfDraw line → ReportsWithin sub closing before
     → All (IsWithin closing) (entries_of_line sub before line) → sub_of line ≡ sub → WordWithin closing line
-line_within sub closing before (Vector s n) is reported within named = tt
-line_within sub closing before (Withheld s n stop) is reported within named = tt
-line_within sub closing before (Exhausted s word) is reported within named =
+line_within sub closing before (Number s (number.Drew n)) is reported within named = tt
+line_within sub closing before (Number s (number.Withheld n stop)) is reported within named = tt
+line_within sub closing before (Number s (number.Exhausted word)) is reported within named =
     mark_within (list_any (reports sub word) before) closing word (reported word)
-    (named_entries (s == sub) closing (if list_any (reports sub word) before then [] else Drawn (word + 1) ∷ []) (grind (arith, nat_tests)) within)
-line_within sub closing before (Sync s answer) is reported within named = tt
+    (named_entries (s == sub) sub closing before (number.Exhausted word) (grind (arith, nat_tests)) within)
+line_within sub closing before (Sync s note) is reported within named = tt
 line_within sub closing before (Give s n answer) is reported within named = tt
 line_within sub closing before (Further said) is reported within named = tt
 line_within sub closing before (Event r) is reported within named = tt
+
+-- a word that a line tells of the subscriber, if it names the subscriber
+told_named : (there : Bool) (word : ℕ) (note : NumberNote) → is_exhausted word (if there then Some note else None) ≡ true → (there ≡ true) × (is_exhausted word (Some note) ≡ true)
+told_named true word note told = (refl, told)
+told_named false word note told = absurd (false≢true told)
 
 -- the words that lines and one more reported
 reports_more : (sub closing : ℕ) (before : List LineRecord) (line : LineRecord) → IsOfDraw line → ReportsWithin sub closing before
@@ -158,15 +166,17 @@ reports_more sub closing before line is reported here word told =
     either false true is first second = second refl
     either false false is first second = absurd (cc)
 
+    noted : (s : ℕ) (note : NumberNote) → WordWithin closing (Number s note) → is_exhausted word (Some note) ≡ true → word ≤ closing
+    noted s (number.Drew n) within told = absurd (false≢true told)
+    noted s (number.Withheld n stop) within told = absurd (false≢true told)
+    noted s (number.Exhausted read) within told = let at : read ≡ word = grind (arith, nat_tests) in omega (arith, at, within)
+
     tells : (line : LineRecord) → IsOfDraw line → (sub_of line ≡ sub → WordWithin closing line) → reports sub word line ≡ true → word ≤ closing
-    tells (Vector s n) of_draw here is = absurd (cc)
-    tells (Withheld s n stop) of_draw here is = absurd (cc)
-    tells (Exhausted s read) of_draw here is =
+    tells (Number s note) of_draw here is =
+        let (there, told) = told_named (s == sub) word note is in
         let same : s ≡ sub = grind (arith, nat_tests) in
-        let at : read ≡ word = grind (arith, nat_tests) in
-        let bound = here same in
-        omega (arith, bound)
-    tells (Sync s answer) of_draw here is = absurd of_draw
+        noted s note (here same) told
+    tells (Sync s note) of_draw here is = absurd of_draw
     tells (Give s n answer) of_draw here is = absurd of_draw
     tells (Further said) of_draw here is = absurd of_draw
     tells (Event r) of_draw here is = absurd of_draw

@@ -1,6 +1,6 @@
 -- For calls that say what they did to counts of faults.
 use Rattle.std.proofs.Common.{◌≡◌, ◌∙◌, ℕ, Result, Ok, Err, subst}
-use Rattle.auc_edge.specs.Faults.{Rose}
+use Rattle.auc_memory.specs.Faults.{Rose}
 use Rattle.auc_refusal.specs.Faults.{RoseOnDisk, RoseOnWire}
 use Rattle.auc_refusal.specs.declared.refusal.Refusal.{Refusal}
 use Rattle.auc_refusal.specs.declared.refusal.Refusal.TheVariants as refused

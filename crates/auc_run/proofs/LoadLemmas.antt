@@ -1,5 +1,5 @@
 -- For a load: the numbers at which its round closes the subscribers.
-use Rattle.std.proofs.Common.{◌≡◌, ℕ, zero, suc, ◌+◌, ◌*◌, ◌%◌, ◌<◌, ◌≤◌, Bool, true, false, cond, List, [], ◌∷◌, ◌++◌, length, get_or, map, All, AllPairs, Option, None, Result, Ok, Err, IfOk, refl, sym, ◌∙◌, ap, subst, append-nil, arith}
+use Rattle.std.proofs.Common.{◌≡◌, ℕ, zero, suc, ◌+◌, ◌*◌, ◌%◌, ◌<◌, ◌≤◌, Bool, true, false, cond, List, [], ◌∷◌, ◌++◌, length, get_or, map, All, AllPairs, Option, Some, None, Result, Ok, Err, IfOk, refl, sym, ◌∙◌, ap, subst, append-nil, arith}
 use Rattle.std.specs.Prelude.{◌==◌, if◌then◌else◌, count_by, flat_map}
 use Rattle.std.specs.List.{range_with_len}
 use Rattle.std.proofs.lemmas.Bool.Decides.{nat_tests}
@@ -10,7 +10,7 @@ use Rattle.std.proofs.lemmas.List.Elements.{All-nil, All-cons, All-head, All-tai
 use Rattle.std.proofs.lemmas.List.FromFn.{get_or-map-range_with_len, length-map-range_with_len}
 use Rattle.std.proofs.lemmas.List.Sums.{get_or-le-sum_by, sum_by-append, sum_by-cons}
 use Rattle.std.proofs.lemmas.Simd.{map-map}
-use Rattle.auc_edge.specs.declared.stop.Stop.{Stop}
+use Rattle.auc_memory.specs.declared.stop.Stop.{Stop}
 use Rattle.auc_history.specs.History.{drawn, drawn_by, skipped, skipped_by}
 use Rattle.auc_history.specs.Split.{all_entries}
 use Rattle.auc_history.specs.declared.entry.Entry.TheVariants.{Drawn}
@@ -30,17 +30,20 @@ use Rattle.auc_sqn.specs.Number.{max_seq, top_of}
 use Rattle.auc_sqn.proofs.Facts.{top_of-5}
 use Rattle.auc_subs.specs.Subscriber.{top_at}
 use Rattle.auc_subs.specs.declared.row.Row.{Row}
-use Rattle.auc_record.specs.Entries.{is_reported, entries_of_line, entries_of_lines, entries_of_jobs}
+use Rattle.auc_record.specs.Entries.{is_reported, entries_of_line, entries_of_lines, entries_of_jobs, entries_of_number}
+use Rattle.auc_record.specs.Event.{number_released, number_withheld}
 use Rattle.auc_record.specs.Draws.{DrawGives}
 use Rattle.auc_world.specs.Given.{JobsGive}
-use Rattle.auc_record.specs.Lines.{all_lines, numbers_of, released_by, withheld_by, withheld_of}
+use Rattle.auc_record.specs.Lines.{all_lines, number_by, numbers_of, released_by, withheld_by, withheld_of}
 use Rattle.auc_world.specs.Net.{Net}
 use Rattle.auc_world.specs.Round.{IsLawfulRound, closing_of, closings_from}
 use Rattle.auc_subs.specs.Setting.{Setting}
 use Rattle.auc_world.specs.Start.{Kept}
 use Rattle.auc_record.specs.declared.record.Closing.{Closing}
 use Rattle.auc_record.specs.declared.record.LineRecord.{LineRecord}
-use Rattle.auc_record.specs.declared.record.LineRecord.TheVariants.{Vector, Withheld, Exhausted, Sync, Give, Further, Event}
+use Rattle.auc_record.specs.declared.record.LineRecord.TheVariants.{Number, Sync, Give, Further, Event}
+use Rattle.auc_vector.specs.declared.notes.NumberNote.{NumberNote}
+use Rattle.auc_vector.specs.declared.notes.NumberNote.TheVariants as number
 use Rattle.auc_record.specs.declared.record.RoundRecord.{RoundRecord}
 use Rattle.auc_run.proofs.EntryLemmas.{IsOfDraw, IsWithin, WordWithin, all_entries-of_jobs, splits_within, lines_within, sub_of}
 
@@ -52,11 +55,11 @@ no_lines lines none = All-same IsOfDraw lines [] none (All-nil IsOfDraw)
 draw_lines : (set : Setting) (sub count : ℕ) (lines : List LineRecord) → top_at set.rows sub ≡ max_seq → DrawGives set sub count lines → All IsOfDraw lines
 draw_lines set sub zero lines top gives = no_lines lines gives
 draw_lines set sub (suc count) [] top gives = absurd gives
-draw_lines set sub (suc count) (Vector s n ∷ lines) top (same, is, more) = All-cons IsOfDraw (Vector s n) lines tt (draw_lines set sub count lines top more)
-draw_lines set sub (suc count) (Withheld s n stop ∷ lines) top (same, first, last, none) = All-cons IsOfDraw (Withheld s n stop) lines tt (no_lines lines none)
-draw_lines set sub (suc count) (Exhausted s word ∷ lines) top (same, spent, none) =
-    All-cons IsOfDraw (Exhausted s word) lines (subst (λ (n : ℕ). n ≤ word) top spent) (no_lines lines none)
-draw_lines set sub (suc count) (Sync s answer ∷ lines) top gives = absurd gives
+draw_lines set sub (suc count) (Number s (number.Drew n) ∷ lines) top (same, is, more) = All-cons IsOfDraw (Number s (number.Drew n)) lines tt (draw_lines set sub count lines top more)
+draw_lines set sub (suc count) (Number s (number.Withheld n stop) ∷ lines) top (same, first, last, none) = All-cons IsOfDraw (Number s (number.Withheld n stop)) lines tt (no_lines lines none)
+draw_lines set sub (suc count) (Number s (number.Exhausted word) ∷ lines) top (same, spent, none) =
+    All-cons IsOfDraw (Number s (number.Exhausted word)) lines (subst (λ (n : ℕ). n ≤ word) top spent) (no_lines lines none)
+draw_lines set sub (suc count) (Sync s note ∷ lines) top gives = absurd gives
 draw_lines set sub (suc count) (Give s n answer ∷ lines) top gives = absurd gives
 draw_lines set sub (suc count) (Further said ∷ lines) top gives = absurd gives
 draw_lines set sub (suc count) (Event r ∷ lines) top gives = absurd gives
@@ -66,15 +69,15 @@ draw_named : (set : Setting) (total sub count : ℕ) (lines : List LineRecord) �
     → All (λ line. sub_of line < total) lines
 draw_named set total sub zero lines inside gives = All-same (λ line. sub_of line < total) lines [] gives (All-nil (λ line. sub_of line < total))
 draw_named set total sub (suc count) [] inside gives = absurd gives
-draw_named set total sub (suc count) (Vector s n ∷ lines) inside (same, is, more) =
-    All-cons (λ line. sub_of line < total) (Vector s n) lines (omega (arith, same, inside)) (draw_named set total sub count lines inside more)
-draw_named set total sub (suc count) (Withheld s n stop ∷ lines) inside (same, first, last, none) =
-    All-cons (λ line. sub_of line < total) (Withheld s n stop) lines (omega (arith, same, inside))
+draw_named set total sub (suc count) (Number s (number.Drew n) ∷ lines) inside (same, is, more) =
+    All-cons (λ line. sub_of line < total) (Number s (number.Drew n)) lines (omega (arith, same, inside)) (draw_named set total sub count lines inside more)
+draw_named set total sub (suc count) (Number s (number.Withheld n stop) ∷ lines) inside (same, first, last, none) =
+    All-cons (λ line. sub_of line < total) (Number s (number.Withheld n stop)) lines (omega (arith, same, inside))
     (All-same (λ line. sub_of line < total) lines [] none (All-nil (λ line. sub_of line < total)))
-draw_named set total sub (suc count) (Exhausted s word ∷ lines) inside (same, spent, none) =
-    All-cons (λ line. sub_of line < total) (Exhausted s word) lines (omega (arith, same, inside))
+draw_named set total sub (suc count) (Number s (number.Exhausted word) ∷ lines) inside (same, spent, none) =
+    All-cons (λ line. sub_of line < total) (Number s (number.Exhausted word)) lines (omega (arith, same, inside))
     (All-same (λ line. sub_of line < total) lines [] none (All-nil (λ line. sub_of line < total)))
-draw_named set total sub (suc count) (Sync s answer ∷ lines) inside gives = absurd gives
+draw_named set total sub (suc count) (Sync s note ∷ lines) inside gives = absurd gives
 draw_named set total sub (suc count) (Give s n answer ∷ lines) inside gives = absurd gives
 draw_named set total sub (suc count) (Further said ∷ lines) inside gives = absurd gives
 draw_named set total sub (suc count) (Event r ∷ lines) inside gives = absurd gives
@@ -83,10 +86,10 @@ draw_named set total sub (suc count) (Event r ∷ lines) inside gives = absurd g
 draw_few : (set : Setting) (sub count : ℕ) (lines : List LineRecord) → DrawGives set sub count lines → length lines ≤ count
 draw_few set sub zero lines gives = let none = ap length gives in omega (arith, none)
 draw_few set sub (suc count) [] gives = absurd gives
-draw_few set sub (suc count) (Vector s n ∷ lines) (same, is, more) = let rest = draw_few set sub count lines more in omega (arith, rest)
-draw_few set sub (suc count) (Withheld s n stop ∷ lines) (same, first, last, none) = let rest = ap length none in omega (arith, rest)
-draw_few set sub (suc count) (Exhausted s word ∷ lines) (same, spent, none) = let rest = ap length none in omega (arith, rest)
-draw_few set sub (suc count) (Sync s answer ∷ lines) gives = absurd gives
+draw_few set sub (suc count) (Number s (number.Drew n) ∷ lines) (same, is, more) = let rest = draw_few set sub count lines more in omega (arith, rest)
+draw_few set sub (suc count) (Number s (number.Withheld n stop) ∷ lines) (same, first, last, none) = let rest = ap length none in omega (arith, rest)
+draw_few set sub (suc count) (Number s (number.Exhausted word) ∷ lines) (same, spent, none) = let rest = ap length none in omega (arith, rest)
+draw_few set sub (suc count) (Sync s note ∷ lines) gives = absurd gives
 draw_few set sub (suc count) (Give s n answer ∷ lines) gives = absurd gives
 draw_few set sub (suc count) (Further said ∷ lines) gives = absurd gives
 draw_few set sub (suc count) (Event r ∷ lines) gives = absurd gives
@@ -139,46 +142,36 @@ few_lines set count (s ∷ ss) (lines ∷ records) (here, more) =
 
 -- ---- no number is skipped, and few are drawn
 
+number_draws : (sub : ℕ) (before : List LineRecord) (note : Option NumberNote) → length (drawn (entries_of_number sub before note)) ≤ 1
+number_draws sub before None = omega arith
+number_draws sub before (Some (number.Drew n)) = omega arith
+number_draws sub before (Some (number.Withheld n stop)) = omega arith
+number_draws sub before (Some (number.Exhausted word)) = mark (is_reported sub word before)
+  where
+    mark : (told : Bool) → length (drawn (if told then [] else Drawn (word + 1) ∷ [])) ≤ 1
+    mark true = omega arith
+    mark false = omega arith
+
 line_draws : (sub : ℕ) (before : List LineRecord) (line : LineRecord) → IsOfDraw line → length (drawn (entries_of_line sub before line)) ≤ 1
-line_draws sub before (Vector s n) is = one (s == sub) n
-  where
-    one : (there : Bool) (n : ℕ) → length (drawn (if there then Drawn n ∷ [] else [])) ≤ 1
-    one true n = omega arith
-    one false n = omega arith
-line_draws sub before (Withheld s n stop) is = one (s == sub) n
-  where
-    one : (there : Bool) (n : ℕ) → length (drawn (if there then Drawn n ∷ [] else [])) ≤ 1
-    one true n = omega arith
-    one false n = omega arith
-line_draws sub before (Exhausted s word) is = mark (s == sub) (is_reported sub word before) (word + 1)
-  where
-    mark : (there told : Bool) (n : ℕ) → length (drawn (if there then (if told then [] else Drawn n ∷ []) else [])) ≤ 1
-    mark true true n = omega arith
-    mark true false n = omega arith
-    mark false told n = omega arith
-line_draws sub before (Sync s answer) is = absurd is
+line_draws sub before (Number s note) is = number_draws sub before (number_by sub (Number s note))
+line_draws sub before (Sync s note) is = absurd is
 line_draws sub before (Give s n answer) is = absurd is
 line_draws sub before (Further said) is = absurd is
 line_draws sub before (Event r) is = absurd is
 
+number_skips : (sub : ℕ) (before : List LineRecord) (note : Option NumberNote) → skipped (entries_of_number sub before note) ≡ 0
+number_skips sub before None = refl
+number_skips sub before (Some (number.Drew n)) = refl
+number_skips sub before (Some (number.Withheld n stop)) = refl
+number_skips sub before (Some (number.Exhausted word)) = mark (is_reported sub word before)
+  where
+    mark : (told : Bool) → skipped (if told then [] else Drawn (word + 1) ∷ []) ≡ 0
+    mark true = refl
+    mark false = refl
+
 line_skips : (sub : ℕ) (before : List LineRecord) (line : LineRecord) → IsOfDraw line → skipped (entries_of_line sub before line) ≡ 0
-line_skips sub before (Vector s n) is = one (s == sub) n
-  where
-    one : (there : Bool) (n : ℕ) → skipped (if there then Drawn n ∷ [] else []) ≡ 0
-    one true n = refl
-    one false n = refl
-line_skips sub before (Withheld s n stop) is = one (s == sub) n
-  where
-    one : (there : Bool) (n : ℕ) → skipped (if there then Drawn n ∷ [] else []) ≡ 0
-    one true n = refl
-    one false n = refl
-line_skips sub before (Exhausted s word) is = mark (s == sub) (is_reported sub word before) (word + 1)
-  where
-    mark : (there told : Bool) (n : ℕ) → skipped (if there then (if told then [] else Drawn n ∷ []) else []) ≡ 0
-    mark true true n = refl
-    mark true false n = refl
-    mark false told n = refl
-line_skips sub before (Sync s answer) is = absurd is
+line_skips sub before (Number s note) is = number_skips sub before (number_by sub (Number s note))
+line_skips sub before (Sync s note) is = absurd is
 line_skips sub before (Give s n answer) is = absurd is
 line_skips sub before (Further said) is = absurd is
 line_skips sub before (Event r) is = absurd is
@@ -204,10 +197,10 @@ lines_skip sub before (line ∷ lines) all =
 
 -- a line that releases a vector
 abbrev pub IsVector : LineRecord → Type 0
-IsVector (Vector s n) = Unit {0}
-IsVector (Withheld s n stop) = ⊥
-IsVector (Exhausted s word) = ⊥
-IsVector (Sync s answer) = ⊥
+IsVector (Number s (number.Drew n)) = Unit {0}
+IsVector (Number s (number.Withheld n stop)) = ⊥
+IsVector (Number s (number.Exhausted word)) = ⊥
+IsVector (Sync s note) = ⊥
 IsVector (Give s n answer) = ⊥
 IsVector (Further said) = ⊥
 IsVector (Event r) = ⊥
@@ -215,14 +208,14 @@ IsVector (Event r) = ⊥
 -- a line of a draw that tells no word as high as the greatest number and withholds nothing
 vector_is : (closing : ℕ) (line : LineRecord) → closing < max_seq → IsOfDraw line → WordWithin closing line
     → withheld_by (sub_of line) line ≡ [] → IsVector line
-vector_is closing (Vector s n) small is within none = tt
-vector_is closing (Withheld s n stop) small is within none = absurd (held (s == s) (grind (arith, nat_tests)) none)
+vector_is closing (Number s (number.Drew n)) small is within none = tt
+vector_is closing (Number s (number.Withheld n stop)) small is within none = absurd (held (s == s) (grind (arith, nat_tests)) none)
   where
-    held : (same : Bool) → same ≡ true → (if same then n ∷ [] else []) ≡ [] → ⊥
+    held : (same : Bool) → same ≡ true → number_withheld (if same then Some (number.Withheld n stop) else None) ≡ [] → ⊥
     held true is none = cc
     held false is none = cc
-vector_is closing (Exhausted s word) small is within none = absurd (omega (arith, small, is, within))
-vector_is closing (Sync s answer) small is within none = is
+vector_is closing (Number s (number.Exhausted word)) small is within none = absurd (omega (arith, small, is, within))
+vector_is closing (Sync s note) small is within none = is
 vector_is closing (Give s n answer) small is within none = is
 vector_is closing (Further said) small is within none = is
 vector_is closing (Event r) small is within none = is
@@ -298,20 +291,20 @@ job_draws : (set : Setting) (count s sub : ℕ) (before lines : List LineRecord)
     → length (drawn (entries_of_lines sub before lines)) ≡ count * cond (s == sub) 1 0
 job_draws set zero s sub before lines gives all = let none = ap (λ ls. length (drawn (entries_of_lines sub before ls))) gives in omega (arith, none)
 job_draws set (suc count) s sub before [] gives all = absurd gives
-job_draws set (suc count) s sub before (Vector t n ∷ lines) (same, is, more) all =
-    let first = one (t == sub) n in
-    let rest = job_draws set count s sub (before ++ Vector t n ∷ []) lines more (All-tail IsVector (Vector t n) lines all) in
-    let cut = ap length (flat_map-append drawn_by (entries_of_line sub before (Vector t n)) (entries_of_lines sub (before ++ Vector t n ∷ []) lines)) in
-    let both = length-append (drawn (entries_of_line sub before (Vector t n))) (drawn (entries_of_lines sub (before ++ Vector t n ∷ []) lines)) in
+job_draws set (suc count) s sub before (Number t (number.Drew n) ∷ lines) (same, is, more) all =
+    let first : length (drawn (entries_of_line sub before (Number t (number.Drew n)))) ≡ cond (t == sub) 1 0 = one (t == sub) in
+    let rest = job_draws set count s sub (before ++ Number t (number.Drew n) ∷ []) lines more (All-tail IsVector (Number t (number.Drew n)) lines all) in
+    let cut = ap length (flat_map-append drawn_by (entries_of_line sub before (Number t (number.Drew n))) (entries_of_lines sub (before ++ Number t (number.Drew n) ∷ []) lines)) in
+    let both = length-append (drawn (entries_of_line sub before (Number t (number.Drew n)))) (drawn (entries_of_lines sub (before ++ Number t (number.Drew n) ∷ []) lines)) in
     let of_s = ap {B = ℕ} (λ (k : ℕ). cond (k == sub) 1 0) same in
     omega (arith, first, rest, cut, both, of_s)
   where
-    one : (there : Bool) (n : ℕ) → length (drawn (if there then Drawn n ∷ [] else [])) ≡ cond there 1 0
-    one true n = refl
-    one false n = refl
-job_draws set (suc count) s sub before (Withheld t n stop ∷ lines) gives all = absurd (All-head IsVector (Withheld t n stop) lines all)
-job_draws set (suc count) s sub before (Exhausted t word ∷ lines) gives all = absurd (All-head IsVector (Exhausted t word) lines all)
-job_draws set (suc count) s sub before (Sync t answer ∷ lines) gives all = absurd gives
+    one : (there : Bool) → length (drawn (entries_of_number sub before (if there then Some (number.Drew n) else None))) ≡ cond there 1 0
+    one true = refl
+    one false = refl
+job_draws set (suc count) s sub before (Number t (number.Withheld n stop) ∷ lines) gives all = absurd (All-head IsVector (Number t (number.Withheld n stop)) lines all)
+job_draws set (suc count) s sub before (Number t (number.Exhausted word) ∷ lines) gives all = absurd (All-head IsVector (Number t (number.Exhausted word)) lines all)
+job_draws set (suc count) s sub before (Sync t note ∷ lines) gives all = absurd gives
 job_draws set (suc count) s sub before (Give t n answer ∷ lines) gives all = absurd gives
 job_draws set (suc count) s sub before (Further said ∷ lines) gives all = absurd gives
 job_draws set (suc count) s sub before (Event r ∷ lines) gives all = absurd gives
@@ -320,19 +313,19 @@ job_releases : (set : Setting) (count s sub : ℕ) (lines : List LineRecord) →
     → length (numbers_of sub lines) ≡ count * cond (s == sub) 1 0
 job_releases set zero s sub lines gives all = let none = ap (λ ls. length (numbers_of sub ls)) gives in omega (arith, none)
 job_releases set (suc count) s sub [] gives all = absurd gives
-job_releases set (suc count) s sub (Vector t n ∷ lines) (same, is, more) all =
-    let first = one (t == sub) n in
-    let rest = job_releases set count s sub lines more (All-tail IsVector (Vector t n) lines all) in
-    let both = length-append (released_by sub (Vector t n)) (numbers_of sub lines) in
+job_releases set (suc count) s sub (Number t (number.Drew n) ∷ lines) (same, is, more) all =
+    let first : length (released_by sub (Number t (number.Drew n))) ≡ cond (t == sub) 1 0 = one (t == sub) in
+    let rest = job_releases set count s sub lines more (All-tail IsVector (Number t (number.Drew n)) lines all) in
+    let both = length-append (released_by sub (Number t (number.Drew n))) (numbers_of sub lines) in
     let of_s = ap {B = ℕ} (λ (k : ℕ). cond (k == sub) 1 0) same in
     omega (arith, first, rest, both, of_s)
   where
-    one : (there : Bool) (n : ℕ) → length (if there then n ∷ [] else []) ≡ cond there 1 0
-    one true n = refl
-    one false n = refl
-job_releases set (suc count) s sub (Withheld t n stop ∷ lines) gives all = absurd (All-head IsVector (Withheld t n stop) lines all)
-job_releases set (suc count) s sub (Exhausted t word ∷ lines) gives all = absurd (All-head IsVector (Exhausted t word) lines all)
-job_releases set (suc count) s sub (Sync t answer ∷ lines) gives all = absurd gives
+    one : (there : Bool) → length (number_released (if there then Some (number.Drew n) else None)) ≡ cond there 1 0
+    one true = refl
+    one false = refl
+job_releases set (suc count) s sub (Number t (number.Withheld n stop) ∷ lines) gives all = absurd (All-head IsVector (Number t (number.Withheld n stop)) lines all)
+job_releases set (suc count) s sub (Number t (number.Exhausted word) ∷ lines) gives all = absurd (All-head IsVector (Number t (number.Exhausted word)) lines all)
+job_releases set (suc count) s sub (Sync t note ∷ lines) gives all = absurd gives
 job_releases set (suc count) s sub (Give t n answer ∷ lines) gives all = absurd gives
 job_releases set (suc count) s sub (Further said ∷ lines) gives all = absurd gives
 job_releases set (suc count) s sub (Event r ∷ lines) gives all = absurd gives

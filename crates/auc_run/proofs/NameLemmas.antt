@@ -25,6 +25,9 @@ use Rattle.auc_server.specs.Server.{ServerEnd}
 use Rattle.auc_server.specs.declared.options.ServerOptions.{ServerOptions}
 use Rattle.auc_vector.specs.Notes.{Asking}
 use Rattle.auc_vector.specs.declared.notes.Notes.{Notes}
+use Rattle.auc_vector.specs.declared.notes.NumberNote.TheVariants as number
+use Rattle.auc_vector.specs.declared.notes.ResyncNote.{ResyncNote}
+use Rattle.auc_vector.specs.declared.notes.ResyncNote.TheVariants as resync
 use Rattle.auc_world.specs.Came.{asked_sub, asking_at, asking_in, asking_of, came, came_at_peer, came_at_server, came_changed, came_delivered, came_given_up, came_in, came_opened, came_repeated, came_started, server_came_to_give_up, session_of}
 use Rattle.auc_peer.specs.Subscription.{Subscription}
 use Rattle.auc_record.specs.Event.{asked_in}
@@ -50,8 +53,6 @@ use Rattle.auc_world.specs.declared.net.SentPacket.{SentPacket}
 use Rattle.auc_world.specs.declared.net.Session.{Session}
 use Rattle.auc_record.specs.declared.record.LineRecord.{LineRecord}
 use Rattle.auc_record.specs.declared.record.LineRecord.TheVariants as record_of
-use Rattle.auc_record.specs.declared.record.SyncVerdict.{SyncVerdict}
-use Rattle.auc_record.specs.declared.record.SyncVerdict.TheVariants as verdict
 
 -- a line names one of so many subscribers, if it names one
 abbrev pub IsNamed : ℕ → LineRecord → Type 0
@@ -67,13 +68,13 @@ none_named count lines none = All-same (IsNamed count) lines [] none (All-nil (I
 draw_named : (set : Setting) (sub count : ℕ) (lines : List LineRecord) → sub < length set.rows → DrawGives set sub count lines → All (IsNamed (length set.rows)) lines
 draw_named set sub zero lines inside gives = none_named (length set.rows) lines gives
 draw_named set sub (suc count) [] inside gives = absurd gives
-draw_named set sub (suc count) (record_of.Vector s n ∷ lines) inside (same, is, more) =
-    All-cons (IsNamed (length set.rows)) (record_of.Vector s n) lines (omega (arith, same, inside)) (draw_named set sub count lines inside more)
-draw_named set sub (suc count) (record_of.Withheld s n stop ∷ lines) inside (same, first, last, none) =
-    All-cons (IsNamed (length set.rows)) (record_of.Withheld s n stop) lines (omega (arith, same, inside)) (none_named (length set.rows) lines none)
-draw_named set sub (suc count) (record_of.Exhausted s word ∷ lines) inside (same, spent, none) =
-    All-cons (IsNamed (length set.rows)) (record_of.Exhausted s word) lines (omega (arith, same, inside)) (none_named (length set.rows) lines none)
-draw_named set sub (suc count) (record_of.Sync s answer ∷ lines) inside gives = absurd gives
+draw_named set sub (suc count) (record_of.Number s (number.Drew n) ∷ lines) inside (same, is, more) =
+    All-cons (IsNamed (length set.rows)) (record_of.Number s (number.Drew n)) lines (omega (arith, same, inside)) (draw_named set sub count lines inside more)
+draw_named set sub (suc count) (record_of.Number s (number.Withheld n stop) ∷ lines) inside (same, first, last, none) =
+    All-cons (IsNamed (length set.rows)) (record_of.Number s (number.Withheld n stop)) lines (omega (arith, same, inside)) (none_named (length set.rows) lines none)
+draw_named set sub (suc count) (record_of.Number s (number.Exhausted word) ∷ lines) inside (same, spent, none) =
+    All-cons (IsNamed (length set.rows)) (record_of.Number s (number.Exhausted word)) lines (omega (arith, same, inside)) (none_named (length set.rows) lines none)
+draw_named set sub (suc count) (record_of.Sync s note ∷ lines) inside gives = absurd gives
 draw_named set sub (suc count) (record_of.Give s n answer ∷ lines) inside gives = absurd gives
 draw_named set sub (suc count) (record_of.Further said ∷ lines) inside gives = absurd gives
 draw_named set sub (suc count) (record_of.Event r ∷ lines) inside gives = absurd gives
@@ -82,13 +83,13 @@ draw_named set sub (suc count) (record_of.Event r ∷ lines) inside gives = absu
 one_named : (set : Setting) (sub : ℕ) (Follows : ℕ → List LineRecord → Type 0) (lines : List LineRecord) → sub < length set.rows → OneGives set sub Follows lines
     → ((n : ℕ) (rest : List LineRecord) → Follows n rest → All (IsNamed (length set.rows)) rest) → All (IsNamed (length set.rows)) lines
 one_named set sub Follows [] inside gives named = absurd gives
-one_named set sub Follows (record_of.Vector s n ∷ lines) inside (same, is, more) named =
-    All-cons (IsNamed (length set.rows)) (record_of.Vector s n) lines (omega (arith, same, inside)) (named n lines more)
-one_named set sub Follows (record_of.Withheld s n stop ∷ lines) inside (same, first, last, none) named =
-    All-cons (IsNamed (length set.rows)) (record_of.Withheld s n stop) lines (omega (arith, same, inside)) (none_named (length set.rows) lines none)
-one_named set sub Follows (record_of.Exhausted s word ∷ lines) inside (same, spent, none) named =
-    All-cons (IsNamed (length set.rows)) (record_of.Exhausted s word) lines (omega (arith, same, inside)) (none_named (length set.rows) lines none)
-one_named set sub Follows (record_of.Sync s answer ∷ lines) inside gives named = absurd gives
+one_named set sub Follows (record_of.Number s (number.Drew n) ∷ lines) inside (same, is, more) named =
+    All-cons (IsNamed (length set.rows)) (record_of.Number s (number.Drew n)) lines (omega (arith, same, inside)) (named n lines more)
+one_named set sub Follows (record_of.Number s (number.Withheld n stop) ∷ lines) inside (same, first, last, none) named =
+    All-cons (IsNamed (length set.rows)) (record_of.Number s (number.Withheld n stop)) lines (omega (arith, same, inside)) (none_named (length set.rows) lines none)
+one_named set sub Follows (record_of.Number s (number.Exhausted word) ∷ lines) inside (same, spent, none) named =
+    All-cons (IsNamed (length set.rows)) (record_of.Number s (number.Exhausted word)) lines (omega (arith, same, inside)) (none_named (length set.rows) lines none)
+one_named set sub Follows (record_of.Sync s note ∷ lines) inside gives named = absurd gives
 one_named set sub Follows (record_of.Give s n answer ∷ lines) inside gives named = absurd gives
 one_named set sub Follows (record_of.Further said ∷ lines) inside gives named = absurd gives
 one_named set sub Follows (record_of.Event r ∷ lines) inside gives named = absurd gives
@@ -133,21 +134,21 @@ fiveg_named set before l n lines inside f = by (is_separated (vector_of_row set 
         (All-same (IsNamed (length set.rows)) is.more judged is.judged
         (judged_named (length set.rows) l (home_of (vector_of_row set f.row l.sub n) l.home) (device_of_row f.row n (rand_of set.key l.sub n) l.device) is.gives.answer inside)))
 
--- what follows a verdict
-follows_named : (set : Setting) (sub count : ℕ) (answer : SyncVerdict) (lines : List LineRecord) → sub < length set.rows
-    → VectorsFollow set sub count answer lines → All (IsNamed (length set.rows)) lines
-follows_named set sub count (verdict.Moved seen seq_ms) lines inside follows = draw_named set sub count lines inside follows
-follows_named set sub count (verdict.InRange seen seq_ms) lines inside follows = draw_named set sub count lines inside follows
-follows_named set sub count (verdict.Beyond seen seq_ms) lines inside follows = none_named (length set.rows) lines follows
-follows_named set sub count verdict.WrongMac lines inside follows = none_named (length set.rows) lines follows
+-- what follows a resynchronisation
+follows_named : (set : Setting) (sub count : ℕ) (note : ResyncNote) (lines : List LineRecord) → sub < length set.rows
+    → VectorsFollow set sub count note lines → All (IsNamed (length set.rows)) lines
+follows_named set sub count (resync.Moved seen seq_ms) lines inside follows = draw_named set sub count lines inside follows
+follows_named set sub count (resync.InRange seen seq_ms) lines inside follows = draw_named set sub count lines inside follows
+follows_named set sub count (resync.Beyond seen seq_ms) lines inside follows = none_named (length set.rows) lines follows
+follows_named set sub count resync.BadAuts lines inside follows = none_named (length set.rows) lines follows
 
 -- what an AUTS gives
 sync_named : (set : Setting) (sub : ℕ) (report : Report) (count : ℕ) (lines : List LineRecord) → sub < length set.rows
     → SyncGives set sub report count lines → All (IsNamed (length set.rows)) lines
 sync_named set sub report count lines inside gives =
-    All-same (IsNamed (length set.rows)) lines (record_of.Sync sub gives.answer ∷ gives.more) gives.lines_are
-    (All-cons (IsNamed (length set.rows)) (record_of.Sync sub gives.answer) gives.more inside
-    (follows_named set sub count gives.answer gives.more inside gives.follows))
+    All-same (IsNamed (length set.rows)) lines (record_of.Sync sub gives.note ∷ gives.more) gives.lines_are
+    (All-cons (IsNamed (length set.rows)) (record_of.Sync sub gives.note) gives.more inside
+    (follows_named set sub count gives.note gives.more inside gives.follows))
 
 -- ---- sites
 
@@ -316,8 +317,8 @@ line_named set before net (line.Eps sub snid) lines next known (gives, same) =
     one_named set sub (λ n rest. rest ≡ map (kasme_line snid) (vector_at set sub n)) lines known gives
     (λ n rest is. All-same (IsNamed (length set.rows)) rest (map (kasme_line snid) (vector_at set sub n)) is (keys_named (length set.rows) snid (vector_at set sub n)))
 line_named set before net (line.Fiveg l) lines next known (gives, same) =
-    one_named set l.sub (λ n rest. FivegFollows set (behind before (record_of.Vector l.sub n ∷ [])) l n rest) lines known.sub gives
-    (λ n rest f. fiveg_named set (behind before (record_of.Vector l.sub n ∷ [])) l n rest known.sub f)
+    one_named set l.sub (λ n rest. FivegFollows set (behind before (record_of.Number l.sub (number.Drew n) ∷ [])) l n rest) lines known.sub gives
+    (λ n rest f. fiveg_named set (behind before (record_of.Number l.sub (number.Drew n) ∷ [])) l n rest known.sub f)
 line_named set before net (line.Sites l) lines next known ((turns, go), same) =
     sites_named set l.sub l.size (sites_start l) l.schedule lines turns known.0 go
 line_named set before net (line.Sim l) lines next known (gives, same) = sim_named set l lines known.0 gives

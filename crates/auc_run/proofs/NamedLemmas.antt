@@ -4,11 +4,11 @@ use Rattle.std.specs.Prelude.{Bool, true, false, IfOk, OnOk, Result, Ok, Err, ge
 use Rattle.std.proofs.lemmas.List.{append-nil, get_or-map, length-map}
 use Rattle.std.proofs.lemmas.List.Elements.{All-append, All-cons, All-contains, All-head, All-map, All-nil, All-tail, Contains-get_or}
 use Rattle.std.proofs.lemmas.Option.{get_or_from_slice_get, slice_get_within}
-use Rattle.auc_edge.specs.Faults.{Rose}
-use Rattle.auc_edge.specs.Identity.{Identity}
-use Rattle.auc_edge.specs.declared.no_memory.NoMemory.{NoMemory}
-use Rattle.auc_edge.specs.declared.stop.Stop.{Stop}
-use Rattle.auc_edge.specs.declared.stop.Stop.TheVariants.{Fault, Full}
+use Rattle.auc_memory.specs.Faults.{Rose}
+use Rattle.auc_memory.specs.Identity.{Identity}
+use Rattle.auc_memory.specs.declared.no_memory.NoMemory.{NoMemory}
+use Rattle.auc_memory.specs.declared.stop.Stop.{Stop}
+use Rattle.auc_memory.specs.declared.stop.Stop.TheVariants.{Fault, Full}
 use Rattle.auc_jobs.specs.Round.{DrewFull, LeavesMore, ServesRound}
 use Rattle.auc_jobs.specs.Serving.{AreAllKnown}
 use Rattle.auc_jobs.specs.State.{Standing, StandsAt}
@@ -45,7 +45,7 @@ use Rattle.auc_world.specs.Start.{Kept, start_of}
 use Rattle.auc_record.specs.Openings.{reopened}
 use Rattle.auc_record.specs.Vectors.{IsReleasableLine, vectors_in}
 use Rattle.auc_record.specs.declared.record.LineRecord.{LineRecord}
-use Rattle.auc_record.specs.declared.record.LineRecord.TheVariants.{Vector, Withheld, Exhausted, Sync, Give, Further, Event}
+use Rattle.auc_record.specs.declared.record.LineRecord.TheVariants.{Number, Sync, Give, Further, Event}
 use Rattle.auc_record.specs.declared.record.RoundRecord.{RoundRecord}
 use Rattle.auc_world.proofs.Facts.{accepted-append}
 use Rattle.auc_record.proofs.Facts.{get_or-reopened, length-reopened}
@@ -339,10 +339,8 @@ module _ {D : Type 0} (seen : D → Option (List ℕ)) (may_leave : D → List �
     -- by the lines of such a round no USIM accepts anything
     line_accepts : (bits sub : ℕ) (ls : List LineRecord) → All (IsPlainRecord (length places)) ls → accepted bits sub (map (record_of places) ls) ≡ []
     line_accepts bits sub [] all_plain = refl
-    line_accepts bits sub (Vector s n ∷ ls) all_plain = line_accepts bits sub ls (All-tail (IsPlainRecord (length places)) (Vector s n) ls all_plain)
-    line_accepts bits sub (Withheld s n why ∷ ls) all_plain = line_accepts bits sub ls (All-tail (IsPlainRecord (length places)) (Withheld s n why) ls all_plain)
-    line_accepts bits sub (Exhausted s word ∷ ls) all_plain = line_accepts bits sub ls (All-tail (IsPlainRecord (length places)) (Exhausted s word) ls all_plain)
-    line_accepts bits sub (Sync s verdict ∷ ls) all_plain = line_accepts bits sub ls (All-tail (IsPlainRecord (length places)) (Sync s verdict) ls all_plain)
+    line_accepts bits sub (Number s note ∷ ls) all_plain = line_accepts bits sub ls (All-tail (IsPlainRecord (length places)) (Number s note) ls all_plain)
+    line_accepts bits sub (Sync s note ∷ ls) all_plain = line_accepts bits sub ls (All-tail (IsPlainRecord (length places)) (Sync s note) ls all_plain)
     line_accepts bits sub (Give s n verdict ∷ ls) all_plain = absurd (All-head (IsPlainRecord (length places)) (Give s n verdict) ls all_plain)
     line_accepts bits sub (Further said ∷ ls) all_plain = absurd (All-head (IsPlainRecord (length places)) (Further said) ls all_plain)
     line_accepts bits sub (Event r ∷ ls) all_plain = absurd (All-head (IsPlainRecord (length places)) (Event r) ls all_plain)

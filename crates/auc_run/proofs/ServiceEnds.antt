@@ -10,8 +10,8 @@ use Rattle.auc_block.specs.declared.trouble.Trouble.{Trouble}
 use Rattle.auc_block.specs.declared.trouble.Trouble.TheVariants as trouble
 use Rattle.auc_block.specs.declared.turn.Turn.{Turn}
 use Rattle.auc_block.specs.declared.turn.Turn.TheVariants.{Said}
-use Rattle.auc_edge.specs.declared.stop.Stop.{Stop}
-use Rattle.auc_edge.specs.declared.stop.Stop.TheVariants.{Fault, Full}
+use Rattle.auc_memory.specs.declared.stop.Stop.{Stop}
+use Rattle.auc_memory.specs.declared.stop.Stop.TheVariants.{Fault, Full}
 use Rattle.auc_jobs.specs.State.{Standing}
 use Rattle.auc_journal.specs.Durable.{IsTold}
 use Rattle.auc_journal.specs.Image.{Keeps}

@@ -8,7 +8,7 @@ use Rattle.auc_block.specs.Hearing.{IsHeard}
 use Rattle.auc_block.specs.Turns.{Says, Turns}
 use Rattle.auc_block.specs.declared.turn.Turn.{Turn}
 use Rattle.auc_block.specs.declared.turn.Turn.TheVariants.{Heard, Said}
-use Rattle.auc_edge.specs.declared.stop.Stop.TheVariants.{Fault}
+use Rattle.auc_memory.specs.declared.stop.Stop.TheVariants.{Fault}
 use Rattle.auc_jobs.specs.State.{AcceptNothing, Standing, StandsAt}
 use Rattle.auc_journal.specs.Journal.{JournalState}
 use Rattle.auc_lines.specs.declared.part.Line.{Line}

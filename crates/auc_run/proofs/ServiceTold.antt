@@ -2,7 +2,7 @@
 use Rattle.std.proofs.Common.{◌≡◌, ◌≢◌, ◌⊎◌, ℕ, List, map, Option, Some, None, inl, inr, refl, sym, ◌∙◌, ap, subst}
 use Rattle.auc_block.specs.declared.turn.Turn.{Turn}
 use Rattle.auc_block.specs.declared.turn.Turn.TheVariants.{Said}
-use Rattle.auc_edge.specs.Faults.{Rose}
+use Rattle.auc_memory.specs.Faults.{Rose}
 use Rattle.auc_journal.specs.Image.{reserved_in}
 use Rattle.auc_journal.specs.Journal.{JournalState}
 use Rattle.auc_run.specs.Crash.{Remembers}

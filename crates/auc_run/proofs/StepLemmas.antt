@@ -1,10 +1,10 @@
 -- For a part of a scenario: what came of it, by what its calls answer.
 use Rattle.std.proofs.Common.{◌≡◌, ◌≢◌, ℕ, ◌+◌, ◌<◌, ◌^◌, Bool, true, false, List, [], ◌∷◌, ◌++◌, Option, Some, None, Result, Ok, Err, OnOk, OnErr, IfOk, IfErr, refl, sym, ◌∙◌, ap, subst, inl, inr, arith}
 use Rattle.std.specs.Prelude.{◌↔◌}
-use Rattle.auc_edge.specs.declared.no_memory.NoMemory.{NoMemory}
+use Rattle.auc_memory.specs.declared.no_memory.NoMemory.{NoMemory}
 use Rattle.auc_edge.specs.Sink.{Appends, AppendsFront}
-use Rattle.auc_edge.specs.declared.stop.Stop.{Stop}
-use Rattle.auc_edge.specs.declared.stop.Stop.TheVariants.{Fault, Full}
+use Rattle.auc_memory.specs.declared.stop.Stop.{Stop}
+use Rattle.auc_memory.specs.declared.stop.Stop.TheVariants.{Fault, Full}
 use Rattle.auc_journal.specs.Durable.{IsTold}
 use Rattle.auc_journal.specs.Image.{reserved_as, reserved_in}
 use Rattle.auc_journal.specs.Journal.{JournalState, limits_of}

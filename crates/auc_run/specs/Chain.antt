@@ -1,9 +1,9 @@
 -- Runs one after the other on one disk, each begun on an image that a crash after the one before may leave.
 use Rattle.std.specs.Prelude.{◌≡◌, ℕ, ◌<◌, ◌⊎◌, AllPairs, Contains, List, [], ◌∷◌, length, map, Option, Some, None}
 use Rattle.auc_block.specs.declared.turn.Turn.{Turn}
-use Rattle.auc_edge.specs.Identity.{Identity}
+use Rattle.auc_memory.specs.Identity.{Identity}
 use Rattle.auc_edge.specs.Shelf.{File}
-use Rattle.auc_edge.specs.declared.stop.Stop.{Stop}
+use Rattle.auc_memory.specs.declared.stop.Stop.{Stop}
 use Rattle.auc_journal.specs.Durable.{IsTold}
 use Rattle.auc_journal.specs.Image.{Frame, Keeps}
 use Rattle.auc_journal.specs.Journal.{imsi_at}

@@ -1,6 +1,6 @@
 -- What a crash leaves of the journal after a run.
 use Rattle.std.specs.Prelude.{◌≡◌, ◌≢◌, ◌⊎◌, ℕ, ◌+◌, ◌<◌, ◌≤◌, ◌^◌, max, List, length, All, slice_index, Option, Some, Ok}
-use Rattle.auc_edge.specs.Identity.{Identity}
+use Rattle.auc_memory.specs.Identity.{Identity}
 use Rattle.auc_journal.specs.Durable.{IsTold}
 use Rattle.auc_journal.specs.Image.{Keeps, Reading, read_image, reserved_by}
 use Rattle.auc_journal.specs.Opening.{IsAsBefore, IsOpening}

@@ -1,12 +1,12 @@
 -- Inner facts: what only private contracts of this crate cite.
 use Rattle.std.specs.Prelude.{◌≡◌, ◌≢◌, ℕ, ◌+◌, ◌*◌, ◌<◌, ◌≤◌, ◌^◌, ◌↔◌, ◌⊎◌, ◌∷◌, ◌++◌, max, true, false, AllPairs, All, Bool, List, [], length, map, slice_index, Option, Some, None, Result, Ok, Err, OnOk}
 use Rattle.auc_compact.specs.Compact.{IsAnew, compact_image}
-use Rattle.auc_edge.specs.Identity.{Identity}
+use Rattle.auc_memory.specs.Identity.{Identity}
 use Rattle.auc_edge.specs.Shelf.{File}
 use Rattle.auc_edge.specs.Sink.{Appends, AppendsFront}
-use Rattle.auc_edge.specs.declared.no_memory.NoMemory.{NoMemory as NoMemoryError}
-use Rattle.auc_edge.specs.declared.stop.Stop.{Stop}
-use Rattle.auc_edge.specs.declared.stop.Stop.TheVariants.{Fault, Full}
+use Rattle.auc_memory.specs.declared.no_memory.NoMemory.{NoMemory as NoMemoryError}
+use Rattle.auc_memory.specs.declared.stop.Stop.{Stop}
+use Rattle.auc_memory.specs.declared.stop.Stop.TheVariants.{Fault, Full}
 use Rattle.auc_forms.specs.Algorithm.{algorithm_named}
 use Rattle.auc_forms.specs.Reserved.{IsReservedText}
 use Rattle.auc_forms.specs.declared.algorithm.AlgorithmForm.{AlgorithmForm}

@@ -1,8 +1,8 @@
 -- Inner facts: what only private contracts of this crate cite. Here: a round that is served over the subscribers that its lines name.
 use Rattle.std.specs.Prelude.{◌≡◌, ◌≢◌, ◌↔◌, ℕ, ◌+◌, ◌<◌, ◌≤◌, ◌^◌, ◌++◌, AllPairs, Bool, true, IfOk, List, [], length, map, slice_index, Option, Some, Result, if◌then◌else◌}
-use Rattle.auc_edge.specs.Faults.{Rose}
-use Rattle.auc_edge.specs.declared.no_memory.NoMemory.{NoMemory}
-use Rattle.auc_edge.specs.declared.stop.Stop.TheVariants.{Fault, Full}
+use Rattle.auc_memory.specs.Faults.{Rose}
+use Rattle.auc_memory.specs.declared.no_memory.NoMemory.{NoMemory}
+use Rattle.auc_memory.specs.declared.stop.Stop.TheVariants.{Fault, Full}
 use Rattle.auc_jobs.specs.Round.{IsJournalOf, LeavesMore, ServesRound}
 use Rattle.auc_jobs.specs.Serving.{AreAllKnown}
 use Rattle.auc_jobs.specs.State.{Standing, StandsAt}
@@ -11,7 +11,7 @@ use Rattle.auc_journal.specs.Journal.{JournalState, limits_of}
 use Rattle.auc_lines.specs.Part.{AreApart}
 use Rattle.auc_lines.specs.declared.part.Line.{Line}
 use Rattle.auc_named.specs.Named.{put_words}
-use Rattle.auc_script.specs.Numbers.{longest_realm, most_workers}
+use Rattle.auc_script.specs.Numbers.{most_workers}
 use Rattle.auc_sqn.specs.Number.{max_seq}
 use Rattle.auc_subs.specs.Subscriber.{AreSubscribers}
 use Rattle.auc_record.specs.Lines.{all_lines}
@@ -29,7 +29,6 @@ pub record MayServe {D : Type 0} (set : Setting) (threads : ℕ) (jobs : List (L
   pub apart : AllPairs AreApart jobs
   pub workers : (1 ≤ threads) × (threads ≤ most_workers)
   pub subscribers : AreSubscribers set.rows
-  pub realm : length set.realm ≤ longest_realm
   pub journal : IsJournalOf set.rows found
   pub all : found.all ≡ found.imsis
   pub limits : (sub : ℕ) → sub < length set.rows → slice_index (limits_of found) sub ≤ max_seq

@@ -5,7 +5,7 @@ use Rattle.auc_block.specs.Block.{blocks_in}
 use Rattle.auc_block.specs.Turns.{Turns}
 use Rattle.auc_block.specs.declared.turn.Turn.{Turn}
 use Rattle.auc_edge.specs.Shelf.{File}
-use Rattle.auc_edge.specs.declared.stop.Stop.{Stop}
+use Rattle.auc_memory.specs.declared.stop.Stop.{Stop}
 use Rattle.auc_jobs.specs.State.{Standing}
 use Rattle.auc_journal.specs.Durable.{IsTold as TellsBytes}
 use Rattle.auc_journal.specs.Image.{Keeps}

@@ -1,6 +1,6 @@
 -- What a run of a scenario writes.
 use Rattle.std.specs.Prelude.{◌≡◌, ℕ, Option, List, length}
-use Rattle.auc_edge.specs.declared.stop.Stop.{Stop}
+use Rattle.auc_memory.specs.declared.stop.Stop.{Stop}
 use Rattle.auc_ident.specs.Names.{names_key}
 use Rattle.auc_lines.specs.declared.part.Part.{Part}
 use Rattle.auc_print.specs.Text.{transcript_text}

@@ -5,8 +5,8 @@ use Rattle.auc_block.specs.Block.{blocks_in}
 use Rattle.auc_block.specs.Turns.{Turns}
 use Rattle.auc_block.specs.declared.turn.Turn.{Turn}
 use Rattle.auc_edge.specs.Shelf.{File}
-use Rattle.auc_edge.specs.declared.stop.Stop.{Stop}
-use Rattle.auc_edge.specs.declared.stop.Stop.TheVariants.{Fault, Full}
+use Rattle.auc_memory.specs.declared.stop.Stop.{Stop}
+use Rattle.auc_memory.specs.declared.stop.Stop.TheVariants.{Fault, Full}
 use Rattle.auc_journal.specs.Image.{Frame}
 use Rattle.auc_lines.specs.declared.part.Line.{Line}
 use Rattle.auc_lines.specs.declared.part.Part.{Part}

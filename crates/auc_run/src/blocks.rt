@@ -15,13 +15,14 @@ ghost use Rattle.auc_run.specs.Service.{asked_of};
 
 use crate::ended::Performed;
 use crate::resources::Resources;
-use crate::rounds::{Made, Settings, Stand, make_round, stopped};
+use crate::rounds::{Made, RunOptions, Stand, make_round, stopped};
 use auc_block::{NextBlock, Wire, each_block_is_split_off, earlier_blocks_stand, hear_block};
 use auc_disk::Disk;
-use auc_edge::{Gate, NoMemory, Octets, Stop};
+use auc_edge::Gate;
 use auc_ident::Names;
 use auc_input::{Ear, Input};
 use auc_lines::RoundPart;
+use auc_memory::{NoMemory, Octets, Stop};
 use auc_random::Rands;
 use auc_refusal::{Refusal, reply_refusal, reply_to_rest, say_end, say_reply};
 use auc_script::{ScriptRefusal, ScriptWhy, read_block};
@@ -278,7 +279,7 @@ fn make_jobs<R: Threads + Wait + Sync, D: Disk + Drop + Send, G: Gate + Sync>(
 {
     let rands = Rands::new(input.script.key);
     let names = Names::new(input.script.key);
-    let settings = Settings {
+    let options = RunOptions {
         set: Setting {
             subs: &input.subs,
             rands: &rands,
@@ -288,7 +289,7 @@ fn make_jobs<R: Threads + Wait + Sync, D: Disk + Drop + Send, G: Gate + Sync>(
         full: input.script.full,
         workers: input.script.workers,
     };
-    make_round(resources, &settings, jobs, stand)
+    make_round(resources, &options, jobs, stand)
 }
 
 /// What a round comes to whose text was said or wasn't: in it, reservations ended or didn't.

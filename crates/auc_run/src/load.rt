@@ -9,7 +9,7 @@ ghost use Rattle.auc_load.specs.Input.{load_rows};
 ghost use Rattle.auc_load.specs.Summary.{load_closings, load_text};
 ghost use Rattle.auc_load.specs.Words.{IsLoad, load_named};
 ghost use Rattle.auc_load.specs.declared.words.LoadWords.{LoadWords};
-ghost use Rattle.auc_script.specs.Numbers.{longest_realm, most_jobs, most_workers};
+ghost use Rattle.auc_script.specs.Numbers.{most_jobs, most_workers};
 ghost use Rattle.auc_subs.specs.Subscriber.{AreSubscribers};
 ghost use Rattle.auc_world.specs.Round.{IsLawfulRound};
 ghost use Rattle.auc_world.specs.Start.{Kept};
@@ -20,13 +20,14 @@ ghost use Rattle.auc_refusal.specs.Faults.{RoseAt};
 ghost use Rattle.auc_run.specs.Outcome.{EndsLoad, RunsLoad};
 
 use auc_disk::{FailList, MemDisk};
-use auc_edge::{Gate, Items, NoMemory, Octets, Sink, write_whole};
+use auc_edge::{Gate, Sink, write_whole};
 use auc_ident::Names;
 use auc_input::open_journal;
 use auc_jobs::{Ran, Round, Served, State, serve};
 use auc_journal::Journal;
 use auc_lines::JobPart;
 use auc_load::{LoadWords, jobs, key_of, load_words, subscribers, summary};
+use auc_memory::{Items, NoMemory, Octets};
 use auc_random::Rands;
 use auc_refusal::Refusal;
 use auc_subs::Subscribers;
@@ -129,7 +130,6 @@ fn serve_once<R: Threads + Wait + Sync, G: Gate + Sync>(
     requires few { length jobs.now ≤ most_jobs }
     requires apart { AllPairs AreApart jobs.now }
     requires workers { (1 ≤ workers) × (workers ≤ most_workers) }
-    requires realm { length set.now.realm ≤ longest_realm }
     ensures { IfOk result (λ ran. (kept : List Kept) × (words : List ℕ) × IsLawfulRound set.now ran.stop [] kept
         (map (λ row. row.seq) set.now.rows) jobs.now ran.round words) }
 {

@@ -11,12 +11,13 @@ ghost use Rattle.auc_record.specs.Vectors.{IsReleasableLine, vectors_in};
 ghost use Rattle.auc_record.specs.declared.record.LineRecord.{LineRecord};
 ghost use Rattle.auc_run.specs.InnerNamed.{IsLed, IsServed, MayServe};
 
-use crate::rounds::Settings;
+use crate::rounds::RunOptions;
 use auc_disk::Disk;
-use auc_edge::{Gate, Imsi, Items, NoMemory};
+use auc_edge::Gate;
 use auc_jobs::{Ran, Round, Served, State, serve};
 use auc_journal::Journal;
 use auc_lines::JobPart;
+use auc_memory::{Imsi, Items, NoMemory};
 use auc_named::{Named, are_plain, name};
 use auc_world::{JobRecord, JobVectors, Setting, printed_vectors};
 use std::alloc::Global;
@@ -44,20 +45,20 @@ struct Own {
 pub(crate) fn serve_start<R: Threads + Wait + Sync, D: Disk + Drop + Send, G: Gate + Sync>(
     rt: &R,
     alloc: Global,
-    settings: &Settings,
+    options: &RunOptions,
     jobs: &[JobPart],
     start: Start<D>,
     gate: &G,
 ) -> Served<D>
-    requires may { MayServe settings.now.set settings.now.workers jobs.now start.state start.journal }
-    ensures { IsServed D.seen D.may_leave D.faults D.moment D.left_since settings.now.set settings.now.full jobs.now
+    requires may { MayServe options.now.set options.now.workers jobs.now start.state start.journal }
+    ensures { IsServed D.seen D.may_leave D.faults D.moment D.left_since options.now.set options.now.full jobs.now
         start.number start.state start.journal result.result result.state result.journal }
 {
-    if !are_fewer(jobs, settings.set.subs.len()) || !are_plain(jobs) {
-        return serve_all(rt, alloc, settings, jobs, start, gate);
+    if !are_fewer(jobs, options.set.subs.len()) || !are_plain(jobs) {
+        return serve_all(rt, alloc, options, jobs, start, gate);
     }
-    match own_start(alloc, &settings.set, jobs, &start.state) {
-        Ok(own) => serve_own(rt, alloc, settings, own, start, gate),
+    match own_start(alloc, &options.set, jobs, &start.state) {
+        Ok(own) => serve_own(rt, alloc, options, own, start, gate),
         Err(error) => {
             let Start { state, journal, .. } = start;
             Served {
@@ -85,13 +86,13 @@ fn are_fewer(jobs: &[JobPart], subs: u32) -> bool {
 fn serve_all<R: Threads + Wait + Sync, D: Disk + Drop + Send, G: Gate + Sync>(
     rt: &R,
     alloc: Global,
-    settings: &Settings,
+    options: &RunOptions,
     jobs: &[JobPart],
     start: Start<D>,
     gate: &G,
 ) -> Served<D>
-    requires { MayServe settings.now.set settings.now.workers jobs.now start.state start.journal }
-    ensures { IsServed D.seen D.may_leave D.faults D.moment D.left_since settings.now.set settings.now.full jobs.now
+    requires { MayServe options.now.set options.now.workers jobs.now start.state start.journal }
+    ensures { IsServed D.seen D.may_leave D.faults D.moment D.left_since options.now.set options.now.full jobs.now
         start.number start.state start.journal result.result result.state result.journal }
 {
     let Start {
@@ -99,12 +100,14 @@ fn serve_all<R: Threads + Wait + Sync, D: Disk + Drop + Send, G: Gate + Sync>(
         state,
         journal,
     } = start;
+    // (the setting says how long its realm may be)
+    let _ = &options.set.realm;
     let round = Round {
         number,
         jobs,
-        set: &settings.set,
-        full: settings.full,
-        workers: settings.workers,
+        set: &options.set,
+        full: options.full,
+        workers: options.workers,
     };
     serve(rt, alloc, &round, state, journal, gate)
 }
@@ -148,18 +151,18 @@ fn words_at(alloc: Global, state: &State, places: &[u32]) -> Result<Vec<u64>, No
 fn serve_own<R: Threads + Wait + Sync, D: Disk + Drop + Send, G: Gate + Sync>(
     rt: &R,
     alloc: Global,
-    settings: &Settings,
+    options: &RunOptions,
     own: Own,
     mut start: Start<D>,
     gate: &G,
 ) -> Served<D>
-    requires may { (jobs : List (List LineOf)) × MayServe settings.now.set settings.now.workers jobs start.state start.journal
-        × AreNamed settings.now.set.rows jobs own.named.places own.named.rows own.named.jobs }
+    requires may { (jobs : List (List LineOf)) × MayServe options.now.set options.now.workers jobs start.state start.journal
+        × AreNamed options.now.set.rows jobs own.named.places own.named.rows own.named.jobs }
     requires identities { own.imsis.items ≡ map (λ row. row.imsi) own.named.rows }
     requires words { own.state.words ≡ map (λ place. slice_index start.state.words place) own.named.places }
     requires stands { (set : SettingOf) → set.rows ≡ own.named.rows → StandsAt set [] own.state }
-    ensures { (jobs : List (List LineOf)) → AreNamed settings.now.set.rows jobs own.named.places own.named.rows own.named.jobs
-        → IsServed D.seen D.may_leave D.faults D.moment D.left_since settings.now.set settings.now.full jobs
+    ensures { (jobs : List (List LineOf)) → AreNamed options.now.set.rows jobs own.named.places own.named.rows own.named.jobs
+        → IsServed D.seen D.may_leave D.faults D.moment D.left_since options.now.set options.now.full jobs
         start.number start.state start.journal result.result result.state result.journal }
 {
     let Own {
@@ -170,16 +173,16 @@ fn serve_own<R: Threads + Wait + Sync, D: Disk + Drop + Send, G: Gate + Sync>(
     start.journal.name_some(imsis);
     let set = Setting {
         subs: named.subs(),
-        rands: settings.set.rands,
-        names: settings.set.names,
-        realm: settings.set.realm,
+        rands: options.set.rands,
+        names: options.set.names,
+        realm: options.set.realm,
     };
     let round = Round {
         number: start.number,
         jobs: named.jobs(),
         set: &set,
         full: false,
-        workers: settings.workers,
+        workers: options.workers,
     };
     let Served {
         mut journal,
@@ -188,7 +191,7 @@ fn serve_own<R: Threads + Wait + Sync, D: Disk + Drop + Send, G: Gate + Sync>(
     } = serve(rt, alloc, &round, own, start.journal, gate);
     journal.name_all();
     let result = match result {
-        Ok(ran) => of_all(alloc, settings, &named, &mut start.state, &next, ran),
+        Ok(ran) => of_all(alloc, options, &named, &mut start.state, &next, ran),
         Err(error) => Err(error),
     };
     Served {
@@ -202,7 +205,7 @@ fn serve_own<R: Threads + Wait + Sync, D: Disk + Drop + Send, G: Gate + Sync>(
 /// the state changes.
 fn of_all(
     alloc: Global,
-    settings: &Settings,
+    options: &RunOptions,
     named: &Named,
     state: &mut State,
     next: &State,
@@ -212,17 +215,17 @@ fn of_all(
     requires within { All (λ place. place < length state.old.words) named.now.places }
     requires size { length next.now.words ≡ length named.now.places }
     requires few { length named.now.places ≤ 65536 }
-    requires releasable { All (All (IsReleasableLine settings.now.set)) (records_of named.now.places ran.round.jobs) }
+    requires releasable { All (All (IsReleasableLine options.now.set)) (records_of named.now.places ran.round.jobs) }
     ensures round { IfOk result (λ all. (all.round ≡ round_of named.now.places ran.round) × (all.stop ≡ ran.stop)) }
     ensures vectors { IfOk result (λ all. all.vectors
-        ≡ (if settings.now.full then map (vectors_in settings.now.set) all.round.jobs else [])) }
+        ≡ (if options.now.full then map (vectors_in options.now.set) all.round.jobs else [])) }
     ensures led { OnOk result (IsLed named.now.places next.now.words (records_of named.now.places ran.round.jobs)
         state.old state.new) }
     ensures kept { OnErr result (state.new ≡ state.old) }
 {
     let Ran { round, stop, .. } = ran;
     let round = named.of_all(alloc, round)?;
-    let vectors = all_vectors(alloc, settings, round.jobs.as_slice())?;
+    let vectors = all_vectors(alloc, options, round.jobs.as_slice())?;
     state.note(round.jobs.as_slice())?;
     lead(state, next, named.places());
     Ok(Ran {
@@ -235,19 +238,19 @@ fn of_all(
 /// The vectors that jobs' lines release, if they are printed.
 fn all_vectors(
     alloc: Global,
-    settings: &Settings,
+    options: &RunOptions,
     records: &[JobRecord],
 ) -> Result<Items<JobVectors>, NoMemory>
-    requires { All (All (IsReleasableLine settings.now.set)) records.now }
+    requires { All (All (IsReleasableLine options.now.set)) records.now }
     ensures { IfOk result (λ vectors. vectors
-        ≡ (if settings.now.full then map (vectors_in settings.now.set) records.now else [])) }
+        ≡ (if options.now.full then map (vectors_in options.now.set) records.now else [])) }
 {
     let mut all = Items::new(alloc);
-    if !settings.full {
+    if !options.full {
         return Ok(all);
     }
     for lines in records {
-        all.push(printed_vectors(alloc, &settings.set, lines.as_slice(), true)?)?;
+        all.push(printed_vectors(alloc, &options.set, lines.as_slice(), true)?)?;
     }
     Ok(all)
 }

@@ -28,12 +28,13 @@ use crate::ended::{Performed, refused};
 use crate::named::{Start, serve_start};
 use crate::resources::Resources;
 use auc_disk::Disk;
-use auc_edge::{Failed, Gate, NoMemory, Octets, Sink, Stop, write_whole};
+use auc_edge::{Gate, Sink, write_whole};
 use auc_ident::Names;
 use auc_input::openings;
 use auc_jobs::{Ran, Served, State};
 use auc_journal::Journal;
 use auc_lines::{Part, RoundPart};
+use auc_memory::{Failed, NoMemory, Octets, Stop};
 use auc_print::{print_restart, print_round};
 use auc_random::Rands;
 use auc_refusal::Refusal;
@@ -46,7 +47,7 @@ use std::thread::Threads;
 
 /// What all rounds of a scenario are served and printed with.
 #[derive(Drop)]
-pub(crate) struct Settings<'a> {
+pub(crate) struct RunOptions<'a> {
     pub(crate) set: Setting<'a>,
     pub(crate) full: bool,
     pub(crate) workers: u32,
@@ -77,7 +78,7 @@ impl<D: Disk + Drop> Stand<D> {
 
 /// What came of a part, and what it leaves.
 #[derive(Drop)]
-pub(crate) struct Step<D: Disk + Drop> {
+pub(crate) struct PartResult<D: Disk + Drop> {
     pub(crate) stand: Stand<D>,
     pub(crate) result: Result<(), Refusal>,
 }
@@ -92,28 +93,27 @@ pub(crate) struct Made<D: Disk + Drop> {
 /// Serves the jobs of a round, and appends its text to what isn't written yet. It answers whether reservations ended in it.
 pub(crate) fn make_round<R: Threads + Wait + Sync, D: Disk + Drop + Send, G: Gate + Sync>(
     resources: &Resources<R, G>,
-    settings: &Settings,
+    options: &RunOptions,
     jobs: &RoundPart,
     stand: Stand<D>,
 ) -> Made<D>
-    requires subscribers { AreSubscribers settings.now.set.rows }
-    requires known { IsKnownPart settings.now.set.rows (part.Round jobs.now) }
-    requires workers { (1 ≤ settings.now.workers) × (settings.now.workers ≤ most_workers) }
-    requires realm { length settings.now.set.realm ≤ longest_realm }
+    requires subscribers { AreSubscribers options.now.set.rows }
+    requires known { IsKnownPart options.now.set.rows (part.Round jobs.now) }
+    requires workers { (1 ≤ options.now.workers) × (options.now.workers ≤ most_workers) }
     requires number { stand.number + 1 < 2 ^ 64 }
     requires stands { (from : D) × (reserved : List ℕ) × (at : Course) × (known : List LineRecord)
-        × StandsAfter D.seen D.may_leave D.moment D.left_since settings.now.set
+        × StandsAfter D.seen D.may_leave D.moment D.left_since options.now.set
         from reserved at known stand.number stand.state stand.journal }
 
     ensures made { IfOk result.result (λ stop. MakesRound D.seen D.may_leave D.moment D.left_since
-        settings.now.set settings.now.full
+        options.now.set options.now.full
         stand.number stand.state stand.journal jobs.now stop result.stand.state result.stand.journal
         stand.text result.stand.text) }
     ensures ends { OnErr result.result ((from : D) (reserved : List ℕ) (at : Course) (known : List LineRecord)
-        → StandsAfter D.seen D.may_leave D.moment D.left_since settings.now.set
+        → StandsAfter D.seen D.may_leave D.moment D.left_since options.now.set
         from reserved at known stand.number stand.state stand.journal → AreEnough jobs.now at.early known
         → Covers D.seen D.may_leave D.moment D.left_since
-        settings.now.set.rows from reserved at.early result.stand.journal) }
+        options.now.set.rows from reserved at.early result.stand.journal) }
     ensures number { result.stand.number ≡ stand.number + 1 }
 
     // A fault comes only with a risen count.
@@ -137,7 +137,7 @@ pub(crate) fn make_round<R: Threads + Wait + Sync, D: Disk + Drop + Send, G: Gat
     } = serve_start(
         resources.rt,
         resources.alloc,
-        settings,
+        options,
         jobs.as_slice(),
         start,
         resources.gate,
@@ -150,7 +150,7 @@ pub(crate) fn make_round<R: Threads + Wait + Sync, D: Disk + Drop + Send, G: Gat
     };
     match result {
         Ok(ran) => {
-            let result = append_round(settings, &ran, &mut stand.text);
+            let result = append_round(options, &ran, &mut stand.text);
             Made { stand, result }
         }
         Err(NoMemory) => Made {
@@ -161,18 +161,22 @@ pub(crate) fn make_round<R: Threads + Wait + Sync, D: Disk + Drop + Send, G: Gat
 }
 
 /// Appends the text of a round, and answers whether reservations ended in it.
-fn append_round(settings: &Settings, ran: &Ran, text: &mut Octets) -> Result<Option<Stop>, NoMemory>
-    requires named { NamesBelow (length settings.now.set.rows) ran.now.round }
+fn append_round(
+    options: &RunOptions,
+    ran: &Ran,
+    text: &mut Octets,
+) -> Result<Option<Stop>, NoMemory>
+    requires named { NamesBelow (length options.now.set.rows) ran.now.round }
     requires vectors { ran.now.vectors
-        ≡ (if settings.now.full then map (vectors_in settings.now.set) ran.now.round.jobs else []) }
+        ≡ (if options.now.full then map (vectors_in options.now.set) ran.now.round.jobs else []) }
 
     ensures stop { IfOk result (λ stop. stop ≡ ran.now.stop) }
     ensures appended { OnOk result (text.new
-        ≡ text.old ++ round_text settings.now.set settings.now.full ran.now.round) }
+        ≡ text.old ++ round_text options.now.set options.now.full ran.now.round) }
     ensures fits { OnOk result (RoundFits ran.now.round) }
 {
     let vectors = ran.vectors.as_slice();
-    print_round(&ran.round, vectors, &settings.set, settings.full, text)?;
+    print_round(&ran.round, vectors, &options.set, options.full, text)?;
     Ok(ran.stop)
 }
 
@@ -208,7 +212,7 @@ pub(crate) fn stopped(stop: Option<Stop>) -> Result<(), Refusal>
 
 /// Writes the text with which a round was made. If reservations ended in the round, it is refused with why after it was
 /// written.
-fn write_round<K: Sink, D: Disk + Drop>(alloc: Global, made: Made<D>, out: &mut K) -> Step<D>
+fn write_round<K: Sink, D: Disk + Drop>(alloc: Global, made: Made<D>, out: &mut K) -> PartResult<D>
     ensures number { result.stand.number ≡ made.stand.number }
     ensures state { result.stand.state ≡ made.stand.state }
     ensures journal { result.stand.journal ≡ made.stand.journal }
@@ -221,9 +225,9 @@ fn write_round<K: Sink, D: Disk + Drop>(alloc: Global, made: Made<D>, out: &mut 
     match result {
         Ok(stop) => {
             let result = write_made(alloc, stop, &mut stand.text, out);
-            Step { stand, result }
+            PartResult { stand, result }
         }
-        Err(NoMemory) => Step {
+        Err(NoMemory) => PartResult {
             stand,
             result: Err(Refusal::NoMemory),
         },
@@ -258,30 +262,29 @@ fn restart<D: Disk + Drop>(
 /// Serves a part of a scenario.
 fn serve_part<R: Threads + Wait + Sync, K: Sink, D: Disk + Drop + Send, G: Gate + Sync>(
     resources: &Resources<R, G>,
-    settings: &Settings,
+    options: &RunOptions,
     part: &Part,
     mut stand: Stand<D>,
     out: &mut K,
-) -> Step<D>
-    requires subscribers { AreSubscribers settings.now.set.rows }
-    requires known { IsKnownPart settings.now.set.rows part.now }
-    requires workers { (1 ≤ settings.now.workers) × (settings.now.workers ≤ most_workers) }
-    requires realm { length settings.now.set.realm ≤ longest_realm }
+) -> PartResult<D>
+    requires subscribers { AreSubscribers options.now.set.rows }
+    requires known { IsKnownPart options.now.set.rows part.now }
+    requires workers { (1 ≤ options.now.workers) × (options.now.workers ≤ most_workers) }
     requires number { stand.number + 1 < 2 ^ 64 }
     requires stands { (from : D) × (reserved : List ℕ) × (at : Course) × StandsOn
-        D.seen D.may_leave D.moment D.left_since settings.now.set
+        D.seen D.may_leave D.moment D.left_since options.now.set
         from reserved at stand.number stand.state stand.journal }
 
     ensures goes { OnOk result.result ((from : D) (reserved : List ℕ) (at : Course)
         → StandsOn D.seen D.may_leave D.moment D.left_since
-        settings.now.set from reserved at stand.number stand.state stand.journal
-        → GoesOn D.seen D.may_leave D.moment D.left_since settings.now.set settings.now.full from reserved at part.now
+        options.now.set from reserved at stand.number stand.state stand.journal
+        → GoesOn D.seen D.may_leave D.moment D.left_since options.now.set options.now.full from reserved at part.now
         result.stand.number result.stand.state result.stand.journal stand.text result.stand.text
         (K.written out.old) (K.written out.new)) }
     ensures ends { IfErr result.result (λ refusal. (from : D) (reserved : List ℕ) (at : Course)
         → StandsOn D.seen D.may_leave D.moment D.left_since
-        settings.now.set from reserved at stand.number stand.state stand.journal
-        → EndsIn D.seen D.may_leave D.moment D.left_since settings.now.set settings.now.full from reserved at part.now
+        options.now.set from reserved at stand.number stand.state stand.journal
+        → EndsIn D.seen D.may_leave D.moment D.left_since options.now.set options.now.full from reserved at part.now
         (status_of refusal) result.stand.journal stand.text (K.written out.old) (K.written out.new)) }
     ensures number { result.stand.number ≤ stand.number + 1 }
     ensures refused { IfErr result.result RoundsStop }
@@ -293,12 +296,12 @@ fn serve_part<R: Threads + Wait + Sync, K: Sink, D: Disk + Drop + Send, G: Gate 
     match part {
         Part::Round(jobs) => write_round(
             resources.alloc,
-            make_round(resources, settings, jobs, stand),
+            make_round(resources, options, jobs, stand),
             out,
         ),
         Part::Restart => {
-            let result = restart(resources.alloc, settings.set.subs, &mut stand);
-            Step { stand, result }
+            let result = restart(resources.alloc, options.set.subs, &mut stand);
+            PartResult { stand, result }
         }
     }
 }
@@ -307,26 +310,25 @@ fn serve_part<R: Threads + Wait + Sync, K: Sink, D: Disk + Drop + Send, G: Gate 
 /// end.
 fn serve_all<R: Threads + Wait + Sync, K: Sink, D: Disk + Drop + Send, G: Gate + Sync>(
     resources: &Resources<R, G>,
-    settings: &Settings,
+    options: &RunOptions,
     parts: &[Part],
     mut stand: Stand<D>,
     out: &mut K,
 ) -> Performed<D>
-    requires subscribers { AreSubscribers settings.now.set.rows }
-    requires known { All (IsKnownPart settings.now.set.rows) parts.now }
-    requires workers { (1 ≤ settings.now.workers) × (settings.now.workers ≤ most_workers) }
-    requires realm { length settings.now.set.realm ≤ longest_realm }
+    requires subscribers { AreSubscribers options.now.set.rows }
+    requires known { All (IsKnownPart options.now.set.rows) parts.now }
+    requires workers { (1 ≤ options.now.workers) × (options.now.workers ≤ most_workers) }
     requires number { stand.number + length parts.now < 2 ^ 64 }
     requires text { stand.text ≡ [] }
     requires stands { (from : D) × (reserved : List ℕ) × (at : Course) × StandsOn
-        D.seen D.may_leave D.moment D.left_since settings.now.set
+        D.seen D.may_leave D.moment D.left_since options.now.set
         from reserved at stand.number stand.state stand.journal }
 
     ensures ran { (from : D) (reserved : List ℕ) (at : Course)
         → StandsOn D.seen D.may_leave D.moment D.left_since
-        settings.now.set from reserved at stand.number stand.state stand.journal
+        options.now.set from reserved at stand.number stand.state stand.journal
         → RunsParts D.seen D.may_leave D.moment D.left_since
-        settings.now.set settings.now.full from reserved at parts.now
+        options.now.set options.now.full from reserved at parts.now
         (status_in result.result) result.disk (K.written out.old) (K.written out.new) }
     ensures refused { IfErr result.result RoundsStop }
 
@@ -335,10 +337,10 @@ fn serve_all<R: Threads + Wait + Sync, K: Sink, D: Disk + Drop + Send, G: Gate +
     ensures store { RoseOnDisk result.result (D.faults stand.journal.disk) (D.faults result.disk) }
 {
     for part in parts {
-        let Step {
+        let PartResult {
             stand: next,
             result,
-        } = serve_part(resources, settings, part, stand, out);
+        } = serve_part(resources, options, part, stand, out);
         match result {
             Ok(()) => stand = next,
             Err(refusal) => {
@@ -409,7 +411,7 @@ pub(crate) fn serve_parts<R: Threads + Wait + Sync, K: Sink, D: Disk + Drop + Se
 {
     let rands = Rands::new(script.key);
     let names = Names::new(script.key);
-    let settings = Settings {
+    let options = RunOptions {
         set: Setting {
             subs,
             rands: &rands,
@@ -428,5 +430,5 @@ pub(crate) fn serve_parts<R: Threads + Wait + Sync, K: Sink, D: Disk + Drop + Se
         journal,
         text: Octets::new(resources.alloc),
     };
-    serve_all(resources, &settings, script.parts.as_slice(), stand, out)
+    serve_all(resources, &options, script.parts.as_slice(), stand, out)
 }

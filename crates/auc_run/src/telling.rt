@@ -7,10 +7,11 @@ ghost use Rattle.auc_run.specs.Inner.{LimitsStop, TellsLimits, WritesLimits};
 ghost use Rattle.auc_refusal.specs.Faults.{RoseAt};
 
 use auc_compact::compact;
-use auc_edge::{Octets, Sink, write_whole};
+use auc_edge::{Sink, write_whole};
 use auc_forms::reserved_lines;
 use auc_input::JournalForm;
 use auc_journal::LimitList;
+use auc_memory::Octets;
 use auc_refusal::Refusal;
 use std::alloc::Global;
 

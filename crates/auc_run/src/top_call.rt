@@ -1,7 +1,7 @@
 //! The top call.
 
 ghost use Rattle.std.specs.Prelude.{◌≡◌, ◌≢◌, ◌≤◌, ◌⊎◌, ℕ, length, Option, List, [], Some, None, Ok, Err, OnOk, IfErr, IsErrOf};
-ghost use Rattle.auc_edge.specs.Faults.{Rose};
+ghost use Rattle.auc_memory.specs.Faults.{Rose};
 ghost use Rattle.auc_edge.specs.Shelf.{File};
 ghost use Rattle.auc_edge.specs.Sink.{Appends};
 ghost use Rattle.auc_forms.specs.Algorithm.{algorithm_named, algorithm_text};
@@ -33,12 +33,13 @@ use crate::resources::Resources;
 use crate::rounds::serve_parts;
 use crate::telling::write_limits;
 use auc_disk::Disk;
-use auc_edge::{Gate, Octets, Shelf, Sink, write_whole};
+use auc_edge::{Gate, Shelf, Sink, write_whole};
 use auc_forms::{AlgorithmForm, algorithm_lines, algorithm_words};
 use auc_input::{
     Input, InputFiles, JournalForm, input_files, journal_form, open_journal, read_input,
 };
 use auc_journal::{Journal, OpenRefused};
+use auc_memory::Octets;
 use auc_refusal::{Refusal, Status, tell};
 use std::alloc::Global;
 use std::sync::Wait;

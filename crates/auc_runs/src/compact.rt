@@ -1,7 +1,8 @@
 //! The form `compact`: a journal is written anew.
 
 use crate::outside::{disk_of, words_of};
-use auc_edge::{MemShelf, MemSink, Octets, OpenGate};
+use auc_edge::{MemShelf, MemSink, OpenGate};
+use auc_memory::Octets;
 use auc_run::{Status, run};
 use std::alloc::Global;
 use std::process::Abort;

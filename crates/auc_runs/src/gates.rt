@@ -4,7 +4,8 @@ ghost use Rattle.std.specs.Prelude.{None};
 
 use crate::outside::{RUN, TWO_JOBS, shelf_of, words_of};
 use auc_disk::Disk;
-use auc_edge::{Failed, Gate, MemSink, TurnGate};
+use auc_edge::{Gate, MemSink, TurnGate};
+use auc_memory::Failed;
 use auc_run::{Status, run};
 use std::alloc::Global;
 use std::process::Abort;

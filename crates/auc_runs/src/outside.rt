@@ -1,7 +1,8 @@
 //! The outside of a run in memory: its words, its files and its disk.
 
 use auc_disk::{DiskCall, FailList, MemDisk};
-use auc_edge::{Items, MemShelf, Octets};
+use auc_edge::MemShelf;
+use auc_memory::{Items, Octets};
 use std::alloc::Global;
 use std::process::Abort;
 

@@ -2,7 +2,8 @@
 
 use crate::outside::{empty_disk, shelf_of};
 use crate::tests::{Case, RUN_BOTH, check, check_text, run_scenario, shelf_of_both};
-use auc_edge::{MemShelf, MemSink, Octets};
+use auc_edge::{MemShelf, MemSink};
+use auc_memory::Octets;
 use auc_run::{MAX_FILE, Status};
 use std::alloc::Global;
 use std::process::Abort;

@@ -3,7 +3,8 @@
 use crate::outside::{disk_of, failing_disk, words_of};
 use auc_block::{LIMIT, MemWire, Turn};
 use auc_disk::{DiskCall, MemDisk};
-use auc_edge::{MemShelf, Octets, OpenGate};
+use auc_edge::{MemShelf, OpenGate};
+use auc_memory::Octets;
 use auc_run::{Status, serve};
 use std::alloc::Global;
 use std::process::Abort;

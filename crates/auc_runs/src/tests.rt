@@ -3,7 +3,8 @@
 
 use crate::outside::{RUN, TWO_JOBS, disk_of, empty_disk, failing_disk, shelf_of, words_of};
 use auc_disk::{DiskCall, MemDisk};
-use auc_edge::{Gate, MemShelf, MemSink, Octets, OpenGate, TurnGate};
+use auc_edge::{Gate, MemShelf, MemSink, OpenGate, TurnGate};
+use auc_memory::Octets;
 use auc_run::{Status, run};
 use std::alloc::Global;
 use std::process::Abort;

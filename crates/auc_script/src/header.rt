@@ -7,7 +7,7 @@ ghost use Rattle.auc_script.specs.InnerSoFar.{IsHeader};
 ghost use Rattle.auc_script.specs.Scenario.{header_with, key_line, print_line, realm_line, workers_line};
 
 use crate::limits::{MAX_REALM, MAX_WORKERS};
-use auc_edge::Octets;
+use auc_memory::Octets;
 use auc_reading::{HeaderWord, LineRefusal, ScriptWhy, one_field, read_full, read_number, require};
 use auc_text::read_octets;
 use std::alloc::Global;

@@ -6,8 +6,8 @@ ghost use Rattle.auc_script.specs.Scenario.{is_busy};
 ghost use Rattle.auc_script.specs.InnerSoFar.{AreMarks, marked};
 
 use crate::round_so_far::RoundSoFar;
-use auc_edge::NoMemory;
 use auc_lines::Line;
+use auc_memory::NoMemory;
 use std::alloc::Global;
 
 /// For each USIM the job that held it last, by its number from 1 over all rounds.

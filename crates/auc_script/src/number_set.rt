@@ -3,7 +3,7 @@
 ghost use Rattle.std.specs.Prelude.{◌≡◌, ◌++◌, [], ◌∷◌, false, length, OnOk};
 ghost use Rattle.auc_script.specs.Session.{is_among};
 
-use auc_edge::NoMemory;
+use auc_memory::NoMemory;
 use indexmap::IndexSet;
 use std::alloc::Global;
 use std::marker::Model;

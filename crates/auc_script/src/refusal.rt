@@ -4,7 +4,7 @@ ghost use Rattle.std.specs.Prelude.{◌≡◌};
 ghost use Rattle.auc_script.specs.declared.refusal.ScriptRefusal.TheVariants as refusal;
 ghost use Rattle.auc_script.specs.InnerRefusal.{refusal_at};
 
-use auc_edge::NoMemory;
+use auc_memory::NoMemory;
 use auc_reading::{LineRefusal, ScriptWhy};
 
 /// Why a scenario isn't read.

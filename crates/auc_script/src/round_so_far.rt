@@ -4,8 +4,8 @@ ghost use Rattle.std.specs.Prelude.{◌≡◌, [], IfOk, OnOk};
 ghost use Rattle.auc_script.specs.Scenario.{jobs_in};
 ghost use Rattle.auc_script.specs.InnerSoFar.{with_last};
 
-use auc_edge::{Items, NoMemory};
 use auc_lines::{JobPart, Line, RoundPart};
+use auc_memory::{Items, NoMemory};
 use std::alloc::Global;
 use std::mem::replace;
 

@@ -11,8 +11,8 @@ ghost use Rattle.auc_script.specs.declared.refusal.ScriptRefusal.TheVariants as 
 use crate::form::Form;
 use crate::refusal::ScriptRefusal;
 use crate::so_far::SoFar;
-use auc_edge::{Items, Octets};
 use auc_lines::{Part, RoundPart};
+use auc_memory::{Items, Octets};
 use auc_reading::ScriptWhy;
 use auc_subs::Subscribers;
 use auc_text::next_line;

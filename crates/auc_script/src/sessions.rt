@@ -9,8 +9,8 @@ ghost use Rattle.auc_script.specs.InnerSoFar.{no_sessions, noted, of_new_job};
 
 use crate::limits::{MAX_PACKETS, MAX_SESSIONS, PACKETS_OF_PLAIN};
 use crate::number_set::NumberSet;
-use auc_edge::NoMemory;
 use auc_lines::Line;
+use auc_memory::NoMemory;
 use auc_reading::{ScriptWhy, require};
 use std::alloc::Global;
 use std::mem::replace;

@@ -20,8 +20,8 @@ use crate::line_order::asked_with;
 use crate::round_so_far::RoundSoFar;
 use crate::script::Script;
 use crate::sessions::Sessions;
-use auc_edge::{Items, NoMemory, Octets};
 use auc_lines::{Line, Part, RoundPart};
+use auc_memory::{Items, NoMemory, Octets};
 use auc_reading::{
     HeaderWord, JobWord, LineRefusal, ScriptWhy, Word, is_comment, no_field, read_line, read_word,
     require,

@@ -8,7 +8,7 @@ use Rattle.auc_aes.specs.Bytes.{xor, IsBytes, IsBlock}
 use Rattle.auc_aes.specs.Cipher.{aes}
 use Rattle.auc_aes.specs.Cbc.{encrypted_blocks, cbc_encrypted, cbc_decrypted}
 use Rattle.auc_aes.proofs.Facts.{bytes_take, bytes_drop, xor_block, aes_block, cbc_encrypted_undone}
-use Rattle.auc_edge.specs.Reserved.{Reserved, wrote}
+use Rattle.auc_memory.specs.Reserved.{Reserved, wrote}
 use Rattle.auc_attr.specs.declared.attr.Attr.{Attr}
 use Rattle.auc_attr.specs.declared.attr.Attr.TheVariants as attr
 use Rattle.auc_attr.specs.declared.refusal.AttrRefusal.{AttrRefusal}

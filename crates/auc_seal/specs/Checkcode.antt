@@ -1,5 +1,5 @@
 -- The checkcode (RFC 4187 §10.13, RFC 9048 §3.4.3): a hash of packets in their order.
-use Rattle.std.specs.Prelude.{◌≡◌, ◌⊎◌, ℕ, Bool, true, false, List, [], ◌∷◌, ◌++◌, length, if◌then◌else◌}
+use Rattle.std.specs.Prelude.{◌≡◌, ◌⊎◌, ℕ, Bool, true, false, not, List, [], ◌∷◌, ◌++◌, length, Option, Some, None, if◌then◌else◌}
 use Rattle.std.specs.List.{concat, list_any}
 use Rattle.std.specs.Str.{bytes_eq}
 use Rattle.sha1.specs.Sha1.{sha1}
@@ -33,6 +33,11 @@ value_bytes (values.Sha256 hash) = hash
 -- the bytes of a value are none, or those of a hash: 20 of SHA-1, 32 of SHA-256
 abbrev pub IsHash : List ℕ → Type 0
 IsHash bytes = (length bytes ≡ 0) ⊎ ((length bytes ≡ 20) ⊎ (length bytes ≡ 32))
+
+-- whether a checkcode that was received isn't a receiver's own (RFC 4187 §10.13); without one nothing is tested
+abbrev pub differs : List ℕ → Option (List ℕ) → Bool
+differs own None = false
+differs own (Some code) = not (bytes_eq code own)
 
 -- ---- the packets of an exchange
 

@@ -1,15 +1,16 @@
 //! The checkcode of the AKA-Identity packets.
 
 ghost use Rattle.std.specs.Prelude.{◌≡◌, ℕ, List, [], ◌∷◌, ◌++◌, IsOk};
+ghost use Rattle.std.specs.Option.{option_copied};
 ghost use Rattle.auc_hmac.specs.declared.method.Method.{Method};
 ghost use Rattle.sha1.specs.Sha1.{sha1};
 ghost use Rattle.sha1.specs.Sha1 as One;
 ghost use Rattle.sha2.specs.Sha256.{sha256};
 ghost use Rattle.sha2.specs.Hashers.{Holds256};
-ghost use Rattle.auc_seal.specs.Checkcode.{HoldsBytes, HoldsPackets, IsHash, checkcode_of, value_bytes};
+ghost use Rattle.auc_seal.specs.Checkcode.{HoldsBytes, HoldsPackets, IsHash, checkcode_of, differs, value_bytes};
 
-use auc_edge::NoMemory;
 use auc_hmac::Method;
+use auc_memory::{NoMemory, Octets};
 use sha1::Sha1;
 use sha2::{Digest, Sha256};
 
@@ -49,6 +50,17 @@ impl CheckValue {
             CheckValue::Empty => &[],
             CheckValue::Sha1(hash) => hash,
             CheckValue::Sha256(hash) => hash,
+        }
+    }
+
+    /// Whether a checkcode that was received isn't this one, a receiver's own (RFC 4187 §10.13). Without one nothing is
+    /// tested.
+    pub fn differs(&self, code: Option<&Octets>) -> bool
+        ensures { result ≡ differs (value_bytes self.now) (option_copied code.entry) }
+    {
+        match code {
+            None => false,
+            Some(code) => code.as_slice() != self.as_slice(),
         }
     }
 }

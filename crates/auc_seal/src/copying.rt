@@ -5,7 +5,7 @@ ghost use Rattle.std.specs.List.{list_any};
 ghost use Rattle.auc_seal.specs.Encrypted.{is_padding, without_padding};
 
 use auc_attr::{Attr, AttrList};
-use auc_edge::{NoMemory, Octets};
+use auc_memory::{NoMemory, Octets};
 use std::alloc::Global;
 
 /// A copy of a list.

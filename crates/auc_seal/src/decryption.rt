@@ -11,7 +11,7 @@ use crate::copying::without_padding;
 use crate::refusal::SealRefusal;
 use auc_aes::Key;
 use auc_attr::{Attr, AttrList, AttrRefusal, read_attrs};
-use auc_edge::{NoMemory, Octets};
+use auc_memory::{NoMemory, Octets};
 use std::alloc::Global;
 
 /// Decrypts the AT_ENCR_DATA of a list under K_encr, and gives its attributes without their padding; none if
@@ -24,10 +24,10 @@ pub fn decrypt_attrs(
 ) -> Result<AttrList, SealRefusal>
     ensures { Decrypts k_encr list.now result }
 {
-    let Some(ciphertext) = first_data(list) else {
+    let Some(ciphertext) = first_data(list.as_slice()) else {
         return Ok(AttrList::new(alloc));
     };
-    let Some(iv) = first_iv(list) else {
+    let Some(iv) = first_iv(list.as_slice()) else {
         return Err(SealRefusal::NoIv);
     };
     if !is_ciphertext(ciphertext.as_slice()) {
@@ -41,10 +41,10 @@ pub fn decrypt_attrs(
 }
 
 /// The value of the first AT_ENCR_DATA.
-pub(crate) fn first_data(list: &AttrList) -> Option<&Octets>
+pub(crate) fn first_data(list: &[Attr]) -> Option<&Octets>
     ensures { option_copied result ≡ first_value data_of list.now }
 {
-    for attr in list.as_slice() {
+    for attr in list {
         if let Some(ciphertext) = data_of(attr) {
             return Some(ciphertext);
         }
@@ -63,10 +63,10 @@ fn data_of(attr: &Attr) -> Option<&Octets>
 }
 
 /// The value of the first AT_IV.
-pub(crate) fn first_iv(list: &AttrList) -> Option<[u8; 16]>
+pub(crate) fn first_iv(list: &[Attr]) -> Option<[u8; 16]>
     ensures { result ≡ first_value iv_of list.now }
 {
-    for attr in list.as_slice() {
+    for attr in list {
         if let Some(iv) = iv_of(attr) {
             return Some(iv);
         }

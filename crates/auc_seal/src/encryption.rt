@@ -6,13 +6,13 @@ ghost use Rattle.auc_aes.specs.Cbc.{cbc_encrypted};
 ghost use Rattle.auc_attr.specs.declared.attr.Attr.{Attr};
 ghost use Rattle.auc_attr.specs.Laws.{AreBytes};
 ghost use Rattle.auc_attr.specs.Spelling.{spelling};
-ghost use Rattle.auc_edge.specs.Reserved.{wrote};
+ghost use Rattle.auc_memory.specs.Reserved.{wrote};
 ghost use Rattle.auc_seal.specs.Encrypted.{padding_for, padded, encrypted, MayBeEncrypted, HasNoneEncrypted, Decrypts};
 
 use crate::copying::{copied, has_padding};
 use auc_aes::Key;
 use auc_attr::{Attr, AttrList, put_attrs};
-use auc_edge::{NoMemory, Octets, Places, Room};
+use auc_memory::{NoMemory, Octets, Places, Room};
 use std::alloc::Global;
 use std::marker::Model;
 

@@ -4,8 +4,8 @@ ghost use Rattle.std.specs.Prelude.{◌≡◌, [], OnErr, OnOk, IfOk};
 ghost use Rattle.auc_seal.specs.Checkcode.{checkcode_of, counted, is_counted};
 
 use crate::checkcode::{CheckValue, Checkcode};
-use auc_edge::{Items, NoMemory, Octets};
 use auc_hmac::Method;
+use auc_memory::{Items, NoMemory, Octets};
 use std::alloc::Global;
 use std::marker::Model;
 

@@ -2,17 +2,17 @@
 
 ghost use Rattle.std.specs.Prelude.{◌≡◌, ◌%◌, ◌≤◌, [], length};
 ghost use Rattle.auc_aes.specs.Cbc.{cbc_decrypted};
-ghost use Rattle.auc_edge.specs.Reserved.{wrote};
+ghost use Rattle.auc_memory.specs.Reserved.{wrote};
 ghost use Rattle.auc_seal.specs.Encrypted.{ciphertext_of, Opens};
 
 use crate::decryption::{first_data, first_iv, is_ciphertext};
 use crate::refusal::SealRefusal;
 use auc_aes::{Key, block_at, xor};
-use auc_attr::{AttrList, first_fault};
-use auc_edge::{Octets, Room};
+use auc_attr::{Attr, first_fault};
+use auc_memory::{Octets, Room};
 
 /// How many bytes the value of a list's AT_ENCR_DATA has; 0 if the list has none.
-pub fn ciphertext_size(list: &AttrList) -> usize
+pub fn ciphertext_size(list: &[Attr]) -> usize
     ensures { result ≡ length (ciphertext_of list.now) }
 {
     match first_data(list) {
@@ -24,7 +24,7 @@ pub fn ciphertext_size(list: &AttrList) -> usize
 /// Decrypts the AT_ENCR_DATA of a list under K_encr, and gives the decrypted bytes if they are attributes; no bytes if
 /// the list has no AT_ENCR_DATA. `decrypt_attrs` refuses the same lists for the same reasons. It takes no memory, so
 /// it never refuses with `NoMemory`.
-pub fn open_attrs(k_encr: [u8; 16], list: &AttrList, room: Room) -> Result<Octets, SealRefusal>
+pub fn open_attrs(k_encr: [u8; 16], list: &[Attr], room: Room) -> Result<Octets, SealRefusal>
     requires empty { room.written ≡ [] }
     requires room { length (ciphertext_of list.now) ≤ room.left }
     ensures { Opens k_encr list.now result }

@@ -4,7 +4,7 @@ ghost use Rattle.std.specs.Prelude.{◌≡◌};
 ghost use Rattle.auc_seal.specs.declared.refusal.SealRefusal.TheVariants as refusal;
 
 use auc_attr::AttrRefusal;
-use auc_edge::NoMemory;
+use auc_memory::NoMemory;
 
 /// Why encrypted attributes (RFC 4187 §10.12) aren't decrypted.
 #[derive(Clone, Copy, Debug, PartialEq, Eq)]

@@ -1,5 +1,6 @@
 -- Each turn of a server that isn't ignored leaves fewer packets to send.
 use Rattle.std.proofs.Common.{◌≡◌, ◌⊎◌, inl, inr, ℕ, ◌<◌, ◌≤◌, ◌==◌, ◌||◌, Bool, true, false, cond, not, List, [], Option, Some, None, slice_get, refl, arith}
+use Rattle.auc_attr.specs.First.{first_value}
 use Rattle.auc_attr.specs.declared.attr.Attr.{Attr}
 use Rattle.auc_hmac.specs.declared.method.Method.{Method}
 use Rattle.auc_packet.specs.Head.{head_at}
@@ -12,6 +13,8 @@ use Rattle.auc_packet.specs.declared.received.Reading.TheVariants as reading
 use Rattle.auc_packet.specs.declared.subtype.Subtype.{Subtype}
 use Rattle.auc_packet.specs.declared.subtype.Subtype.TheVariants as subtype
 use Rattle.auc_subs.specs.declared.row.Row as rows
+use Rattle.auc_request.specs.Request.{checkcode_of}
+use Rattle.auc_seal.specs.Checkcode.{differs}
 use Rattle.auc_vector.specs.Auts.{read_auts_of}
 use Rattle.auc_vector.specs.declared.auts.Auts.{Auts}
 use Rattle.auc_vector.specs.declared.auts.Auts.TheVariants as auts
@@ -27,11 +30,11 @@ use Rattle.auc_vector.specs.declared.turn.Step.TheVariants as step
 use Rattle.auc_vector.specs.declared.turn.Turn.{Turn}
 use Rattle.auc_reauth.specs.declared.context.Context.{Context}
 use Rattle.auc_request.specs.declared.identities.IdentityRequest.TheVariants as asks
-use Rattle.auc_server.specs.Attributes.{auts_of, checkcode_of, error_code_of, first_of, identity_in, res_of}
+use Rattle.auc_server.specs.Attributes.{auts_of, error_code_of, identity_in, res_of}
 use Rattle.auc_server.specs.Contexts.{context_in, homes_left}
 use Rattle.auc_server.specs.Ending.{EachTurnLeavesFewer, left_challenged, packets_left, packets_left_in}
 use Rattle.auc_server.specs.Rounds.{checkcode}
-use Rattle.auc_server.specs.Rows.{by_auts, challenge_or, context_subscriber, differs, in_state, is_expected, is_type, is_wrong, on_any, on_auts, on_challenged, on_client_error, on_error_code, on_first, on_full, on_head, on_identity, on_message, on_method, on_permanent, on_reading, on_reauth, on_response, on_resumed, on_sync_failure, permanent_subscriber, read_by, resume_or, says_small, server_row, subscriber_in, text_in, type_awaited}
+use Rattle.auc_server.specs.Rows.{by_auts, challenge_or, context_subscriber, in_state, is_expected, is_type, is_wrong, on_any, on_auts, on_challenged, on_client_error, on_error_code, on_first, on_full, on_head, on_identity, on_message, on_method, on_permanent, on_reading, on_reauth, on_response, on_resumed, on_sync_failure, permanent_subscriber, read_by, resume_or, says_small, server_row, subscriber_in, text_in, type_awaited}
 use Rattle.auc_server.specs.Server.{ServerEnd}
 use Rattle.auc_subs.specs.Setting.{Setting}
 use Rattle.auc_server.specs.Table.{challenged, challenged_with, identified, names_given, noted, packets_after, resumed_with, resynchronised, resynchronising, server_does, vector_at}
@@ -113,8 +116,8 @@ response_by sent false false false false = omega arith
 
 response_needs : (by : Method) (packets : List (List ℕ)) (sent : Challenged) (seen : Seen) (list : List Attr) → needs (on_response by packets sent seen list) ≤ 2
 response_needs by packets sent seen list =
-    response_by sent (is_missing subtype.Challenge false list) (not (is_sealed by sent.keys.k_aut [] seen)) (not (is_expected sent.vector.xres (first_of res_of list)))
-    (differs (checkcode by packets) (first_of checkcode_of list))
+    response_by sent (is_missing subtype.Challenge false list) (not (is_sealed by sent.keys.k_aut [] seen)) (not (is_expected sent.vector.xres (first_value res_of list)))
+    (differs (checkcode by packets) (first_value checkcode_of list))
 
 -- the response to a re-authentication, by what is tested
 reauth_by : (sent : Resumed) (missing forged wrong small other_code : Bool)
@@ -129,7 +132,7 @@ reauth_by sent false false false false false = omega arith
 reauth_needs : (by : Method) (packets : List (List ℕ)) (sent : Resumed) (seen : Seen) (said : Reply) (list : List Attr) → needs (on_reauth by packets sent seen said list) ≤ 4
 reauth_needs by packets sent seen said list =
     reauth_by sent (is_missing subtype.Reauthentication false list) (not (is_sealed by sent.context.k_aut sent.nonce seen)) (is_wrong said) (says_small said)
-    (differs (checkcode by packets) (first_of checkcode_of list))
+    (differs (checkcode by packets) (first_value checkcode_of list))
 
 -- a synchronisation failure: only the first one resynchronises
 auts_needs : (sub : ℕ) (read : Auts) → needs (by_auts sub read) ≤ 3
@@ -147,8 +150,8 @@ answer_needs set sent (Some answer) = read_needs sent answer (slice_get set.rows
 sync_needs : (set : Setting) (synced : Bool) (sent : Challenged) (list : List Attr) → needs (on_sync_failure set synced sent list) ≤ left_challenged synced
 sync_needs set true sent list = of_two 2 (is_missing subtype.SynchronizationFailure false list) (row.Ignore reason.Missing) row.SecondSync (omega arith) (omega arith)
 sync_needs set false sent list =
-    of_two 3 (is_missing subtype.SynchronizationFailure false list) (row.Ignore reason.Missing) (on_auts set sent (first_of auts_of list)) (omega arith)
-    (answer_needs set sent (first_of auts_of list))
+    of_two 3 (is_missing subtype.SynchronizationFailure false list) (row.Ignore reason.Missing) (on_auts set sent (first_value auts_of list)) (omega arith)
+    (answer_needs set sent (first_value auts_of list))
 
 code_needs : (found : Option ℕ) → needs (on_error_code found) ≤ 1
 code_needs None = omega arith
@@ -156,8 +159,8 @@ code_needs (Some code) = omega arith
 
 error_needs : (list : List Attr) → needs (on_client_error list) ≤ 1
 error_needs list =
-    of_two 1 (is_missing subtype.ClientError false list) (row.Ignore reason.Missing) (on_error_code (first_of error_code_of list)) (omega arith)
-    (code_needs (first_of error_code_of list))
+    of_two 1 (is_missing subtype.ClientError false list) (row.Ignore reason.Missing) (on_error_code (first_value error_code_of list)) (omega arith)
+    (code_needs (first_value error_code_of list))
 
 -- two packets may follow a challenge at least
 two_left : (synced : Bool) → 2 ≤ left_challenged synced

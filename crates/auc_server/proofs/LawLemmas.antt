@@ -1,6 +1,7 @@
 -- What each row says of the server, and that Success comes only after a right AT_MAC.
 use Rattle.std.proofs.Common.{◌≡◌, ◌⊎◌, inl, inr, ℕ, ◌==◌, ◌||◌, Bool, true, false, cond, not, List, [], Option, Some, None, slice_get, refl, ap, ◌∙◌}
 use Rattle.std.specs.Option.{option_or}
+use Rattle.auc_attr.specs.First.{first_value}
 use Rattle.auc_attr.specs.declared.attr.Attr.{Attr}
 use Rattle.auc_hmac.specs.declared.keys.KeySet.{KeySet}
 use Rattle.auc_hmac.specs.declared.method.Method.{Method}
@@ -14,6 +15,8 @@ use Rattle.auc_packet.specs.declared.received.Reading.TheVariants as reading
 use Rattle.auc_packet.specs.declared.subtype.Subtype.{Subtype}
 use Rattle.auc_packet.specs.declared.subtype.Subtype.TheVariants as subtype
 use Rattle.auc_subs.specs.declared.row.Row as rows
+use Rattle.auc_request.specs.Request.{checkcode_of}
+use Rattle.auc_seal.specs.Checkcode.{differs}
 use Rattle.auc_vector.specs.Auts.{read_auts_of}
 use Rattle.auc_vector.specs.declared.auts.Auts.{Auts}
 use Rattle.auc_vector.specs.declared.auts.Auts.TheVariants as auts
@@ -28,12 +31,12 @@ use Rattle.auc_vector.specs.declared.turn.Reason.TheVariants as reason
 use Rattle.auc_vector.specs.declared.turn.Step.{Step}
 use Rattle.auc_vector.specs.declared.turn.Step.TheVariants as step
 use Rattle.auc_vector.specs.declared.turn.Turn.{Turn}
-use Rattle.auc_server.specs.Attributes.{res_of, auts_of, checkcode_of, error_code_of, first_of, identity_in}
+use Rattle.auc_server.specs.Attributes.{res_of, auts_of, error_code_of, identity_in}
 use Rattle.auc_server.specs.Laws.{AreProved, AreRenewed, SuccessNeedsARightMac, awaits_identity}
 use Rattle.auc_reauth.specs.declared.context.Context.{Context}
 use Rattle.auc_server.specs.Contexts.{context_in, homes_left}
 use Rattle.auc_server.specs.Rounds.{checkcode}
-use Rattle.auc_server.specs.Rows.{by_auts, challenge_or, context_subscriber, differs, in_state, is_expected, is_type, is_wrong, on_any, on_auts, on_challenged, on_client_error, on_error_code, on_first, on_full, on_head, on_identity, on_message, on_method, on_permanent, on_reading, on_reauth, on_requested, on_response, on_resumed, on_sync_failure, permanent_subscriber, pseudonym_subscriber, read_by, resume_or, says_small, server_row, subscriber_in, text_in, type_awaited}
+use Rattle.auc_server.specs.Rows.{by_auts, challenge_or, context_subscriber, in_state, is_expected, is_type, is_wrong, on_any, on_auts, on_challenged, on_client_error, on_error_code, on_first, on_full, on_head, on_identity, on_message, on_method, on_permanent, on_reading, on_reauth, on_requested, on_response, on_resumed, on_sync_failure, permanent_subscriber, pseudonym_subscriber, read_by, resume_or, says_small, server_row, subscriber_in, text_in, type_awaited}
 use Rattle.auc_server.specs.Server.{ServerEnd, challenged_of, resumed_of}
 use Rattle.auc_server.specs.State.{last_of, nothing_sent}
 use Rattle.auc_subs.specs.Setting.{Setting}
@@ -100,8 +103,8 @@ says_response : (found : Option ℕ) (s : ServerEnd) (sent : Challenged) (before
     → Says found s seen (on_response s.options.method s.packets sent seen list)
 says_response found s sent before seen list now =
     let sealed = is_sealed s.options.method sent.keys.k_aut [] seen in
-    let expected = is_expected sent.vector.xres (first_of res_of list) in
-    let other = differs (checkcode s.options.method s.packets) (first_of checkcode_of list) in
+    let expected = is_expected sent.vector.xres (first_value res_of list) in
+    let other = differs (checkcode s.options.method s.packets) (first_value checkcode_of list) in
     let last = cond other row.WrongCheckcode (row.Success sent) in
     let by_res = cond (not expected) row.WrongRes last in
     on_cond (Says found s seen) (is_missing subtype.Challenge false list) (row.Ignore reason.Missing) (cond (not sealed) row.WrongMac by_res) tt (λ there.
@@ -113,7 +116,7 @@ says_reauth : (found : Option ℕ) (s : ServerEnd) (sent : Resumed) (seen : Seen
     → Says found s seen (on_reauth s.options.method s.packets sent seen said list)
 says_reauth found s sent seen said list now =
     let sealed = is_sealed s.options.method sent.context.k_aut sent.nonce seen in
-    let other = differs (checkcode s.options.method s.packets) (first_of checkcode_of list) in
+    let other = differs (checkcode s.options.method s.packets) (first_value checkcode_of list) in
     let last = cond other row.WrongCheckcode (row.Reauthenticated sent) in
     let small = cond (says_small said) (row.TooSmall sent.sub) last in
     let by_counter = cond (is_wrong said) row.WrongCounter small in
@@ -137,9 +140,9 @@ says_on_auts found set s seen sent (Some answer) f = says_read found s seen sent
 
 says_sync : (found : Option ℕ) (set : Setting) (s : ServerEnd) (seen : Seen) (synced : Bool) (sent : Challenged) (list : List Attr) → IsLast s sent.sub → Says found s seen (on_sync_failure set synced sent list)
 says_sync found set s seen synced sent list f =
-    let answered = on_auts set sent (first_of auts_of list) in
+    let answered = on_auts set sent (first_value auts_of list) in
     on_cond (Says found s seen) (is_missing subtype.SynchronizationFailure false list) (row.Ignore reason.Missing) (cond synced row.SecondSync answered) tt (λ there.
-    on_cond (Says found s seen) synced row.SecondSync answered tt (λ first. says_on_auts found set s seen sent (first_of auts_of list) f))
+    on_cond (Says found s seen) synced row.SecondSync answered tt (λ first. says_on_auts found set s seen sent (first_value auts_of list) f))
 
 says_code : (found : Option ℕ) (s : ServerEnd) (seen : Seen) (code : Option ℕ) → Says found s seen (on_error_code code)
 says_code found s seen None = tt
@@ -147,8 +150,8 @@ says_code found s seen (Some code) = tt
 
 says_error : (found : Option ℕ) (s : ServerEnd) (seen : Seen) (list : List Attr) → Says found s seen (on_client_error list)
 says_error found s seen list =
-    on_cond (Says found s seen) (is_missing subtype.ClientError false list) (row.Ignore reason.Missing) (on_error_code (first_of error_code_of list)) tt
-    (λ there. says_code found s seen (first_of error_code_of list))
+    on_cond (Says found s seen) (is_missing subtype.ClientError false list) (row.Ignore reason.Missing) (on_error_code (first_value error_code_of list)) tt
+    (λ there. says_code found s seen (first_value error_code_of list))
 
 says_answer : (found : Option ℕ) (set : Setting) (s : ServerEnd) (sent : Challenged) (before : Option Resumed) (seen : Seen) (kind : Subtype) (list : List Attr)
     → s.state ≡ state.AwaitChallenge sent before → Says found s seen (on_challenged set s sent seen kind list)

@@ -17,13 +17,14 @@ use Rattle.auc_hmac.specs.Mac.{no_mac}
 use Rattle.auc_hmac.proofs.Facts.{length-mac_of}
 use Rattle.auc_hmac.specs.declared.method.Method.{Method}
 use Rattle.auc_hmac.specs.declared.method.Method.TheVariants as method
+use Rattle.auc_ident.specs.Permanent.{with_realm}
 use Rattle.auc_packet.specs.Sealed.{MayBeSealed, draft_mac, sealed, with_mac}
 use Rattle.auc_packet.specs.Spelling.{MayBeWritten, packet_text}
 use Rattle.auc_seal.specs.Checkcode.{IsHash}
 use Rattle.auc_seal.specs.Encrypted.{HasNoneEncrypted, is_padding, missing, padded, padding_for}
 use Rattle.auc_seal.specs.Laws.{EncryptedIsWritable}
 use Rattle.auc_server.specs.InnerMessages.{AreEncryptable, AreNames, IsGiven, IsName, IsSmall}
-use Rattle.auc_server.specs.Messages.{aka_identity, attrs_by, attrs_given, challenge_draft, id_req, names_in, next_in, notification, reauth_draft, reauth_in, with_realm}
+use Rattle.auc_server.specs.Messages.{aka_identity, attrs_by, attrs_given, challenge_draft, id_req, names_in, next_in, notification, reauth_draft, reauth_in}
 use Rattle.auc_request.specs.declared.identities.IdentityRequest.{IdentityRequest}
 use Rattle.auc_request.specs.declared.identities.IdentityRequest.TheVariants as asks
 use Rattle.auc_server.specs.declared.naming.GivenNames.{GivenNames}

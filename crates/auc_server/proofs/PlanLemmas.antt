@@ -1,6 +1,6 @@
 -- A turn that does what was planned, as a turn of the table.
 use Rattle.std.proofs.Common.{◌≡◌, ℕ, Bool, false, List, Option, Some, None, is_some, refl, ap, ◌∙◌, subst}
-use Rattle.auc_edge.specs.declared.stop.Stop.{Stop}
+use Rattle.auc_memory.specs.declared.stop.Stop.{Stop}
 use Rattle.auc_history.specs.declared.entry.Entry.{Entry}
 use Rattle.auc_packet.specs.Received.{IsReceived, Seen}
 use Rattle.auc_vector.specs.Notes.{AskedCentre, Asking}

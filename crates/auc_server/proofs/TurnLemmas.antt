@@ -3,6 +3,7 @@ use Rattle.std.proofs.Common.{◌≡◌, ◌≤◌, ◌+◌, ◌⊎◌, ℕ, max
 use Rattle.std.specs.Option.{option_or}
 use Rattle.std.specs.Int.{w16, to_be_bytes}
 use Rattle.auc_attr.proofs.Facts.{attr_size, attrs_within}
+use Rattle.auc_attr.specs.First.{first_value}
 use Rattle.auc_attr.specs.Frame.{IsIdentityPacket}
 use Rattle.auc_attr.specs.Grammar.{Walks}
 use Rattle.auc_attr.specs.Item.{item, item_of, items}
@@ -15,6 +16,7 @@ use Rattle.auc_packet.specs.Received.{IsReading, IsReceived, Seen}
 use Rattle.auc_packet.specs.declared.packet.Packet.TheVariants as packet
 use Rattle.auc_packet.specs.declared.received.Reading.{Reading}
 use Rattle.auc_packet.specs.declared.received.Reading.TheVariants as reading
+use Rattle.auc_request.specs.Request.{text_or_none}
 use Rattle.auc_vector.specs.Notes.{AnswersReport, Asking}
 use Rattle.auc_vector.specs.declared.notes.Notes.{Notes}
 use Rattle.auc_vector.specs.declared.notes.NumberNote.{NumberNote}
@@ -25,7 +27,7 @@ use Rattle.auc_vector.specs.declared.parts.Vector.{Vector}
 use Rattle.auc_vector.specs.declared.turn.Turn.{Turn}
 use Rattle.auc_reauth.specs.declared.context.Context.{Context}
 use Rattle.auc_server.specs.Asked.{asked_after, sub_named, sub_of}
-use Rattle.auc_server.specs.Attributes.{first_of, identity_in, identity_of, text_or_none}
+use Rattle.auc_server.specs.Attributes.{identity_in, identity_of}
 use Rattle.auc_server.specs.Contexts.{context_in, homes_left}
 use Rattle.auc_server.specs.Rows.{server_row, subscriber_in, text_in}
 use Rattle.auc_server.specs.Server.{ServerEnd, challenged_of, resumed_of}
@@ -233,7 +235,7 @@ walk_fits : (seen bytes : List ℕ) (list : List Attr) → Walks seen bytes (ite
 walk_fits seen bytes [] w = omega arith
 walk_fits seen bytes (a ∷ list) w =
     let size = attr_size seen (item_of a) bytes w.0 w.1 in
-    either_fits (identity_of a) (first_of identity_of list) (length bytes) (omega (arith, size, text_size a))
+    either_fits (identity_of a) (first_value identity_of list) (length bytes) (omega (arith, size, text_size a))
     (omega (arith, size, walk_fits (seen ++ (item_of a).kind ∷ []) w.0 list w.2))
 
 reading_fits : (bytes : List ℕ) (r : Reading) → IsReading bytes r → length (text_in r) ≤ length bytes

@@ -1,7 +1,7 @@
 -- Memory for a turn of a server, of which nothing is used yet.
 use Rattle.std.specs.Prelude.{◌≡◌, ℕ, []}
 use Rattle.auc_attr.specs.declared.attr.Attr.{Attr}
-use Rattle.auc_edge.specs.Reserved.{Reserved}
+use Rattle.auc_memory.specs.Reserved.{Reserved}
 
 -- for the greatest request, the Challenge
 pub record IsFresh (room : Reserved ℕ) : Type 0 where

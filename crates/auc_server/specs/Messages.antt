@@ -5,6 +5,7 @@ use Rattle.auc_attr.specs.declared.attr.Attr.TheVariants as attr
 use Rattle.auc_hmac.specs.declared.keys.KeySet.{KeySet}
 use Rattle.auc_hmac.specs.declared.method.Method.{Method}
 use Rattle.auc_hmac.specs.declared.method.Method.TheVariants as method
+use Rattle.auc_ident.specs.Permanent.{with_realm}
 use Rattle.auc_packet.specs.declared.packet.Packet.{Packet}
 use Rattle.auc_packet.specs.declared.packet.Packet.TheVariants as packet
 use Rattle.auc_packet.specs.declared.sealing.Draft.{Draft}
@@ -30,11 +31,6 @@ abbrev pub attrs_by : Method → List ℕ → Bool → List Attr
 attrs_by method.Prime name bidding = attr.KdfInput name ∷ attr.Kdf 1 ∷ []
 attrs_by method.Aka name true = attr.Bidding true ∷ []
 attrs_by method.Aka name false = []
-
--- a username, followed by `@` and the realm if there is one (RFC 4187 §4.1.1.5)
-abbrev pub with_realm : List ℕ → List ℕ → List ℕ
-with_realm text [] = text
-with_realm text (letter ∷ letters) = text ++ 64 ∷ letter ∷ letters
 
 -- the attributes that a Challenge encrypts: the next pseudonym, which has no realm, and the next re-authentication identity
 -- with the realm (RFC 4187 §10.10 and §10.11)

@@ -1,16 +1,12 @@
 -- The AKA-Identity packets of a session in their order, which its checkcode covers (RFC 4187 §10.13, RFC 9048 §3.4.3).
-use Rattle.std.specs.Prelude.{ℕ, nat_lt, List, length, take, if◌then◌else◌}
-use Rattle.auc_attr.specs.Frame.{length_of}
+use Rattle.std.specs.Prelude.{ℕ, List}
 use Rattle.auc_hmac.specs.declared.method.Method.{Method}
+use Rattle.auc_packet.specs.Received.{packet_in}
 use Rattle.auc_packet.specs.declared.packet.Packet.TheVariants as packet
 use Rattle.auc_packet.specs.declared.received.Reading.{Reading}
 use Rattle.auc_packet.specs.declared.received.Reading.TheVariants as reading
 use Rattle.auc_packet.specs.declared.subtype.Subtype.TheVariants as subtype
 use Rattle.auc_seal.specs.Checkcode.{checkcode_of, counted, value_bytes}
-
--- the bytes that Length counts; a packet has at least 4
-abbrev pub packet_in : List ℕ → List ℕ
-packet_in bytes = if nat_lt (length bytes) 4 then bytes else take (length_of bytes) bytes
 
 -- the packets after bytes were received: one more, if they are an AKA-Identity message
 abbrev pub heard : List (List ℕ) → List ℕ → Reading → List (List ℕ)

@@ -4,8 +4,9 @@ use Rattle.std.specs.Prelude.{ℕ, ◌==◌, ◌||◌, not, Bool, true, false, L
 use Rattle.std.specs.List.{list_any}
 use Rattle.std.specs.Option.{option_or}
 use Rattle.std.specs.Str.{bytes_eq}
+use Rattle.auc_attr.specs.First.{first_value}
 use Rattle.auc_attr.specs.declared.attr.Attr.{Attr}
-use Rattle.auc_edge.specs.Identity.{Identity}
+use Rattle.auc_memory.specs.Identity.{Identity}
 use Rattle.auc_hmac.specs.declared.method.Method.{Method}
 use Rattle.auc_ident.specs.Names.{resolved}
 use Rattle.auc_ident.specs.Permanent.{permanent_in, username}
@@ -20,6 +21,7 @@ use Rattle.auc_packet.specs.declared.received.Reading.{Reading}
 use Rattle.auc_packet.specs.declared.received.Reading.TheVariants as reading
 use Rattle.auc_packet.specs.declared.subtype.Subtype.{Subtype}
 use Rattle.auc_packet.specs.declared.subtype.Subtype.TheVariants as subtype
+use Rattle.auc_request.specs.Request.{checkcode_of}
 use Rattle.auc_subs.specs.Subscriber.{place_of}
 use Rattle.auc_subs.specs.declared.row.Row as rows
 use Rattle.auc_vector.specs.Auts.{read_auts_of}
@@ -27,7 +29,8 @@ use Rattle.auc_vector.specs.declared.auts.Auts.{Auts}
 use Rattle.auc_vector.specs.declared.auts.Auts.TheVariants as auts
 use Rattle.auc_vector.specs.declared.turn.Reason.TheVariants as reason
 use Rattle.auc_reauth.specs.declared.context.Context.{Context}
-use Rattle.auc_server.specs.Attributes.{res_of, auts_of, checkcode_of, error_code_of, first_of, identity_in}
+use Rattle.auc_seal.specs.Checkcode.{differs}
+use Rattle.auc_server.specs.Attributes.{res_of, auts_of, error_code_of, identity_in}
 use Rattle.auc_server.specs.Contexts.{context_in}
 use Rattle.auc_server.specs.Rounds.{checkcode}
 use Rattle.auc_server.specs.Server.{ServerEnd}
@@ -141,18 +144,13 @@ abbrev pub is_expected : List ℕ → Option (List ℕ) → Bool
 is_expected xres None = false
 is_expected xres (Some res) = bytes_eq res xres
 
--- whether there is a checkcode, and it isn't that of the session
-abbrev pub differs : List ℕ → Option (List ℕ) → Bool
-differs right None = false
-differs right (Some value) = not (bytes_eq value right)
-
 -- AT_MAC is tested before RES, and RES before AT_CHECKCODE
 abbrev pub on_response : Method → List (List ℕ) → Challenged → Seen → List Attr → Row
 on_response by packets sent seen list =
     if is_missing subtype.Challenge false list then row.Ignore reason.Missing
     else if not (is_sealed by sent.keys.k_aut [] seen) then row.WrongMac
-    else if not (is_expected sent.vector.xres (first_of res_of list)) then row.WrongRes
-    else if differs (checkcode by packets) (first_of checkcode_of list) then row.WrongCheckcode
+    else if not (is_expected sent.vector.xres (first_value res_of list)) then row.WrongRes
+    else if differs (checkcode by packets) (first_value checkcode_of list) then row.WrongCheckcode
     else row.Success sent
 
 -- ---- the response to a re-authentication
@@ -174,7 +172,7 @@ on_reauth by packets sent seen said list =
     else if not (is_sealed by sent.context.k_aut sent.nonce seen) then row.WrongMac
     else if is_wrong said then row.WrongCounter
     else if says_small said then row.TooSmall sent.sub
-    else if differs (checkcode by packets) (first_of checkcode_of list) then row.WrongCheckcode
+    else if differs (checkcode by packets) (first_value checkcode_of list) then row.WrongCheckcode
     else row.Reauthenticated sent
 
 -- ---- a synchronisation failure
@@ -197,7 +195,7 @@ abbrev pub on_sync_failure : Setting → Bool → Challenged → List Attr → R
 on_sync_failure set synced sent list =
     if is_missing subtype.SynchronizationFailure false list then row.Ignore reason.Missing
     else if synced then row.SecondSync
-    else on_auts set sent (first_of auts_of list)
+    else on_auts set sent (first_value auts_of list)
 
 -- ---- an error of the peer
 
@@ -206,7 +204,7 @@ on_error_code None = row.Ignore reason.Missing
 on_error_code (Some code) = row.ClientError code
 
 abbrev pub on_client_error : List Attr → Row
-on_client_error list = if is_missing subtype.ClientError false list then row.Ignore reason.Missing else on_error_code (first_of error_code_of list)
+on_client_error list = if is_missing subtype.ClientError false list then row.Ignore reason.Missing else on_error_code (first_value error_code_of list)
 
 -- ---- a message that isn't malformed
 

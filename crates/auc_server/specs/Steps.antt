@@ -1,7 +1,7 @@
 -- A turn of a server: what it needs, and what it comes to.
 use Rattle.std.specs.Prelude.{◌≡◌, ℕ, ◌<◌, Bool, true, false, List, [], length, Option, Some, None, All}
 use Rattle.std.specs.Option.{is_some}
-use Rattle.auc_edge.specs.declared.stop.Stop.{Stop}
+use Rattle.auc_memory.specs.declared.stop.Stop.{Stop}
 use Rattle.auc_history.specs.declared.entry.Entry.{Entry}
 use Rattle.auc_packet.specs.Received.{Seen, IsReceived}
 use Rattle.auc_subs.specs.Subscriber.{top_at}

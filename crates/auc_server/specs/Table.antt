@@ -1,5 +1,5 @@
 -- The table of a server of EAP-AKA or EAP-AKA': what each row does (RFC 4187 §3, §5 and §6).
-use Rattle.std.specs.Prelude.{ℕ, ◌+◌, ◌%◌, ◌^◌, Bool, true, false, List, [], Option, Some, None, slice_get}
+use Rattle.std.specs.Prelude.{ℕ, ◌+◌, ◌%◌, Bool, true, false, List, [], Option, Some, None, slice_get}
 use Rattle.auc_hmac.specs.declared.keys.KeySet.{KeySet}
 use Rattle.auc_ident.specs.Names.{name_text}
 use Rattle.auc_ident.specs.declared.names.NameKind.{NameKind}
@@ -9,7 +9,7 @@ use Rattle.auc_packet.specs.Received.{Seen}
 use Rattle.auc_packet.specs.declared.packet.Packet.TheVariants as packet
 use Rattle.auc_subs.specs.declared.row.Row as rows
 use Rattle.auc_vector.specs.Keys.{keys_of, master_of, reauth_keys_of}
-use Rattle.auc_random.specs.Random.{nonce_of, rand_of}
+use Rattle.auc_random.specs.Random.{index_after, nonce_of, rand_of}
 use Rattle.auc_vector.specs.Vector.{vector_of}
 use Rattle.auc_vector.specs.declared.notes.Notes.{Notes}
 use Rattle.auc_vector.specs.declared.notes.NumberNote.{NumberNote}
@@ -129,10 +129,6 @@ challenge_of s sub n v next = record {
 -- the sixteen random bytes of an index of the session, for an initialisation vector or NONCE_S
 abbrev pub random_at : Setting → ServerEnd → ℕ → List ℕ
 random_at set s k = nonce_of set.key s.options.session k
-
--- the index after next; the indices count modulo 2^32
-abbrev pub index_after : ℕ → ℕ
-index_after k = (k + 2) % 2 ^ 32
 
 -- the next initialisation vector after a challenge
 abbrev pub iv_after : ℕ → Option GivenNames → ℕ

@@ -2,14 +2,15 @@
 
 ghost use Rattle.std.specs.Prelude.{◌≡◌};
 ghost use Rattle.std.specs.Option.{option_copied};
-ghost use Rattle.auc_server.specs.Attributes.{res_of, auts_of, checkcode_of, error_code_of, first_of, identity_in, identity_of};
+ghost use Rattle.auc_attr.specs.First.{first_value};
+ghost use Rattle.auc_server.specs.Attributes.{res_of, auts_of, error_code_of, identity_in, identity_of};
 
 use auc_attr::{Attr, AttrList};
-use auc_edge::Octets;
+use auc_memory::Octets;
 
 /// The value of the first AT_RES.
 pub(crate) fn res_in(attrs: &AttrList) -> Option<&Octets>
-    ensures { option_copied result ≡ first_of res_of attrs.now }
+    ensures { option_copied result ≡ first_value res_of attrs.now }
 {
     for attr in attrs.as_slice() {
         if let Some(value) = res_of(attr) {
@@ -30,7 +31,7 @@ fn res_of(attr: &Attr) -> Option<&Octets>
 
 /// The value of the first AT_AUTS.
 pub(crate) fn auts_in(attrs: &AttrList) -> Option<[u8; 14]>
-    ensures { result ≡ first_of auts_of attrs.now }
+    ensures { result ≡ first_value auts_of attrs.now }
 {
     for attr in attrs.as_slice() {
         if let Some(value) = auts_of(attr) {
@@ -49,27 +50,6 @@ fn auts_of(attr: &Attr) -> Option<[u8; 14]>
     }
 }
 
-/// The value of the first AT_CHECKCODE.
-pub(crate) fn checkcode_in(attrs: &AttrList) -> Option<&Octets>
-    ensures { option_copied result ≡ first_of checkcode_of attrs.now }
-{
-    for attr in attrs.as_slice() {
-        if let Some(value) = checkcode_of(attr) {
-            return Some(value);
-        }
-    }
-    None
-}
-
-fn checkcode_of(attr: &Attr) -> Option<&Octets>
-    ensures { option_copied result ≡ checkcode_of attr.now }
-{
-    match attr {
-        Attr::Checkcode(value) => Some(value),
-        _ => None,
-    }
-}
-
 /// The text of the first AT_IDENTITY, or an empty one.
 pub(crate) fn identity_in(attrs: &AttrList) -> &[u8]
     ensures { result.now ≡ identity_in attrs.now }
@@ -82,7 +62,7 @@ pub(crate) fn identity_in(attrs: &AttrList) -> &[u8]
 
 /// The text of the first AT_IDENTITY.
 fn first_identity(attrs: &AttrList) -> Option<&Octets>
-    ensures { option_copied result ≡ first_of identity_of attrs.now }
+    ensures { option_copied result ≡ first_value identity_of attrs.now }
 {
     for attr in attrs.as_slice() {
         if let Some(text) = identity_of(attr) {
@@ -103,7 +83,7 @@ fn identity_of(attr: &Attr) -> Option<&Octets>
 
 /// The code of the first AT_CLIENT_ERROR_CODE.
 pub(crate) fn error_code_in(attrs: &AttrList) -> Option<u16>
-    ensures { result ≡ first_of error_code_of attrs.now }
+    ensures { result ≡ first_value error_code_of attrs.now }
 {
     for attr in attrs.as_slice() {
         if let Some(code) = error_code_of(attr) {

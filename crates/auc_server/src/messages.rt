@@ -2,11 +2,12 @@
 
 ghost use Rattle.std.specs.Prelude.{◌≡◌, ◌+◌, ◌≤◌, [], ◌∷◌, ◌++◌, length, true};
 ghost use Rattle.auc_attr.specs.declared.attr.Attr.TheVariants as attr;
+ghost use Rattle.auc_ident.specs.Permanent.{with_realm};
 ghost use Rattle.auc_packet.specs.Spelling.{MayBeWritten, packet_text};
 ghost use Rattle.auc_seal.specs.Checkcode.{IsHash};
 ghost use Rattle.auc_seal.specs.Encrypted.{HasNoneEncrypted};
 ghost use Rattle.auc_server.specs.InnerRooms.{HasInner, HasPlaces, IsFresh, IsFreshIdentity, IsFreshName};
-ghost use Rattle.auc_server.specs.Messages.{aka_identity, attrs_before, attrs_by, attrs_given, challenge_bytes, challenge_draft, id_req, names_in, notification, reauth_bytes, reauth_draft, reauth_in, with_realm};
+ghost use Rattle.auc_server.specs.Messages.{aka_identity, attrs_before, attrs_by, attrs_given, challenge_bytes, challenge_draft, id_req, names_in, notification, reauth_bytes, reauth_draft, reauth_in};
 
 use crate::naming::{GivenNames, NewNames};
 use crate::options::ServerOptions;
@@ -16,8 +17,9 @@ use crate::sizes::{
     are_blocks, given_is_small, names_may_be_encrypted, reauth_is_small, reauth_may_be_encrypted,
 };
 use auc_attr::{Attr, AttrList};
-use auc_edge::{Octets, Places, Room};
 use auc_hmac::{KeySet, Method};
+use auc_ident::with_realm;
+use auc_memory::{Octets, Places, Room};
 use auc_packet::{Draft, Packet, Subtype, put_packet, put_sealed};
 use auc_request::IdentityRequest;
 use auc_seal::put_encrypted;
@@ -61,22 +63,6 @@ fn put_attrs_by(options: &ServerOptions, name: Octets, places: Places<Attr>) -> 
     }
 }
 
-/// A re-authentication identity with the realm (RFC 4187 §4.1.1.5).
-fn with_realm(name: [u8; 33], realm: &[u8], room: Room) -> Octets
-    requires realm { length realm.now ≤ 255 }
-    requires fresh { IsFreshIdentity room }
-    ensures { result ≡ with_realm name realm.now }
-{
-    let mut room = room;
-    room.put(&name);
-    if realm.is_empty() {
-        return room.into_octets();
-    }
-    room.put(b"@");
-    room.put(realm);
-    room.into_octets()
-}
-
 /// AT_NEXT_PSEUDONYM (RFC 4187 §10.10).
 fn pseudonym_attr(name: [u8; 33], room: Room) -> Attr
     requires { IsFreshName room }
@@ -85,6 +71,15 @@ fn pseudonym_attr(name: [u8; 33], room: Room) -> Attr
     let mut room = room;
     room.put(&name);
     Attr::NextPseudonym(room.into_octets())
+}
+
+/// AT_NEXT_REAUTH_ID, with the realm (RFC 4187 §10.11).
+fn identity_attr(name: [u8; 33], realm: &[u8], room: Room) -> Attr
+    requires realm { length realm.now ≤ 255 }
+    requires fresh { IsFreshIdentity room }
+    ensures { result ≡ attr.NextReauthId (with_realm name realm.now) }
+{
+    Attr::NextReauthId(with_realm(&name, realm, room))
 }
 
 /// The list of the attributes that a Challenge encrypts: the names (RFC 4187 §10.10 and §10.11).
@@ -108,12 +103,12 @@ fn names_in(
             AttrList::from_places(inner)
         }
         NewNames::Identity(name) => {
-            inner.put(Attr::NextReauthId(with_realm(name, realm, identity)));
+            inner.put(identity_attr(name, realm, identity));
             AttrList::from_places(inner)
         }
         NewNames::Both(name, other) => {
             inner.put(pseudonym_attr(name, text));
-            inner.put(Attr::NextReauthId(with_realm(other, realm, identity)));
+            inner.put(identity_attr(other, realm, identity));
             AttrList::from_places(inner)
         }
     }
@@ -132,7 +127,7 @@ fn reauth_in(realm: &[u8], sent: &Resumed, identity: Room, inner: Places<Attr>) 
     match sent.next {
         None => AttrList::from_places(inner),
         Some(name) => {
-            inner.put(Attr::NextReauthId(with_realm(name, realm, identity)));
+            inner.put(identity_attr(name, realm, identity));
             AttrList::from_places(inner)
         }
     }
@@ -349,16 +344,6 @@ pub(crate) fn reauthentication(
     room.into_octets()
 }
 
-/// A list of one attribute.
-fn one(attr: Attr, places: Places<Attr>) -> AttrList
-    requires { HasPlaces places }
-    ensures { result ≡ attr ∷ [] }
-{
-    let mut places = places;
-    places.put(attr);
-    AttrList::from_places(places)
-}
-
 /// Notification of a general failure (RFC 4187 §9.10).
 pub(crate) fn notification(method: Method, id: u8, places: Places<Attr>, room: Room) -> Octets
     requires places { HasPlaces places }
@@ -371,7 +356,7 @@ pub(crate) fn notification(method: Method, id: u8, places: Places<Attr>, room: R
         id,
         method,
         subtype: Subtype::Notification,
-        attrs: one(Attr::Notification(16384), places),
+        attrs: AttrList::one(Attr::Notification(16384), places),
     };
     message(&packet, room)
 }
@@ -405,7 +390,7 @@ pub(crate) fn aka_identity(
         id,
         method,
         subtype: Subtype::Identity,
-        attrs: one(id_req(kind), places),
+        attrs: AttrList::one(id_req(kind), places),
     };
     message(&packet, room)
 }

@@ -3,11 +3,12 @@
 ghost use Rattle.std.specs.Prelude.{◌≡◌, ◌≤◌, ◌<◌, length, Some, IfSome};
 ghost use Rattle.auc_ident.specs.Ordinals.{last_ordinal};
 ghost use Rattle.auc_server.specs.Ordinals.{home_place, homes_given, ordinal_after, ordinal_given, with_next};
-ghost use Rattle.auc_server.specs.Table.{both_of, homes_named, identity_among, index_after, iv_after, name_of, names_given, next_given, random_at, under};
+ghost use Rattle.auc_server.specs.Table.{both_of, homes_named, identity_among, iv_after, name_of, names_given, next_given, random_at, under};
 
 use crate::server::Server;
 use crate::setting::HomeRow;
 use auc_ident::NameKind;
+use auc_random::index_after;
 use auc_subs::Setting;
 
 /// The names that a Challenge gives. None has a realm.
@@ -63,13 +64,6 @@ fn use_ordinal(gives: bool, homes: &mut [HomeRow], sub: u32) -> Option<u64>
         None => None,
         Some(place) => next_of(&mut homes[place]),
     }
-}
-
-/// The index of the random bytes after next.
-pub(crate) fn index_after(k: u32) -> u32
-    ensures { result ≡ index_after k }
-{
-    k.wrapping_add(2)
 }
 
 /// The index of the initialisation vector after a challenge.

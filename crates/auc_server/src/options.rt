@@ -1,7 +1,7 @@
 //! What the server of a session is told of it.
 
-use auc_edge::Octets;
 use auc_hmac::Method;
+use auc_memory::Octets;
 
 /// What the server of a session is told of it when it starts. None of it changes later.
 #[derive(Drop)]

@@ -23,7 +23,7 @@ use crate::rounds::hear;
 use crate::rows::{Row, text_in};
 use crate::server::{Challenged, Resumed, Server};
 use crate::setting::HomeRow;
-use auc_edge::{NoMemory, Octets, Room};
+use auc_memory::{NoMemory, Octets, Room};
 use auc_packet::Received;
 use auc_request::IdentityRequest;
 use auc_seal::IdentityPackets;

@@ -11,7 +11,7 @@ use crate::plan::{Deed, Notice, Plan};
 use crate::server::Server;
 use crate::setting::HomeRow;
 use crate::turns::{Told, noted};
-use auc_edge::NoMemory;
+use auc_memory::NoMemory;
 use auc_packet::receive;
 use auc_subs::Setting;
 use auc_vector::{Centre, NumberNote, ServerWhy, Turn};

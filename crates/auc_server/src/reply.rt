@@ -2,14 +2,14 @@
 
 ghost use Rattle.std.specs.Prelude.{◌≡◌, ◌≤◌, [], length, IfOk};
 ghost use Rattle.std.specs.Option.{option_copied};
+ghost use Rattle.auc_packet.specs.Received.{attrs_in};
 ghost use Rattle.auc_seal.specs.Encrypted.{ciphertext_of};
-ghost use Rattle.auc_server.specs.Attributes.{attrs_in};
 ghost use Rattle.auc_server.specs.Replies.{Counts, IsReply, IsReplyIn, Replies, reply_of, small_or_right};
 
 use crate::server::{Resumed, Server, ServerState};
-use auc_attr::{AttrList, value_in};
-use auc_edge::{NoMemory, Room};
-use auc_packet::{Packet, Reading};
+use auc_attr::{Attr, value_in};
+use auc_memory::{NoMemory, Room};
+use auc_packet::{Packet, Reading, attrs_in};
 use auc_request::counter_in;
 use auc_seal::{ciphertext_size, open_attrs};
 
@@ -57,7 +57,7 @@ fn counted(counter: u16, bytes: &[u8]) -> Reply
 }
 
 /// The reply of a list's encrypted attributes under K_encr.
-fn reply_under(k_encr: [u8; 16], counter: u16, list: &AttrList, plain: Room) -> Reply
+fn reply_under(k_encr: [u8; 16], counter: u16, list: &[Attr], plain: Room) -> Reply
     requires empty { plain.written ≡ [] }
     requires room { length (ciphertext_of list.now) ≤ plain.left }
     ensures { IsReply k_encr counter list.now result }
@@ -65,16 +65,6 @@ fn reply_under(k_encr: [u8; 16], counter: u16, list: &AttrList, plain: Room) -> 
     match open_attrs(k_encr, list, plain) {
         Ok(bytes) => counted(counter, bytes.as_slice()),
         Err(_) => Reply::Wrong,
-    }
-}
-
-/// How many bytes a message has encrypted.
-fn ciphertext_in(reading: &Reading) -> usize
-    ensures { result ≡ length (ciphertext_of (attrs_in reading.now)) }
-{
-    match reading {
-        Reading::Read(Packet::Aka { attrs, .. }) => ciphertext_size(attrs),
-        _ => 0,
     }
 }
 
@@ -86,7 +76,12 @@ fn reply_to(sent: &Resumed, reading: &Reading, plain: Room) -> Reply
 {
     match reading {
         Reading::Read(Packet::Aka { attrs, .. }) => {
-            reply_under(sent.context.k_encr, sent.context.counter, attrs, plain)
+            reply_under(
+                sent.context.k_encr,
+                sent.context.counter,
+                attrs.as_slice(),
+                plain,
+            )
         }
         _ => Reply::Wrong,
     }
@@ -100,7 +95,7 @@ impl Server {
     {
         match &self.state {
             ServerState::AwaitReauth(sent) => {
-                let plain = Room::new(self.alloc, ciphertext_in(reading))?;
+                let plain = Room::new(self.alloc, ciphertext_size(attrs_in(reading)))?;
                 Ok(reply_to(sent, reading, plain))
             }
             _ => Ok(Reply::Wrong),

@@ -10,7 +10,6 @@ ghost use Rattle.auc_server.specs.Table.{reauthenticated, resent, resumed, resum
 
 use crate::contexts::{context_after, gives_next, keep_context, take_context};
 use crate::messages::{ReauthParts, Scene, message, reauthentication};
-use crate::naming::index_after;
 use crate::plan::{Heard, Request};
 use crate::rooms::{MessageRoom, ReauthRooms, RequestRooms};
 use crate::rounds::checkcode;
@@ -20,6 +19,7 @@ use crate::turns::Told;
 use auc_hmac::KeySet;
 use auc_ident::NameKind;
 use auc_packet::Packet;
+use auc_random::index_after;
 use auc_reauth::Context;
 use auc_subs::Setting;
 use auc_vector::{Notes, Outcome, Reason, ServerWhy, Turn, reauth_keys};

@@ -4,7 +4,7 @@ ghost use Rattle.std.specs.Prelude.{◌≡◌, IfOk};
 ghost use Rattle.auc_server.specs.InnerRooms.{HasPlaces, IsFresh};
 
 use auc_attr::Attr;
-use auc_edge::{NoMemory, Octets, Places, Room};
+use auc_memory::{NoMemory, Octets, Places, Room};
 use auc_seal::EncryptionRoom;
 use std::alloc::Global;
 use std::marker::Model;

@@ -1,21 +1,19 @@
 //! The AKA-Identity packets of a session, and their checkcode.
 
 ghost use Rattle.std.specs.Prelude.{◌≡◌, IfOk, OnOk};
-ghost use Rattle.std.specs.Str.{bytes_eq};
 ghost use Rattle.auc_packet.specs.Received.{IsReceived, seen_of};
 ghost use Rattle.auc_seal.specs.Checkcode.{IsHash};
 ghost use Rattle.auc_server.specs.InnerRooms.{IsFreshCheck};
-ghost use Rattle.auc_server.specs.Rounds.{checkcode, heard, packet_in};
+ghost use Rattle.auc_server.specs.Rounds.{checkcode, heard};
 ghost use Rattle.auc_server.specs.Table.{identity_asked};
 
 use crate::messages::aka_identity;
 use crate::plan::Request;
 use crate::rooms::RequestRooms;
 use crate::server::Server;
-use auc_attr::length_of;
-use auc_edge::{NoMemory, Octets, Room};
 use auc_hmac::Method;
-use auc_packet::{Packet, Reading, Received, Subtype};
+use auc_memory::{NoMemory, Octets, Room};
+use auc_packet::{Packet, Reading, Received, Subtype, packet_in};
 use auc_request::IdentityRequest;
 use auc_seal::IdentityPackets;
 use std::alloc::Global;
@@ -31,29 +29,6 @@ pub(crate) fn checkcode(method: Method, packets: &IdentityPackets, room: Room) -
     let mut room = room;
     room.put(value.as_slice());
     room.into_octets()
-}
-
-/// Whether a value is that of AT_CHECKCODE.
-#[tactic(auto, unfolding(crate::specs::Rounds::checkcode))]
-pub(crate) fn is_checkcode(method: Method, packets: &IdentityPackets, value: &[u8]) -> bool
-    ensures { result ≡ bytes_eq value.now (checkcode method packets.now) }
-{
-    let right = packets.value(method);
-    value == right.as_slice()
-}
-
-/// The bytes that Length counts.
-fn packet_in(bytes: &[u8]) -> &[u8]
-    ensures { result.now ≡ packet_in bytes.now }
-{
-    if bytes.len() < 4 {
-        return bytes;
-    }
-    let size = length_of(bytes);
-    if bytes.len() <= size {
-        return bytes;
-    }
-    &bytes[..size]
 }
 
 /// Counts what was received, if it is an AKA-Identity message.

@@ -2,11 +2,11 @@
 
 ghost use Rattle.std.specs.Prelude.{◌≡◌, ◌<◌, ℕ, List, length, true, IfSome};
 ghost use Rattle.std.specs.Option.{option_copied};
-ghost use Rattle.auc_packet.specs.Packet.{method_type};
 ghost use Rattle.auc_packet.specs.Received.{IsReceived, seen_of};
-ghost use Rattle.auc_server.specs.Attributes.{res_of, checkcode_of, first_of, identity_in};
+ghost use Rattle.auc_seal.specs.Checkcode.{differs};
+ghost use Rattle.auc_server.specs.Attributes.{identity_in};
 ghost use Rattle.auc_server.specs.Rounds.{checkcode};
-ghost use Rattle.auc_server.specs.Rows.{by_auts, differs, is_expected, is_held, is_type, on_challenged, on_client_error, on_identity, on_message, on_method, on_reading, on_reauth, on_requested, on_response, on_resumed, on_sync_failure, server_row, text_in, type_awaited};
+ghost use Rattle.auc_server.specs.Rows.{by_auts, is_expected, is_held, is_type, on_challenged, on_client_error, on_identity, on_message, on_method, on_reading, on_reauth, on_requested, on_response, on_resumed, on_sync_failure, server_row, text_in, type_awaited};
 ghost use Rattle.auc_server.specs.Steps.{IsHeld, IsHeldToo};
 ghost use Rattle.auc_server.specs.declared.setting.HomeRow.{HomeRow};
 ghost use Rattle.auc_subs.specs.declared.row.Row as rows;
@@ -16,19 +16,18 @@ ghost use Rattle.auc_server.specs.Server.{challenged_of, resumed_of};
 ghost use Rattle.auc_reauth.specs.Store.{method_of};
 ghost use Rattle.auc_hmac.specs.declared.method.Method.{Method};
 
-use crate::attributes::{auts_in, checkcode_in, error_code_in, identity_in, res_in};
+use crate::attributes::{auts_in, error_code_in, identity_in, res_in};
 use crate::identities::{on_first, on_requested};
 use crate::reply::Reply;
-use crate::rounds::is_checkcode;
 use crate::server::{Challenged, Resumed, Server, ServerState};
 use crate::setting::HomeRow;
 use auc_attr::AttrList;
-use auc_edge::Octets;
-use auc_hmac::Method;
+use auc_hmac::{Method, method_type};
+use auc_memory::Octets;
 use auc_packet::{
     Head, Packet, Reading, Received, Subtype, head, is_malformed, is_missing, is_sealed,
 };
-use auc_request::IdentityRequest;
+use auc_request::{IdentityRequest, checkcode_in};
 use auc_seal::IdentityPackets;
 use auc_subs::Setting;
 use auc_vector::{Auts, Reason, ServerWhy, read_auts};
@@ -96,13 +95,11 @@ fn is_expected(xres: &[u8; 8], res: Option<&Octets>) -> bool
 }
 
 /// Whether there is a checkcode, and it isn't that of the session.
-fn differs(method: Method, packets: &IdentityPackets, value: Option<&Octets>) -> bool
-    ensures { result ≡ differs (checkcode method packets.now) (option_copied value.entry) }
+#[tactic(auto, unfolding(crate::specs::Rounds::checkcode))]
+fn differs(method: Method, packets: &IdentityPackets, code: Option<&Octets>) -> bool
+    ensures { result ≡ differs (checkcode method packets.now) (option_copied code.entry) }
 {
-    match value {
-        None => false,
-        Some(value) => !is_checkcode(method, packets, value.as_slice()),
-    }
+    packets.value(method).differs(code)
 }
 
 /// A Challenge response.
@@ -127,7 +124,7 @@ fn on_response(
     if !is_expected(&sent.vector.xres, res_in(attrs)) {
         return Row::WrongRes;
     }
-    if differs(method, packets, checkcode_in(attrs)) {
+    if differs(method, packets, checkcode_in(attrs.as_slice())) {
         return Row::WrongCheckcode;
     }
     Row::Success(*sent)
@@ -159,7 +156,7 @@ fn on_reauth(
         Reply::Wrong => Row::WrongCounter,
         Reply::TooSmall => Row::TooSmall(sent.sub),
         Reply::Right => {
-            if differs(method, packets, checkcode_in(attrs)) {
+            if differs(method, packets, checkcode_in(attrs.as_slice())) {
                 return Row::WrongCheckcode;
             }
             Row::Reauthenticated(*sent)
@@ -254,15 +251,6 @@ fn type_awaited(method: Method, state: &ServerState) -> u8
     match state {
         ServerState::AwaitIdentity => 1,
         _ => method_type(method),
-    }
-}
-
-fn method_type(method: Method) -> u8
-    ensures { result ≡ method_type method }
-{
-    match method {
-        Method::Aka => 23,
-        Method::Prime => 50,
     }
 }
 

@@ -4,8 +4,8 @@ ghost use Rattle.std.specs.Prelude.{◌≡◌};
 ghost use Rattle.auc_server.specs.State.{last_of};
 
 use crate::options::ServerOptions;
-use auc_edge::Octets;
 use auc_hmac::{KeySet, Master};
+use auc_memory::Octets;
 use auc_reauth::Context;
 use auc_request::IdentityRequest;
 use auc_seal::IdentityPackets;

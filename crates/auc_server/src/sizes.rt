@@ -2,12 +2,12 @@
 
 ghost use Rattle.std.specs.Prelude.{◌≤◌, length};
 ghost use Rattle.auc_aes.specs.Bytes.{IsBlock};
-ghost use Rattle.auc_attr.specs.Laws.{AreBytes};
 ghost use Rattle.auc_server.specs.InnerMessages.{AreEncryptable, AreNames, IsGiven, IsName, IsNamed, IsSmall};
 ghost use Rattle.auc_server.specs.Messages.{names_in, reauth_in};
 
 use crate::naming::{GivenNames, NewNames};
 use crate::server::Resumed;
+use auc_attr::are_bytes;
 use auc_seal::encrypted_attributes_may_be_written;
 
 /// A key and an initialisation vector are 16 bytes each, and so are RAND and AUTN.
@@ -19,11 +19,6 @@ pub(crate) fn are_blocks(k_encr: [u8; 16], iv: [u8; 16])
 /// A name is 33 bytes.
 fn is_named(name: [u8; 33])
     ensures { IsNamed name }
-{}
-
-/// A realm is bytes.
-fn are_bytes(realm: &[u8])
-    ensures { AreBytes realm.now }
 {}
 
 /// The names that a Challenge gives are 33 bytes each.

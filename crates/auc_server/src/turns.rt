@@ -17,7 +17,7 @@ use crate::plan::{Heard, Request};
 use crate::rooms::{MessageRoom, RequestRooms, message_room};
 use crate::server::{Challenged, Resumed, Server, ServerState};
 use crate::setting::HomeRow;
-use auc_edge::{NoMemory, Octets};
+use auc_memory::{NoMemory, Octets};
 use auc_packet::Packet;
 use auc_request::IdentityRequest;
 use auc_seal::IdentityPackets;

@@ -5,9 +5,9 @@ ghost use Rattle.auc_sim.specs.Session.{number_sent, packet_numbered, sent_in, w
 
 use crate::peer::{SimPeer, SimWait};
 use crate::server::{SimAwait, SimServer};
-use auc_edge::{Items, NoMemory, Octets};
 use auc_hmac::KeySet;
 use auc_lines::{End, SimDelivery};
+use auc_memory::{Items, NoMemory, Octets};
 use auc_milenage::Secret;
 use auc_sim_packet::Triplet;
 use auc_vector::{Outcome, SimBecame, SimWhy, Step};

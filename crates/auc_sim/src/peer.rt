@@ -8,8 +8,8 @@ ghost use Rattle.auc_sim_packet.specs.Received.{IsSimReceived, sim_seen_of};
 
 use crate::rows::{Row, row_of};
 use crate::several::Several;
-use auc_edge::{NoMemory, Octets};
 use auc_hmac::KeySet;
+use auc_memory::{NoMemory, Octets};
 use auc_milenage::Secret;
 use auc_sim_packet::{
     SimPacket, SimReceived, challenge_response, client_error, receive_sim, start_response,

@@ -8,8 +8,8 @@ ghost use Rattle.auc_sim_packet.specs.Received.{IsSimReceived, sim_seen_of};
 ghost use Rattle.auc_sim_packet.specs.Spelling.{sim_text};
 
 use crate::several::Several;
-use auc_edge::{NoMemory, Octets};
 use auc_hmac::KeySet;
+use auc_memory::{NoMemory, Octets};
 use auc_sim_packet::{
     SimList, SimPacket, SimReceived, Triplet, all_sres, challenge_request, code_in, has_mac,
     identity_in, is_sim_sealed, nonce_in, receive_sim, selected_in, sim_keys, start_request,

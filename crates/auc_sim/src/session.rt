@@ -7,8 +7,8 @@ ghost use Rattle.auc_sim.specs.Session.{SimRuns, made_in, other};
 ghost use Rattle.auc_sim.specs.SessionParts.{Finishes, Follows, Tells};
 
 use crate::net::Net;
-use auc_edge::{Items, NoMemory};
 use auc_lines::{End, SimDelivery, SimSchedule};
+use auc_memory::{Items, NoMemory};
 use auc_milenage::Secret;
 use auc_sim_packet::Triplet;
 use auc_vector::{SimBecame, SimNote};

@@ -6,7 +6,7 @@ use Rattle.auc_attr.specs.declared.table.Table.TheVariants as tables
 use Rattle.auc_attr.specs.Spelling.{stands_in, fits_item_in, item_text_in, may_follow_in, may_stand_row, writable_from_in, writable_in}
 use Rattle.auc_attr.specs.Table.{row_in}
 use Rattle.auc_attr.proofs.Facts.{and_parts, and_from}
-use Rattle.auc_edge.specs.Reserved.{Reserved, wrote}
+use Rattle.auc_memory.specs.Reserved.{Reserved, wrote}
 use Rattle.auc_sim_packet.specs.declared.attr.SimAttr.{SimAttr}
 use Rattle.auc_sim_packet.specs.Attributes.{item_of, items, is_named}
 use Rattle.auc_sim_packet.specs.Spelling.{spelling, writable}

@@ -1,6 +1,6 @@
 //! An attribute.
 
-use auc_edge::Octets;
+use auc_memory::Octets;
 
 /// An attribute, by its name in RFC 4186 §10: its value, without length, reserved bytes and fill.
 #[derive(Drop)]

@@ -4,7 +4,7 @@ ghost use Rattle.std.specs.Prelude.{◌≡◌, ◌++◌, [], ◌∷◌, length, 
 ghost use Rattle.std.specs.Option.{option_copied};
 
 use crate::attr::SimAttr;
-use auc_edge::{Items, NoMemory};
+use auc_memory::{Items, NoMemory};
 use std::alloc::Global;
 use std::marker::Model;
 

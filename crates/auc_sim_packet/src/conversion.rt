@@ -9,7 +9,7 @@ ghost use Rattle.auc_sim_packet.specs.Attributes.{item_of, is_named, is_value};
 ghost use Rattle.auc_sim_packet.specs.InnerParts.{value_bytes};
 
 use crate::attr::SimAttr;
-use auc_edge::{NoMemory, Octets};
+use auc_memory::{NoMemory, Octets};
 use std::alloc::Global;
 
 /// The attribute of a type with a value.

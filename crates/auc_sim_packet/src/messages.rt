@@ -13,7 +13,7 @@ use crate::packet::SimPacket;
 use crate::parts::Triplet;
 use crate::sealing::{SimDraft, sealed_sim};
 use crate::writing::write_sim;
-use auc_edge::{NoMemory, Octets};
+use auc_memory::{NoMemory, Octets};
 use std::alloc::Global;
 
 /// The bytes of a packet.

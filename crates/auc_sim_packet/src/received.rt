@@ -10,8 +10,8 @@ use crate::packet::SimPacket;
 use crate::reading::read_sim;
 use crate::refusal::SimRefusal;
 use auc_attr::{Table, length_of, mac_place_in};
-use auc_edge::NoMemory;
 use auc_hmac::{Method, mac_at, piece_of};
+use auc_memory::NoMemory;
 use std::alloc::Global;
 
 /// Bytes that were received, with all that they are. Contracts see it as its `SimSeen` (`sim_seen_of`).

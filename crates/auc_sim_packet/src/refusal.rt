@@ -4,7 +4,7 @@ ghost use Rattle.std.specs.Prelude.{◌≡◌};
 ghost use Rattle.auc_sim_packet.specs.declared.refusal.SimRefusal.TheVariants as refusal;
 
 use auc_attr::AttrRefusal;
-use auc_edge::NoMemory;
+use auc_memory::NoMemory;
 
 /// The first fault of bytes that are read as a packet.
 #[derive(Clone, Copy, Debug, PartialEq, Eq)]

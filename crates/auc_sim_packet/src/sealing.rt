@@ -1,7 +1,7 @@
 //! Messages with their message authentication code.
 
 ghost use Rattle.std.specs.Prelude.{◌≡◌, ◌+◌, ◌≤◌, ◌++◌, [], length, true, IfOk};
-ghost use Rattle.auc_edge.specs.Reserved.{wrote};
+ghost use Rattle.auc_memory.specs.Reserved.{wrote};
 ghost use Rattle.auc_hmac.specs.Mac.{mac_of, no_mac};
 ghost use Rattle.auc_hmac.specs.declared.method.Method.TheVariants as method;
 ghost use Rattle.auc_sim_packet.specs.InnerSealed.{front_of};
@@ -10,8 +10,8 @@ ghost use Rattle.auc_sim_packet.specs.Spelling.{spelling, writable};
 
 use crate::attr_list::SimList;
 use crate::writing::{message_code, put_attrs, put_head, size_of_attrs};
-use auc_edge::{NoMemory, Octets, Room};
 use auc_hmac::{MacInput, Method, mac_of};
+use auc_memory::{NoMemory, Octets, Room};
 use std::alloc::Global;
 
 /// A message that is to be sealed: all that it has but its AT_MAC, which comes after its attributes.

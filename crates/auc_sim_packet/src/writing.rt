@@ -5,7 +5,7 @@ ghost use Rattle.std.specs.Int.{w16, to_be_bytes};
 ghost use Rattle.auc_attr.specs.Frame.{message_code};
 ghost use Rattle.auc_attr.specs.Spelling.{fits_item_in, item_text_in};
 ghost use Rattle.auc_attr.specs.declared.table.Table.TheVariants as tables;
-ghost use Rattle.auc_edge.specs.Reserved.{wrote};
+ghost use Rattle.auc_memory.specs.Reserved.{wrote};
 ghost use Rattle.auc_sim_packet.specs.Attributes.{item_of};
 ghost use Rattle.auc_sim_packet.specs.Spelling.{sim_text, spelling, writable, MayBeWrittenSim};
 
@@ -14,7 +14,7 @@ use crate::attr_list::SimList;
 use crate::conversion::parts_of;
 use crate::packet::SimPacket;
 use auc_attr::{Table, put_item, size_of_item};
-use auc_edge::{NoMemory, Octets, Room};
+use auc_memory::{NoMemory, Octets, Room};
 
 /// Appends a packet to `out`, with zeros as reserved bytes and fill. If memory runs out, `out` stays as it was.
 pub fn write_sim(packet: &SimPacket, out: &mut Octets) -> Result<(), NoMemory>

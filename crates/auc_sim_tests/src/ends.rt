@@ -1,7 +1,7 @@
 //! Keys, MACs and both ends, by the examples of the standard.
 
-use auc_edge::Octets;
 use auc_hmac::KeySet;
+use auc_memory::Octets;
 use auc_milenage::Secret;
 use auc_sim::{SimPeer, SimServer, SimWhy, card};
 use auc_sim_packet::{Triplet, is_sim_sealed, receive_sim, sim_keys};

@@ -1,7 +1,7 @@
 //! Packets: by hand, and those of RFC 4186 Appendix A.
 
 use auc_attr::AttrRefusal;
-use auc_edge::Octets;
+use auc_memory::Octets;
 use auc_sim_packet::{
     SimPacket, SimRefusal, nonce_in, read_sim, receive_sim, selected_in, versions_in, write_sim,
 };

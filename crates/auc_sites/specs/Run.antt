@@ -1,7 +1,7 @@
 -- Runs over a centre: lists of turns in which the centre answers as its calls do. Others may call the centre between two
 -- turns.
 use Rattle.std.specs.Prelude.{◌≡◌, ℕ, List, [], ◌∷◌, slice_get, Option, Some, None}
-use Rattle.auc_edge.specs.declared.stop.Stop.{Stop}
+use Rattle.auc_memory.specs.declared.stop.Stop.{Stop}
 use Rattle.auc_history.specs.declared.entry.Entry.{Entry}
 use Rattle.auc_vector.specs.declared.centre.CentreRefusal.{CentreRefusal}
 use Rattle.auc_sites.specs.declared.master.Judged.{Judged}

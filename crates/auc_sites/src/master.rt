@@ -8,7 +8,7 @@ use crate::drawing::{Drawing, draw_lease};
 use crate::grant::Grant;
 use crate::lease::Lease;
 use crate::request::Request;
-use auc_edge::NoMemory;
+use auc_memory::NoMemory;
 use auc_vector::{Centre, CentreRefusal};
 use std::alloc::Global;
 use std::marker::Model;

@@ -13,7 +13,7 @@ use crate::master::{Judged, Master};
 use crate::packet::Packet;
 use crate::request::Request;
 use crate::site::{Site, Taken};
-use auc_edge::{Items, NoMemory};
+use auc_memory::{Items, NoMemory};
 use std::alloc::Global;
 use std::marker::Model;
 

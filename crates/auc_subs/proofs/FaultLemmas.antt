@@ -8,7 +8,7 @@ use Rattle.std.proofs.lemmas.List.Elements.{All-contains}
 use Rattle.std.proofs.lemmas.List.Folds.{Any-from_list_any, list_any_at}
 use Rattle.std.proofs.lemmas.List.Quantifiers.{position-Some}
 use Rattle.std.proofs.lemmas.Option.{slice_get_cases}
-use Rattle.auc_edge.specs.Identity.{Identity, identity_of}
+use Rattle.auc_memory.specs.Identity.{Identity, identity_of}
 use Rattle.auc_milenage.specs.Milenage.{opc_of}
 use Rattle.auc_sqn.specs.Number.{top_of}
 use Rattle.auc_subs.specs.declared.row.Row.{Row}

@@ -6,9 +6,9 @@ use Rattle.std.proofs.lemmas.Bool.Decides.{nat_tests}
 use Rattle.std.proofs.lemmas.List.{length-map, map-append}
 use Rattle.indexmap.specs.IndexMap.{insert_entry}
 use Rattle.indexmap.proofs.MapLemmas.{absent_from_lookup, insert_entry-absent, some_index}
-use Rattle.auc_edge.specs.Identity.{Identity}
-use Rattle.auc_edge.specs.IdentityKey.{is_key, key_of}
-use Rattle.auc_edge.specs.declared.identity_key.IdentityKey.{IdentityKey}
+use Rattle.auc_memory.specs.Identity.{Identity}
+use Rattle.auc_memory.specs.IdentityKey.{is_key, key_of}
+use Rattle.auc_memory.specs.declared.identity_key.IdentityKey.{IdentityKey}
 use Rattle.auc_subs.specs.declared.row.Row.{Row}
 use Rattle.auc_subs.specs.Subscriber.{most_subscribers, same_identity, place_of, IsRow}
 use Rattle.auc_subs.specs.InnerLookup.{IsLookup}

@@ -8,7 +8,7 @@ use Rattle.std.proofs.lemmas.List.Sums.{fails_before_first}
 use Rattle.std.proofs.lemmas.List.Quantifiers.{all_pairs_push, position-Some}
 use Rattle.std.proofs.lemmas.Option.{slice_get_cases}
 use Rattle.std.proofs.lemmas.List.Elements.{All-append}
-use Rattle.auc_edge.specs.Identity.{Identity}
+use Rattle.auc_memory.specs.Identity.{Identity}
 use Rattle.auc_subs.specs.declared.row.Row.{Row}
 use Rattle.auc_subs.specs.Subscriber.{most_subscribers, HasIdentity, same_identity, place_of, rows_with, IsRow, AreSubscribers}
 

@@ -1,7 +1,7 @@
 -- The faults of a record, each by itself: which test of which field fails, and in what order faults are
 -- told.
 use Rattle.std.specs.Prelude.{ℕ, ◌≡◌, ◌≢◌, ◌<◌, ◌≤◌, ◌++◌, ◌⊎◌, false, true, List, [], ◌∷◌, length, All, Contains, codes, Some, None}
-use Rattle.auc_edge.specs.Identity.{Identity, identity_of}
+use Rattle.auc_memory.specs.Identity.{Identity, identity_of}
 use Rattle.auc_milenage.specs.Milenage.{opc_of}
 use Rattle.auc_sqn.specs.Number.{top_of}
 use Rattle.auc_subs.specs.declared.row.Row.{Row}

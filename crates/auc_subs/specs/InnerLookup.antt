@@ -1,8 +1,8 @@
 -- Inner facts: what only private contracts of this crate cite. How rows are looked up by identity: each
 -- under the key of its own, in their order.
 use Rattle.std.specs.Prelude.{◌≡◌, List, map}
-use Rattle.auc_edge.specs.IdentityKey.{key_of}
-use Rattle.auc_edge.specs.declared.identity_key.IdentityKey.{IdentityKey}
+use Rattle.auc_memory.specs.IdentityKey.{key_of}
+use Rattle.auc_memory.specs.declared.identity_key.IdentityKey.{IdentityKey}
 use Rattle.auc_subs.specs.declared.row.Row.{Row}
 use Rattle.auc_subs.specs.Subscriber.{AreSubscribers}
 

@@ -17,7 +17,7 @@ use Rattle.std.specs.Prelude.{ℕ, ◌≡◌, ◌≢◌, ◌==◌, ◌&&◌, ◌
 use Rattle.std.specs.List.{list_any}
 use Rattle.std.specs.Option.{ok_or}
 use Rattle.auc_aes.specs.Bytes.{IsBytes, IsBlock}
-use Rattle.auc_edge.specs.Identity.{Identity, IsIdentity, identity_of}
+use Rattle.auc_memory.specs.Identity.{Identity, IsIdentity, identity_of}
 use Rattle.auc_milenage.specs.Milenage.{opc_of}
 use Rattle.auc_sqn.specs.Number.{most_bits, top_of}
 use Rattle.auc_subs.specs.declared.row.Row.{Row}

@@ -12,7 +12,7 @@ use crate::refusal::{AddRefusal, SubsRefusal, SubsWhy};
 use crate::row::Row;
 use crate::row_reading::read_row;
 use crate::subscribers::Subscribers;
-use auc_edge::NoMemory;
+use auc_memory::NoMemory;
 use csv::{ByteRecord, Reader, ReaderBuilder};
 use std::alloc::Global;
 

@@ -4,7 +4,7 @@ ghost use Rattle.std.specs.Prelude.{◌≡◌};
 ghost use Rattle.auc_subs.specs.declared.refusal.AddRefusal.TheVariants as refusal;
 ghost use Rattle.auc_subs.specs.declared.refusal.SubsRefusal.TheVariants as file_refusal;
 
-use auc_edge::NoMemory;
+use auc_memory::NoMemory;
 use std::alloc::AllocError;
 
 /// The first fault of a subscriber's line, in the order of the tests.

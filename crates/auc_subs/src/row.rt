@@ -1,6 +1,6 @@
 //! What the centre keeps of one subscriber.
 
-use auc_edge::Imsi;
+use auc_memory::Imsi;
 use auc_milenage::Secret;
 
 /// The greatest age limit: what 48 bits hold.

@@ -3,14 +3,14 @@
 ghost use Rattle.std.specs.Prelude.{◌≡◌, ◌≤◌, map, IfOk, IfSome};
 ghost use Rattle.std.specs.Option.{ok_or};
 ghost use Rattle.auc_aes.specs.Bytes.{IsBlock};
-ghost use Rattle.auc_edge.specs.Identity.{IsIdentity, identity_of};
+ghost use Rattle.auc_memory.specs.Identity.{IsIdentity, identity_of};
 ghost use Rattle.auc_sqn.specs.Number.{most_bits, top_of};
 ghost use Rattle.auc_text.specs.Field.{number_in};
 ghost use Rattle.auc_subs.specs.Subscriber.{age_in, bits_in, limit_in, line_counts, opc_in, row_of, IsAge, IsRow};
 
 use crate::refusal::SubsWhy;
 use crate::row::{MAX_AGE, Row};
-use auc_edge::Imsi;
+use auc_memory::Imsi;
 use auc_milenage::{Secret, opc_of};
 use auc_sqn::{MAX_BITS, top};
 use auc_text::{read_decimal, read_octets};

@@ -7,7 +7,7 @@ use crate::field::{fields, has_seven_or_nine_fields};
 use crate::refusal::{AddRefusal, SubsWhy};
 use crate::row::Row;
 use crate::row_reading::read_row;
-use auc_edge::{IdentityKey, Imsi, Items, NoMemory};
+use auc_memory::{IdentityKey, Imsi, Items, NoMemory};
 use auc_sqn::top;
 use indexmap::IndexMap;
 use std::alloc::Global;

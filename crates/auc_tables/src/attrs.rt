@@ -1,7 +1,7 @@
 //! How attributes are read and written.
 
 use auc_attr::{AttrList, AttrRefusal, put_attrs, read_attrs, write_attrs};
-use auc_edge::{Octets, Room};
+use auc_memory::{Octets, Room};
 use std::alloc::{AllocError, Global};
 
 /// How many attributes bytes have, and the list written again, into a string and into a room; or the first fault.

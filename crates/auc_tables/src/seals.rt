@@ -1,8 +1,8 @@
 //! MACs, checkcodes and encrypted attributes.
 
 use auc_attr::{Attr, AttrList, mac_place, read_attrs, write_attrs};
-use auc_edge::{Octets, Places, Room};
 use auc_hmac::Method;
+use auc_memory::{Octets, Places, Room};
 use auc_seal::{
     CheckValue, Checkcode, EncryptionRoom, SealRefusal, check_mac, ciphertext_size, decrypt_attrs,
     encrypt_attrs, may_be_encrypted, open_attrs, put_encrypted, seal_mac,
@@ -135,7 +135,7 @@ pub fn decrypted(alloc: Global, has_iv: bool, data: &[u8]) -> Result<String, All
         Ok(data) => push(&mut list, Attr::EncrData(data))?,
         Err(_) => return Err(AllocError),
     }
-    let opened = opened(alloc, &list)?;
+    let opened = opened(alloc, list.as_slice())?;
     let decrypted = match decrypt_attrs(alloc, K_ENCR, &list) {
         Ok(inner) => text_of_attrs(alloc, &inner)?,
         Err(SealRefusal::NoMemory) => return Err(AllocError),
@@ -145,7 +145,7 @@ pub fn decrypted(alloc: Global, has_iv: bool, data: &[u8]) -> Result<String, All
 }
 
 /// The bytes to which AT_ENCR_DATA opens, or the cause of the refusal.
-fn opened(alloc: Global, list: &AttrList) -> Result<String, AllocError> {
+fn opened(alloc: Global, list: &[Attr]) -> Result<String, AllocError> {
     let Ok(room) = Room::new(alloc, ciphertext_size(list)) else {
         return Err(AllocError);
     };

@@ -1,10 +1,10 @@
 //! How scenarios and subscribers are read.
 
-use auc_edge::Items;
 use auc_lines::{
     FivegLine, Identity, JobPart, Line, Report, SessionLine, SimLine, SimSchedule, SiteEvent,
     SitesLine,
 };
+use auc_memory::Items;
 use auc_script::{Part, Script, ScriptRefusal};
 use auc_subs::{AddRefusal, SubsRefusal, Subscribers};
 use std::alloc::{AllocError, Global};

@@ -3,7 +3,7 @@ use Rattle.std.specs.Prelude.{ℕ, ◌&&◌, nat_le, List, length, Option, Some,
 use Rattle.std.specs.List.{list_all}
 use Rattle.std.specs.Char.{is_ascii_digit}
 use Rattle.std.specs.Result.{result_ok}
-use Rattle.auc_edge.specs.Identity.{number_of}
+use Rattle.auc_memory.specs.Identity.{number_of}
 use Rattle.hex.specs.Hex.{decode_sized}
 
 -- the number that 1 to `digits` decimal digits are, if it is at most the greatest

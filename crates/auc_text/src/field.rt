@@ -4,7 +4,7 @@ ghost use Rattle.std.specs.Prelude.{◌≡◌, ◌≤◌, length, IfSome, IsTrue
 ghost use Rattle.std.specs.List.{AllPass, list_all};
 ghost use Rattle.std.specs.Char.{is_ascii_digit};
 ghost use Rattle.hex.specs.Hex.{IsBytes};
-ghost use Rattle.auc_edge.specs.Identity.{number_of};
+ghost use Rattle.auc_memory.specs.Identity.{number_of};
 ghost use Rattle.auc_text.specs.Field.{number_in, octets_in};
 
 use hex::FromHex;

@@ -4,7 +4,7 @@ ghost use Rattle.std.specs.Prelude.{◌≡◌, ◌<◌, ◌≤◌, ◌==◌, [],
 ghost use Rattle.std.specs.List.{join_with_byte, slice_split};
 ghost use Rattle.auc_text.specs.Text.{is_blank, lines_of, without_cr, words_of};
 
-use auc_edge::{NoMemory, Octets};
+use auc_memory::{NoMemory, Octets};
 use std::alloc::Global;
 
 /// The first line of a text without its ending, and the text after that ending, or `None` if the line

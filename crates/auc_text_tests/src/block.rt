@@ -3,7 +3,7 @@
 ghost use Rattle.std.specs.Prelude.{◌<◌, length};
 
 use auc_block::{LIMIT, MemWire, NextBlock, StdWire, Turn, hear_block, say_whole};
-use auc_edge::Octets;
+use auc_memory::Octets;
 use std::alloc::Global;
 use std::process::Abort;
 

@@ -1,7 +1,7 @@
 //! The words and the lines of `vector` and `auts`.
 
-use auc_edge::{Items, Octets};
 use auc_forms::{algorithm_lines, algorithm_words};
+use auc_memory::{Items, Octets};
 use auc_text::{next_word, word_count};
 use std::alloc::Global;
 use std::process::Abort;

@@ -1,7 +1,7 @@
 //! The words of a load.
 
-use auc_edge::{Items, Octets};
 use auc_load::{LoadWords, load_words};
+use auc_memory::{Items, Octets};
 use std::alloc::Global;
 use std::process::Abort;
 

@@ -1,7 +1,7 @@
 -- The law of limits: each released number is above what was reserved for its subscriber at first.
 use Rattle.std.proofs.Common.{◌≡◌, ℕ, ◌+◌, ◌<◌, ◌≤◌, ◌⊎◌, min, Option, List, [], ◌∷◌, length, get_or, ap, subst, arith, inl, inr}
 use Rattle.std.proofs.lemmas.Bool.{cases_lt}
-use Rattle.auc_edge.specs.declared.stop.Stop.{Stop}
+use Rattle.auc_memory.specs.declared.stop.Stop.{Stop}
 use Rattle.auc_history.specs.Split.{times}
 use Rattle.auc_history.proofs.Facts.{times_at}
 use Rattle.auc_sqn.specs.Number.{max_seq}

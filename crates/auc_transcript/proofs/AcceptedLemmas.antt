@@ -21,7 +21,7 @@ use Rattle.auc_record.specs.declared.event.EventRecord.{EventRecord}
 use Rattle.auc_record.specs.declared.record.GiveVerdict.{GiveVerdict}
 use Rattle.auc_record.specs.declared.record.GiveVerdict.TheVariants as given
 use Rattle.auc_record.specs.declared.record.LineRecord.{LineRecord}
-use Rattle.auc_record.specs.declared.record.LineRecord.TheVariants.{Vector, Withheld, Exhausted, Sync, Give, Further, Event}
+use Rattle.auc_record.specs.declared.record.LineRecord.TheVariants.{Number, Sync, Give, Further, Event}
 use Rattle.auc_world.proofs.Facts.{accepted-append, each_accepted_in_past}
 use Rattle.auc_transcript.specs.Headline.{EachUsimAcceptsNoneTwice}
 use Rattle.auc_transcript.proofs.EventLemmas.{IsEventServed, IsFreshFor}
@@ -119,9 +119,7 @@ module _ (set : Setting) (sub : ℕ) (row : Row) (there : slice_get set.rows sub
   event_accepts before r (Some usim.WrongMac) e is = inl (ap sqn_accepted e)
 
   line_accepts : (before : List LineRecord) (line : LineRecord) → AreWithin before → IsServed set before line → AcceptsFresh set bits sub before line
-  line_accepts before (Vector s n) within is = inl refl
-  line_accepts before (Withheld s n stop) within is = inl refl
-  line_accepts before (Exhausted s word) within is = inl refl
+  line_accepts before (Number s note) within is = inl refl
   line_accepts before (Sync s answer) within is = inl refl
   line_accepts before (Give s n answer) within is = given_accepts s n answer (s == sub) before refl within is
   line_accepts before (Further said) within is = inl refl

@@ -13,7 +13,7 @@ use Rattle.auc_lines.specs.declared.part.End.{End}
 use Rattle.auc_lines.specs.declared.part.End.TheVariants as end
 use Rattle.auc_milenage.specs.declared.secret.Secret.{Secret}
 use Rattle.auc_packet.specs.Received.{Seen, is_sealed}
-use Rattle.auc_peer.specs.Attributes.{checkcode, differs}
+use Rattle.auc_peer.specs.Attributes.{checkcode}
 use Rattle.auc_peer.specs.Rows.{peer_row}
 use Rattle.auc_peer.specs.Subscription.{Subscription}
 use Rattle.auc_peer.specs.Table.{accepted as peer_accepts, accepting, client, genuine, opened, own_code, peer_does}
@@ -24,6 +24,7 @@ use Rattle.auc_peer.specs.declared.peer.Challenge.{Challenge}
 use Rattle.auc_peer.specs.declared.peer.Peer.{Peer}
 use Rattle.auc_peer.specs.declared.rows.Row.{Row as PeerRow}
 use Rattle.auc_peer.specs.declared.rows.Row.TheVariants as row
+use Rattle.auc_seal.specs.Checkcode.{differs}
 use Rattle.auc_vector.specs.declared.why.PeerWhy.{PeerWhy}
 use Rattle.auc_vector.specs.declared.why.PeerWhy.TheVariants as why
 use Rattle.auc_reauth.specs.Device.{Keeps}
@@ -69,6 +70,14 @@ IsNoteServed top (Some (number.Drew n)) = n ≤ top
 IsNoteServed top (Some (number.Exhausted word)) = top ≤ word
 IsNoteServed top (Some (number.Withheld n stop)) = Unit {0}
 
+-- if the centre's note for one subscriber is so, it is so for each, since the others have none
+pub note_served : (set : Setting) (s sub : ℕ) (note : Option NumberNote) → IsNoteServed (top_at set.rows s) note → IsNoteServed (top_at set.rows sub) (if s == sub then note else None)
+note_served set s sub note is = by (s == sub) refl
+  where
+    by : (b : Bool) → (s == sub) ≡ b → IsNoteServed (top_at set.rows sub) (if b then note else None)
+    by true mine = subst (λ (k : ℕ). IsNoteServed (top_at set.rows k) note) (eqb-true s sub mine) is
+    by false mine = tt
+
 -- an SQN is fresh for a subscriber's USIM, by all that it accepted before
 pub record IsFreshFor (set : Setting) (before : List LineRecord) (sub : ℕ) (sqn : List ℕ) : Type 0 where
   pub row : Row
@@ -112,13 +121,9 @@ answer_served set sub (Some seq_ms) notes (seen, noted, follows) = following_ser
 asked_served : (set : Setting) (request : Option Asking) (told notes : Notes) (sub : ℕ) → told ≡ notes → IsCentreAsked set request told
     → IsNoteServed (top_at set.rows sub) (if is_that sub (asked_sub request) then notes.number else None)
 asked_served set None told notes sub same centre = tt
-asked_served set (Some request) told notes sub same centre = by (request.sub == sub) refl
-  where
-    by : (b : Bool) → (request.sub == sub) ≡ b → IsNoteServed (top_at set.rows sub) (if b then notes.number else None)
-    by true mine =
-        subst (λ (k : ℕ). IsNoteServed (top_at set.rows k) notes.number) (eqb-true request.sub sub mine)
-        (subst (λ (n : Notes). IsNoteServed (top_at set.rows request.sub) n.number) same (answer_served set request.sub request.reported told centre.answers))
-    by false mine = tt
+asked_served set (Some request) told notes sub same centre =
+    note_served set request.sub sub notes.number
+    (subst (λ (n : Notes). IsNoteServed (top_at set.rows request.sub) n.number) same (answer_served set request.sub request.reported told centre.answers))
 
 server_served : (set : Setting) (place : Before) (w : Net) (told : ToldEvent) (o : Option ServerEnd) → TellsNotes told (came_at_server set w told o)
     → IsCentreAsked set (asking_at set w told o) told.notes → IsEventServed set (all_before place) (came_at_server set w told o)

@@ -13,11 +13,12 @@ use Rattle.auc_sqn.specs.declared.verdict.Verdict.TheVariants.{Fresh, Old, Aged}
 use Rattle.auc_subs.specs.declared.row.Row.{Row}
 use Rattle.auc_record.specs.declared.record.GiveVerdict.TheVariants as given
 use Rattle.auc_record.specs.declared.record.LineRecord.{LineRecord}
-use Rattle.auc_record.specs.declared.record.LineRecord.TheVariants.{Vector, Sync, Give}
+use Rattle.auc_record.specs.declared.record.LineRecord.TheVariants.{Number, Sync, Give}
+use Rattle.auc_vector.specs.declared.notes.NumberNote.TheVariants as number
 use Rattle.auc_record.specs.declared.record.PartRecord.{PartRecord}
 use Rattle.auc_record.specs.declared.record.PartRecord.TheVariants.{Round, Restart}
 use Rattle.auc_record.specs.declared.record.Premise.TheVariants as premise
-use Rattle.auc_record.specs.declared.record.SyncVerdict.TheVariants as verdict
+use Rattle.auc_vector.specs.declared.notes.ResyncNote.TheVariants as resync
 use Rattle.auc_world.specs.Given.{past_of}
 use Rattle.auc_world.specs.Limits.{Raises}
 use Rattle.auc_record.specs.Lines.{accepted, numbers_of}
@@ -31,11 +32,11 @@ abbrev draws : ℕ → ℕ → List Entry
 draws from count = map Drawn (numbers_after from count)
 
 abbrev vectors : ℕ → ℕ → List LineRecord
-vectors from count = map (Vector 0) (numbers_after from count)
+vectors from count = map (λ n. Number 0 (number.Drew n)) (numbers_after from count)
 
 -- a move of the subscriber's number
 abbrev moved : ℕ → ℕ → List LineRecord
-moved from to = Sync 0 (verdict.Moved from to) ∷ []
+moved from to = Sync 0 (resync.Moved from to) ∷ []
 
 -- a round of one job without sessions, and without its closings
 abbrev round_of : ℕ → List LineRecord → PartRecord
@@ -275,7 +276,7 @@ mark_has_a_lesser_sqn = refl
 
 abbrev some_records : List PartRecord
 some_records =
-    round_of 1 (moved 0 500) ∷ Restart ∷ Round (record { number = 2; jobs = (Sync 0 (verdict.InRange 0 0) ∷ []) ∷ moved 0 7 ∷ []; closings = []; sessions = []; premise = premise.NoSession })
+    round_of 1 (moved 0 500) ∷ Restart ∷ Round (record { number = 2; jobs = (Sync 0 (resync.InRange 0 0) ∷ []) ∷ moved 0 7 ∷ []; closings = []; sessions = []; premise = premise.NoSession })
     ∷ round_of 3 (vectors 7 1) ∷ Restart ∷ []
 
 some_stretches : stretches_of 0 some_records ≡ (Moved 0 500 ∷ []) ∷ (Look 0 ∷ Moved 0 7 ∷ Drawn 8 ∷ []) ∷ [] ∷ []
@@ -350,7 +351,7 @@ no_two_steps row mid raises again = elim (raises.step 0 (omega arith)) [
     ]
 
 -- a released number is covered: the limit can't stay at 0 after a vector
-not_after_a_vector : (row : Row) (n : ℕ) → 1 ≤ n → Raises (row ∷ []) (Vector 0 n ∷ []) (0 ∷ []) (5 ∷ []) (0 ∷ []) → ⊥
+not_after_a_vector : (row : Row) (n : ℕ) → 1 ≤ n → Raises (row ∷ []) (Number 0 (number.Drew n) ∷ []) (0 ∷ []) (5 ∷ []) (0 ∷ []) → ⊥
 not_after_a_vector row n first raises = let low = raises.released 0 (omega arith) 0 0 (omega arith) in omega (arith, first, low)
 
 -- near the top the limit may be the greatest number, also by a lesser step

@@ -13,7 +13,7 @@ use Rattle.auc_world.specs.Transcript.{lines_of, stretches_of}
 use Rattle.auc_record.specs.declared.record.GiveVerdict.{GiveVerdict}
 use Rattle.auc_record.specs.declared.record.GiveVerdict.TheVariants as given
 use Rattle.auc_record.specs.declared.record.LineRecord.{LineRecord}
-use Rattle.auc_record.specs.declared.record.LineRecord.TheVariants.{Vector, Withheld, Exhausted, Sync, Give, Further, Event}
+use Rattle.auc_record.specs.declared.record.LineRecord.TheVariants.{Number, Sync, Give, Further, Event}
 use Rattle.auc_record.specs.declared.record.PartRecord.TheVariants as record_of
 use Rattle.auc_transcript.specs.Headline.{EachSqnOutsideSessionsIsGenuine, IsGenuine, IsOutsideSessions}
 use Rattle.auc_transcript.specs.Rounds.{EachSqnInRoundsIsGenuine, entries_of_rounds}
@@ -40,9 +40,7 @@ given_genuine set bits sub s n entries given.Accepted true before mine is all =
 
 line_genuine : (set : Setting) (bits sub : ℕ) (entries : List Entry) (before : List LineRecord) (line : LineRecord) → IsServed set before line → IsOutsideSessions line → AreDrawnBy bits sub entries before
     → All (IsGenuine bits entries) (accepted_by bits sub line)
-line_genuine set bits sub entries before (Vector s n) is none all = All-nil (IsGenuine bits entries)
-line_genuine set bits sub entries before (Withheld s n stop) is none all = All-nil (IsGenuine bits entries)
-line_genuine set bits sub entries before (Exhausted s word) is none all = All-nil (IsGenuine bits entries)
+line_genuine set bits sub entries before (Number s note) is none all = All-nil (IsGenuine bits entries)
 line_genuine set bits sub entries before (Sync s answer) is none all = All-nil (IsGenuine bits entries)
 line_genuine set bits sub entries before (Give s n answer) is none all = given_genuine set bits sub s n entries answer (s == sub) before refl is all
 line_genuine set bits sub entries before (Further said) is none all = All-nil (IsGenuine bits entries)

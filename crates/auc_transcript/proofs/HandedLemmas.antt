@@ -6,14 +6,13 @@ use Rattle.auc_hmac.specs.declared.method.Method.TheVariants as method
 use Rattle.auc_packet.specs.Head.{head_at}
 use Rattle.auc_packet.specs.Messages.{is_malformed, is_missing}
 use Rattle.auc_packet.specs.Packet.{method_type}
-use Rattle.auc_packet.specs.Received.{Seen}
+use Rattle.auc_packet.specs.Received.{Seen, attrs_in}
 use Rattle.auc_packet.specs.declared.packet.Head.{Head}
 use Rattle.auc_packet.specs.declared.packet.Packet.TheVariants as packet
 use Rattle.auc_packet.specs.declared.received.Reading.{Reading}
 use Rattle.auc_packet.specs.declared.received.Reading.TheVariants as reading
 use Rattle.auc_packet.specs.declared.subtype.Subtype.{Subtype}
 use Rattle.auc_packet.specs.declared.subtype.Subtype.TheVariants as subtype
-use Rattle.auc_peer.specs.Attributes.{attrs_in}
 use Rattle.auc_peer.specs.Rows.{challenge_of, is_last, is_response, late, method_row, notified_or, of_kind, on_failure, on_sound, on_success, peer_row, repeats, requested, row_headed, row_in, waiting}
 use Rattle.auc_peer.specs.Told.{ToldSession}
 use Rattle.auc_peer.specs.Turn.{asked}

@@ -27,7 +27,8 @@ use Rattle.auc_subs.specs.Setting.{Setting}
 use Rattle.auc_world.specs.Sites.{LeaseGives, SiteEventGives, SitesGives, SitesGo, event_of, note_of, note_of_draw, note_of_number, packet_place, sites_start}
 use Rattle.auc_record.specs.declared.further.Further.TheVariants as further
 use Rattle.auc_record.specs.declared.record.LineRecord.{LineRecord}
-use Rattle.auc_record.specs.declared.record.LineRecord.TheVariants.{Vector, Withheld, Exhausted, Sync, Give, Further, Event}
+use Rattle.auc_record.specs.declared.record.LineRecord.TheVariants.{Number, Sync, Give, Further, Event}
+use Rattle.auc_vector.specs.declared.notes.NumberNote.TheVariants as number
 use Rattle.auc_world.proofs.Facts.{turns_append}
 use Rattle.auc_transcript.specs.Leases.{HandsOut, HandsOutAfter, handed_by, handed_out, number_noted}
 use Rattle.auc_transcript.proofs.ListLemmas.{AllPairs-left, AllPairs-right, all_right}
@@ -59,11 +60,11 @@ after-append sub before (x ∷ xs) ys (first, these) those =
 pub one_silent : (set : Setting) (who sub : ℕ) (Follows : ℕ → List LineRecord → Type 0) (lines : List LineRecord)
     → ((n : ℕ) (rest : List LineRecord) → Follows n rest → All (IsSilent sub) rest) → OneGives set who Follows lines → All (IsSilent sub) lines
 one_silent set who sub Follows [] silent gives = absurd gives
-one_silent set who sub Follows (Vector s n ∷ lines) silent (same, is, more) = All-cons (IsSilent sub) (Vector s n) lines refl (silent n lines more)
-one_silent set who sub Follows (Withheld s n stop ∷ lines) silent (same, first, last, none) =
-    All-cons (IsSilent sub) (Withheld s n stop) lines refl (subst (All (IsSilent sub)) (sym none) (All-nil (IsSilent sub)))
-one_silent set who sub Follows (Exhausted s word ∷ lines) silent (same, spent, none) =
-    All-cons (IsSilent sub) (Exhausted s word) lines refl (subst (All (IsSilent sub)) (sym none) (All-nil (IsSilent sub)))
+one_silent set who sub Follows (Number s (number.Drew n) ∷ lines) silent (same, is, more) = All-cons (IsSilent sub) (Number s (number.Drew n)) lines refl (silent n lines more)
+one_silent set who sub Follows (Number s (number.Withheld n stop) ∷ lines) silent (same, first, last, none) =
+    All-cons (IsSilent sub) (Number s (number.Withheld n stop)) lines refl (subst (All (IsSilent sub)) (sym none) (All-nil (IsSilent sub)))
+one_silent set who sub Follows (Number s (number.Exhausted word) ∷ lines) silent (same, spent, none) =
+    All-cons (IsSilent sub) (Number s (number.Exhausted word)) lines refl (subst (All (IsSilent sub)) (sym none) (All-nil (IsSilent sub)))
 one_silent set who sub Follows (Sync s answer ∷ lines) silent gives = absurd gives
 one_silent set who sub Follows (Give s n answer ∷ lines) silent gives = absurd gives
 one_silent set who sub Follows (Further said ∷ lines) silent gives = absurd gives

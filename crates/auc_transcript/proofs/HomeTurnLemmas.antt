@@ -17,7 +17,7 @@ use Rattle.auc_server.specs.Rows.{server_row, text_in}
 use Rattle.auc_server.specs.Server.{ServerEnd, resumed_of}
 use Rattle.auc_subs.specs.Setting.{Setting}
 use Rattle.auc_server.specs.Steps.{asking}
-use Rattle.auc_server.specs.Table.{asked, challenge_of, challenged, challenged_with, homes_after, homes_challenged, homes_done, homes_named, identified, names_given, next_given, noted, packets_after, reauthenticated, resumed_with, resynchronised, resynchronising, server_does, server_step, succeeded, vector_at}
+use Rattle.auc_server.specs.Table.{asked, challenge_of, challenged, challenged_with, homes_after, homes_challenged, homes_done, homes_named, identified, names_given, next_given, noted, packets_after, resumed_with, resynchronised, resynchronising, server_does, server_step, vector_at}
 use Rattle.auc_server.specs.declared.naming.GivenNames.{GivenNames}
 use Rattle.auc_server.specs.declared.options.ServerOptions.{ServerOptions}
 use Rattle.auc_server.specs.declared.reply.Reply.{Reply}

@@ -25,7 +25,7 @@ use Rattle.auc_subs.specs.Subscriber.{top_at}
 use Rattle.auc_subs.specs.declared.row.Row.{Row}
 use Rattle.auc_vector.specs.declared.parts.Vector.{Vector as AuthVector}
 use Rattle.auc_world.specs.Given.{AuthenticatesIf, Before, EpsGives, EventGives, FivegFollows, FivegGives, GiveGives, IsGiven, LineGives, SyncGives, VectorsFollow, behind, device_of_row, hxres_lines, is_released, judged_lines, kasme_line, outcome_of, past_before, turned}
-use Rattle.auc_record.specs.Draws.{DrawGives, IsReleasable, OneGives}
+use Rattle.auc_record.specs.Draws.{DrawGives, OneGives}
 use Rattle.auc_record.specs.Lines.{numbers_of}
 use Rattle.auc_world.specs.Net.{Net}
 use Rattle.auc_subs.specs.Setting.{Setting}
@@ -38,12 +38,14 @@ use Rattle.auc_record.specs.declared.further.Further.TheVariants as further
 use Rattle.auc_record.specs.declared.record.GiveVerdict.{GiveVerdict}
 use Rattle.auc_record.specs.declared.record.GiveVerdict.TheVariants as given
 use Rattle.auc_record.specs.declared.record.LineRecord.{LineRecord}
-use Rattle.auc_record.specs.declared.record.LineRecord.TheVariants.{Vector, Withheld, Exhausted, Sync, Give, Further, Event}
-use Rattle.auc_record.specs.declared.record.SyncVerdict.{SyncVerdict}
-use Rattle.auc_record.specs.declared.record.SyncVerdict.TheVariants as verdict
+use Rattle.auc_record.specs.declared.record.LineRecord.TheVariants.{Number, Sync, Give, Further, Event}
+use Rattle.auc_vector.specs.declared.notes.NumberNote.TheVariants as number
+use Rattle.auc_vector.specs.declared.notes.ResyncNote.{ResyncNote}
+use Rattle.auc_vector.specs.declared.notes.ResyncNote.TheVariants as resync
 use Rattle.auc_world.proofs.Facts.{noted}
 use Rattle.auc_transcript.specs.Completeness.{opening_by}
 use Rattle.auc_transcript.specs.Headline.{IsOutsideSessions}
+use Rattle.auc_transcript.proofs.EventLemmas.{IsNoteServed}
 
 -- ---- the lines before
 
@@ -57,12 +59,9 @@ behind_on place front rest = ap (λ (own : List LineRecord). record { early = pl
 
 -- ---- lines of known kinds
 
--- a line that is no event's, after the lines before it: a vector has a number that one may have, the word of a spent subscriber is no
--- number that one may still have, and a presented vector was answered
+-- a line that is no event's, after the lines before it: the centre's note is one that it may give, and a presented vector was answered
 abbrev pub IsKnown : Setting → Before → LineRecord → Type 0
-IsKnown set place (Vector s n) = IsReleasable set s n
-IsKnown set place (Withheld s n stop) = Unit {0}
-IsKnown set place (Exhausted s word) = top_at set.rows s ≤ word
+IsKnown set place (Number s note) = IsNoteServed (top_at set.rows s) (Some note)
 IsKnown set place (Sync s answer) = Unit {0}
 IsKnown set place (Give s n answer) = (row : Row) × (slice_get set.rows s ≡ Some row) × IsGiven row (is_released place s n) (past_before place row s) n answer
 IsKnown set place (Further said) = Unit {0}
@@ -87,9 +86,7 @@ known_outside set place [] known = All-nil IsOutsideSessions
 known_outside set place (line ∷ lines) (first, more) = All-cons IsOutsideSessions line lines (one line first) (known_outside set (behind place (line ∷ [])) lines more)
   where
     one : (l : LineRecord) → IsKnown set place l → IsOutsideSessions l
-    one (Vector s n) is = tt
-    one (Withheld s n stop) is = tt
-    one (Exhausted s word) is = tt
+    one (Number s note) is = tt
     one (Sync s answer) is = tt
     one (Give s n answer) is = tt
     one (Further said) is = tt
@@ -99,15 +96,15 @@ known_outside set place (line ∷ lines) (first, more) = All-cons IsOutsideSessi
 
 -- a request for one vector, and what follows its number
 pub one_known : (set : Setting) (place : Before) (sub : ℕ) (Follows : ℕ → List LineRecord → Type 0) (lines : List LineRecord)
-    → ((n : ℕ) (rest : List LineRecord) → Follows n rest → AreKnown set (behind place (Vector sub n ∷ [])) rest) → OneGives set sub Follows lines → AreKnown set place lines
+    → ((n : ℕ) (rest : List LineRecord) → Follows n rest → AreKnown set (behind place (Number sub (number.Drew n) ∷ [])) rest) → OneGives set sub Follows lines → AreKnown set place lines
 one_known set place sub Follows [] known gives = absurd gives
-one_known set place sub Follows (Vector s n ∷ lines) known (same, is, more) = (
-  subst (λ (t : ℕ). IsReleasable set t n) (sym same) is,
-  subst (λ (t : ℕ). AreKnown set (behind place (Vector t n ∷ [])) lines) (sym same) (known n lines more),
+one_known set place sub Follows (Number s (number.Drew n) ∷ lines) known (same, is, more) = (
+  subst (λ (t : ℕ). n ≤ top_at set.rows t) (sym same) is.last,
+  subst (λ (t : ℕ). AreKnown set (behind place (Number t (number.Drew n) ∷ [])) lines) (sym same) (known n lines more),
 )
-one_known set place sub Follows (Withheld s n stop ∷ lines) known (same, first, last, none) = (tt, none_known set (behind place (Withheld s n stop ∷ [])) lines none)
-one_known set place sub Follows (Exhausted s word ∷ lines) known (same, spent, none) =
-    (subst (λ (t : ℕ). top_at set.rows t ≤ word) (sym same) spent, none_known set (behind place (Exhausted s word ∷ [])) lines none)
+one_known set place sub Follows (Number s (number.Withheld n stop) ∷ lines) known (same, first, last, none) = (tt, none_known set (behind place (Number s (number.Withheld n stop) ∷ [])) lines none)
+one_known set place sub Follows (Number s (number.Exhausted word) ∷ lines) known (same, spent, none) =
+    (subst (λ (t : ℕ). top_at set.rows t ≤ word) (sym same) spent, none_known set (behind place (Number s (number.Exhausted word) ∷ [])) lines none)
 one_known set place sub Follows (Sync s answer ∷ lines) known gives = absurd gives
 one_known set place sub Follows (Give s n answer ∷ lines) known gives = absurd gives
 one_known set place sub Follows (Further said ∷ lines) known gives = absurd gives
@@ -117,19 +114,19 @@ one_known set place sub Follows (Event r ∷ lines) known gives = absurd gives
 draw_known : (set : Setting) (place : Before) (sub count : ℕ) (lines : List LineRecord) → DrawGives set sub count lines → AreKnown set place lines
 draw_known set place sub zero lines none = none_known set place lines none
 draw_known set place sub (suc count) lines gives =
-    one_known set place sub (λ n rest. DrawGives set sub count rest) lines (λ n rest more. draw_known set (behind place (Vector sub n ∷ [])) sub count rest more) gives
+    one_known set place sub (λ n rest. DrawGives set sub count rest) lines (λ n rest more. draw_known set (behind place (Number sub (number.Drew n) ∷ [])) sub count rest more) gives
 
 -- an AUTS
-follows_known : (set : Setting) (place : Before) (sub count : ℕ) (answer : SyncVerdict) (lines : List LineRecord) → VectorsFollow set sub count answer lines → AreKnown set place lines
-follows_known set place sub count (verdict.Moved seen seq_ms) lines gives = draw_known set place sub count lines gives
-follows_known set place sub count (verdict.InRange seen seq_ms) lines gives = draw_known set place sub count lines gives
-follows_known set place sub count (verdict.Beyond seen seq_ms) lines none = none_known set place lines none
-follows_known set place sub count verdict.WrongMac lines none = none_known set place lines none
+follows_known : (set : Setting) (place : Before) (sub count : ℕ) (note : ResyncNote) (lines : List LineRecord) → VectorsFollow set sub count note lines → AreKnown set place lines
+follows_known set place sub count (resync.Moved seen seq_ms) lines gives = draw_known set place sub count lines gives
+follows_known set place sub count (resync.InRange seen seq_ms) lines gives = draw_known set place sub count lines gives
+follows_known set place sub count (resync.Beyond seen seq_ms) lines none = none_known set place lines none
+follows_known set place sub count resync.BadAuts lines none = none_known set place lines none
 
 sync_known : (set : Setting) (place : Before) (sub : ℕ) (report : Report) (count : ℕ) (lines : List LineRecord) → SyncGives set sub report count lines → AreKnown set place lines
 sync_known set place sub report count lines gives =
     subst (AreKnown set place) (sym gives.lines_are)
-    (tt, follows_known set (behind place (Sync sub gives.answer ∷ [])) sub count gives.answer gives.more gives.follows)
+    (tt, follows_known set (behind place (Sync sub gives.note ∷ [])) sub count gives.note gives.more gives.follows)
 
 -- a presented vector
 give_known : (set : Setting) (place : Before) (sub n : ℕ) (lines : List LineRecord) → GiveGives set place sub n lines → AreKnown set place lines
@@ -143,7 +140,7 @@ kasme_known set place snid (v ∷ vectors) = (tt, kasme_known set (behind place 
 eps_known : (set : Setting) (place : Before) (sub : ℕ) (snid : List ℕ) (lines : List LineRecord) → EpsGives set sub snid lines → AreKnown set place lines
 eps_known set place sub snid lines gives =
     one_known set place sub (λ n rest. rest ≡ map (kasme_line snid) (vector_at set sub n)) lines
-    (λ n rest is. subst (AreKnown set (behind place (Vector sub n ∷ []))) (sym is) (kasme_known set (behind place (Vector sub n ∷ [])) snid (vector_at set sub n))) gives
+    (λ n rest is. subst (AreKnown set (behind place (Number sub (number.Drew n) ∷ []))) (sym is) (kasme_known set (behind place (Number sub (number.Drew n) ∷ [])) snid (vector_at set sub n))) gives
 
 -- a 5G authentication: what follows the USIM's answer, what follows the vector, and both with it
 judged_known : (set : Setting) (place : Before) (l : FivegLine) (home : HomeKeys) (device : DeviceKeys) (answer : GiveVerdict) → AreKnown set place (judged_lines l home device answer)
@@ -169,8 +166,8 @@ follows_vector_known set place l n lines f = by (is_separated (vector_of_row set
 
 fiveg_known : (set : Setting) (place : Before) (l : FivegLine) (lines : List LineRecord) → FivegGives set place l lines → AreKnown set place lines
 fiveg_known set place l lines gives =
-    one_known set place l.sub (λ n rest. FivegFollows set (behind place (Vector l.sub n ∷ [])) l n rest) lines
-    (λ n rest f. follows_vector_known set (behind place (Vector l.sub n ∷ [])) l n rest f) gives
+    one_known set place l.sub (λ n rest. FivegFollows set (behind place (Number l.sub (number.Drew n) ∷ [])) l n rest) lines
+    (λ n rest f. follows_vector_known set (behind place (Number l.sub (number.Drew n) ∷ [])) l n rest f) gives
 
 -- sites: what is drawn for a request, an event, and all of them
 lease_known : (set : Setting) (place : Before) (sub size : ℕ) (made : Option Judged) (lines : List LineRecord) → LeaseGives set sub size made lines → AreKnown set place lines

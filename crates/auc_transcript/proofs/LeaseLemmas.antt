@@ -1,6 +1,6 @@
 -- The law of leases: in a lawful transcript no number is handed out twice at the sites of a subscriber, and each line for sites keeps the
 -- law of a master and its sites.
-use Rattle.std.proofs.Common.{◌≡◌, ◌≢◌, ℕ, ◌<◌, ◌==◌, ◌⊎◌, Bool, true, false, zero, suc, List, [], ◌∷◌, ◌++◌, length, get_or, map, All, AllPairs, Contains, Option, Some, None, inl, inr, refl, sym, ap, ◌∙◌, subst, arith, append-nil, ⊎_elim}
+use Rattle.std.proofs.Common.{◌≡◌, ◌≢◌, ℕ, ◌<◌, ◌==◌, ◌⊎◌, Bool, true, false, List, [], ◌∷◌, ◌++◌, length, get_or, map, All, AllPairs, Contains, Option, Some, None, inl, inr, refl, sym, ap, ◌∙◌, subst, arith, append-nil, ⊎_elim}
 use Rattle.std.proofs.lemmas.Bool.{cond-false, eqb-true}
 use Rattle.std.proofs.lemmas.List.Concat.{flat_map-append}
 use Rattle.std.proofs.lemmas.List.Elements.{All-append, All-cons, All-head, All-nil, All-tail, Contains-append_left, Contains-append_right}
@@ -29,7 +29,7 @@ use Rattle.auc_subs.specs.declared.row.Row.{Row}
 use Rattle.auc_vector.specs.declared.parts.Vector.{Vector as AuthVector}
 use Rattle.auc_world.specs.Came.{came}
 use Rattle.auc_world.specs.Given.{AuthenticatesIf, Before, EventGives, FivegFollows, JobGives, JobsGive, LineGives, PlainGives, RelayGives, VectorsFollow, behind, device_of_row, hxres_lines, judged_lines, kasme_line, outcome_of, packet_of, turned}
-use Rattle.auc_record.specs.Draws.{DrawGives}
+use Rattle.auc_record.specs.Draws.{DrawGives, IsReleasable}
 use Rattle.auc_record.specs.Lines.{all_lines, numbers_of, released_by}
 use Rattle.auc_world.specs.Net.{Net, other}
 use Rattle.auc_subs.specs.Setting.{Setting}
@@ -43,12 +43,13 @@ use Rattle.auc_record.specs.declared.further.Further.TheVariants as further
 use Rattle.auc_record.specs.declared.record.GiveVerdict.{GiveVerdict}
 use Rattle.auc_record.specs.declared.record.GiveVerdict.TheVariants as given
 use Rattle.auc_record.specs.declared.record.LineRecord.{LineRecord}
-use Rattle.auc_record.specs.declared.record.LineRecord.TheVariants.{Vector, Withheld, Exhausted, Sync, Give, Further, Event}
+use Rattle.auc_record.specs.declared.record.LineRecord.TheVariants.{Number, Sync, Give, Further, Event}
+use Rattle.auc_vector.specs.declared.notes.NumberNote.TheVariants as number
 use Rattle.auc_record.specs.declared.record.PartRecord.{PartRecord}
 use Rattle.auc_record.specs.declared.record.PartRecord.TheVariants as record_of
-use Rattle.auc_record.specs.declared.record.SyncVerdict.{SyncVerdict}
-use Rattle.auc_record.specs.declared.record.SyncVerdict.TheVariants as verdict
-use Rattle.auc_world.proofs.Facts.{sim_each}
+use Rattle.auc_vector.specs.declared.notes.ResyncNote.{ResyncNote}
+use Rattle.auc_vector.specs.declared.notes.ResyncNote.TheVariants as resync
+use Rattle.auc_world.proofs.Facts.{draw_releasable, sim_each}
 use Rattle.auc_transcript.specs.Keys.{AreNetsAfter}
 use Rattle.auc_transcript.specs.Leases.{EachLeasedNumberIsHandedOutOnce, JobHandsOut, JobsHandOut, SitesHandOutAfter, handed_by, handed_out, number_noted}
 use Rattle.auc_transcript.proofs.HandingLemmas.{IsSilent, draw_silent, lease_silent, one_silent, silent_out, sites_hand_out}
@@ -66,11 +67,11 @@ module _ (sub : ℕ) where
   one_line : (l : LineRecord) → IsSilent sub l → Silent (l ∷ [])
   one_line l is = All-cons (IsSilent sub) l [] is (All-nil (IsSilent sub))
 
-  follows_silent : (set : Setting) (who count : ℕ) (answer : SyncVerdict) (lines : List LineRecord) → VectorsFollow set who count answer lines → Silent lines
-  follows_silent set who count (verdict.Moved seen seq_ms) lines gives = draw_silent set who count sub lines gives
-  follows_silent set who count (verdict.InRange seen seq_ms) lines gives = draw_silent set who count sub lines gives
-  follows_silent set who count (verdict.Beyond seen seq_ms) lines none = subst Silent (sym none) (All-nil (IsSilent sub))
-  follows_silent set who count verdict.WrongMac lines none = subst Silent (sym none) (All-nil (IsSilent sub))
+  follows_silent : (set : Setting) (who count : ℕ) (note : ResyncNote) (lines : List LineRecord) → VectorsFollow set who count note lines → Silent lines
+  follows_silent set who count (resync.Moved seen seq_ms) lines gives = draw_silent set who count sub lines gives
+  follows_silent set who count (resync.InRange seen seq_ms) lines gives = draw_silent set who count sub lines gives
+  follows_silent set who count (resync.Beyond seen seq_ms) lines none = subst Silent (sym none) (All-nil (IsSilent sub))
+  follows_silent set who count resync.BadAuts lines none = subst Silent (sym none) (All-nil (IsSilent sub))
 
   kasme_silent : (snid : List ℕ) (vectors : List AuthVector) → Silent (map (kasme_line snid) vectors)
   kasme_silent snid [] = All-nil (IsSilent sub)
@@ -186,15 +187,11 @@ rising_right sub xs ys rising = AllPairs-right ◌<◌ (numbers_of sub xs) (numb
 
 -- the subscriber of released numbers has a row
 draw_known : (set : Setting) (who count : ℕ) (lines : List LineRecord) → DrawGives set who count lines → (numbers_of who lines ≡ []) ⊎ (who < length set.rows)
-draw_known set who zero lines none = inl (ap (numbers_of who) none)
-draw_known set who (suc count) [] gives = absurd gives
-draw_known set who (suc count) (Vector s n ∷ lines) (same, is, more) = inr is.known
-draw_known set who (suc count) (Withheld s n stop ∷ lines) (same, first, last, none) = inl (ap (numbers_of who) none)
-draw_known set who (suc count) (Exhausted s word ∷ lines) (same, spent, none) = inl (ap (numbers_of who) none)
-draw_known set who (suc count) (Sync s answer ∷ lines) gives = absurd gives
-draw_known set who (suc count) (Give s n answer ∷ lines) gives = absurd gives
-draw_known set who (suc count) (Further said ∷ lines) gives = absurd gives
-draw_known set who (suc count) (Event r ∷ lines) gives = absurd gives
+draw_known set who count lines gives = by (numbers_of who lines) (draw_releasable set who count lines gives)
+  where
+    by : (numbers : List ℕ) → All (IsReleasable set who) numbers → (numbers ≡ []) ⊎ (who < length set.rows)
+    by [] all = inl refl
+    by (n ∷ numbers) all = inr (All-head (IsReleasable set who) n numbers all).known
 
 lease_known : (set : Setting) (who size : ℕ) (made : Option Judged) (lines : List LineRecord) → LeaseGives set who size made lines → (numbers_of who lines ≡ []) ⊎ (who < length set.rows)
 lease_known set who size None lines none = inl (ap (numbers_of who) none)
@@ -253,7 +250,7 @@ module _ (law : EachNumberIsHandedOutOnce) (set : Setting) where
   line_hands sub before net next (line.Sync who report count) lines (gives, same) rising =
       silent_hands sub lines
       (subst (All (IsSilent sub)) (sym gives.lines_are)
-      (All-cons (IsSilent sub) (Sync who gives.answer) gives.more refl (follows_silent sub set who count gives.answer gives.more gives.follows)))
+      (All-cons (IsSilent sub) (Sync who gives.note) gives.more refl (follows_silent sub set who count gives.note gives.more gives.follows)))
   line_hands sub before net next (line.Give who n) lines (gives, same) rising =
       silent_hands sub lines (subst (All (IsSilent sub)) (sym gives.lines_are) (one_line sub (Give who n gives.answer) refl))
   line_hands sub before net next (line.Eps who snid) lines (gives, same) rising =
@@ -262,8 +259,8 @@ module _ (law : EachNumberIsHandedOutOnce) (set : Setting) where
       (λ n rest is. subst (All (IsSilent sub)) (sym is) (kasme_silent sub snid (vector_at set who n))) gives)
   line_hands sub before net next (line.Fiveg l) lines (gives, same) rising =
       silent_hands sub lines
-      (one_silent set l.sub sub (λ n rest. FivegFollows set (behind before (Vector l.sub n ∷ [])) l n rest) lines
-      (λ n rest f. fiveg_silent sub set (behind before (Vector l.sub n ∷ [])) l n rest f) gives)
+      (one_silent set l.sub sub (λ n rest. FivegFollows set (behind before (Number l.sub (number.Drew n) ∷ [])) l n rest) lines
+      (λ n rest f. fiveg_silent sub set (behind before (Number l.sub (number.Drew n) ∷ [])) l n rest f) gives)
   line_hands sub before net next (line.Sites l) lines (gives, same) rising = site_hands sub l lines gives rising
   line_hands sub before net next (line.Sim l) lines (gives, same) rising =
       silent_hands sub lines (sim_each (IsSilent sub) set l lines (λ note. refl) gives (draw_silent set l.sub l.count sub gives.drawn gives.draws))

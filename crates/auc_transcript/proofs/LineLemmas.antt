@@ -1,6 +1,5 @@
 -- For the laws: how often lines name a number of a subscriber.
 use Rattle.std.proofs.Common.{◌≡◌, ℕ, zero, suc, ◌+◌, ◌≤◌, ◌==◌, ◌||◌, Bool, true, false, cond, ◌<◌, List, [], ◌∷◌, ◌++◌, length, map, get_or, All, Contains, Option, Some, None, refl, sym, ◌∙◌, ap, subst, arith, inl, inr, append_assoc}
-use Rattle.std.specs.Prelude.{if◌then◌else◌}
 use Rattle.std.proofs.Math.ListN.{get_or-map, length-map}
 use Rattle.std.proofs.lemmas.Bool.{cases_eq}
 use Rattle.std.proofs.lemmas.Bool.Decides.{nat_tests}
@@ -15,11 +14,10 @@ use Rattle.auc_sqn.specs.Number.{most_bits, sqn_bytes, top_of}
 use Rattle.auc_sqn.proofs.Facts.{each_number_has_its_own_sqn}
 use Rattle.auc_vector.specs.declared.notes.NumberNote.{NumberNote}
 use Rattle.auc_vector.specs.declared.notes.NumberNote.TheVariants as number
-use Rattle.auc_record.specs.Event.{number_for, number_released, resync_for}
+use Rattle.auc_record.specs.Event.{number_released}
 use Rattle.auc_record.specs.declared.record.LineRecord.{LineRecord}
-use Rattle.auc_record.specs.declared.record.LineRecord.TheVariants.{Vector, Withheld, Exhausted, Sync, Give, Further, Event}
-use Rattle.auc_record.specs.Lines.{released_by, numbers_of, is_in}
-use Rattle.auc_record.specs.Entries.{entries_of_line, entries_of_lines, entries_of_number, entries_of_resync}
+use Rattle.auc_record.specs.Lines.{released_by, number_by, numbers_of, is_in, resync_by}
+use Rattle.auc_record.specs.Entries.{entries_of_lines, entries_of_number, entries_of_resync}
 
 -- ---- how often a number stands in a list
 
@@ -77,13 +75,7 @@ drawn-further : (n : ℕ) (numbers : List ℕ) (xs ys : List Entry) → times n 
 drawn-further n numbers xs ys rest =
     let cut = ap (times n) (flat_map-append drawn_by xs ys) ∙ times-append n (drawn xs) (drawn ys) in omega (arith, cut, rest)
 
--- a vector's number is drawn
-drawn-vector : (there : Bool) (n m : ℕ) (numbers : List ℕ) (entries : List Entry) → times n numbers ≤ times n (drawn entries)
-    → times n ((if there then m ∷ [] else []) ++ numbers) ≤ times n (drawn ((if there then Drawn m ∷ [] else []) ++ entries))
-drawn-vector true n m numbers entries rest = times-further n m numbers (drawn entries) rest
-drawn-vector false n m numbers entries rest = rest
-
--- the number that an event releases is drawn
+-- the number that a line releases is drawn, after what a resynchronisation stands for
 drawn-note : (n sub : ℕ) (before : List LineRecord) (note : Option NumberNote) (numbers : List ℕ) (entries : List Entry) → times n numbers ≤ times n (drawn entries)
     → times n (number_released note ++ numbers) ≤ times n (drawn (entries_of_number sub before note ++ entries))
 drawn-note n sub before None numbers entries rest = rest
@@ -91,32 +83,18 @@ drawn-note n sub before (Some (number.Drew m)) numbers entries rest = times-furt
 drawn-note n sub before (Some (number.Exhausted word)) numbers entries rest = drawn-further n numbers (entries_of_number sub before (Some (number.Exhausted word))) entries rest
 drawn-note n sub before (Some (number.Withheld m stop)) numbers entries rest = drawn-further n numbers (Drawn m ∷ []) entries rest
 
-drawn-event : (n sub : ℕ) (before : List LineRecord) (note : Option NumberNote) (synced : List Entry) (numbers : List ℕ) (entries : List Entry) → times n numbers ≤ times n (drawn entries)
+drawn-synced : (n sub : ℕ) (before : List LineRecord) (note : Option NumberNote) (synced : List Entry) (numbers : List ℕ) (entries : List Entry) → times n numbers ≤ times n (drawn entries)
     → times n (number_released note ++ numbers) ≤ times n (drawn ((synced ++ entries_of_number sub before note) ++ entries))
-drawn-event n sub before note synced numbers entries rest =
+drawn-synced n sub before note synced numbers entries rest =
     let more = drawn-further n (number_released note ++ numbers) synced (entries_of_number sub before note ++ entries) (drawn-note n sub before note numbers entries rest) in
     subst (λ (es : List Entry). times n (number_released note ++ numbers) ≤ times n (drawn es)) (sym (append_assoc synced (entries_of_number sub before note) entries)) more
 
 -- the numbers of the vectors of some lines are drawn by their entries
 pub times-numbers : (n sub : ℕ) (before lines : List LineRecord) → times n (numbers_of sub lines) ≤ times n (drawn (entries_of_lines sub before lines))
 times-numbers n sub before [] = omega arith
-times-numbers n sub before (Vector s m ∷ lines) =
-    drawn-vector (s == sub) n m (numbers_of sub lines) (entries_of_lines sub (before ++ Vector s m ∷ []) lines)
-    (times-numbers n sub (before ++ Vector s m ∷ []) lines)
-times-numbers n sub before (Withheld s m stop ∷ lines) =
-    drawn-further n (numbers_of sub lines) (entries_of_line sub before (Withheld s m stop)) (entries_of_lines sub (before ++ Withheld s m stop ∷ []) lines)
-    (times-numbers n sub (before ++ Withheld s m stop ∷ []) lines)
-times-numbers n sub before (Exhausted s word ∷ lines) =
-    drawn-further n (numbers_of sub lines) (entries_of_line sub before (Exhausted s word)) (entries_of_lines sub (before ++ Exhausted s word ∷ []) lines)
-    (times-numbers n sub (before ++ Exhausted s word ∷ []) lines)
-times-numbers n sub before (Sync s answer ∷ lines) =
-    drawn-further n (numbers_of sub lines) (entries_of_line sub before (Sync s answer)) (entries_of_lines sub (before ++ Sync s answer ∷ []) lines)
-    (times-numbers n sub (before ++ Sync s answer ∷ []) lines)
-times-numbers n sub before (Give s m answer ∷ lines) = times-numbers n sub (before ++ Give s m answer ∷ []) lines
-times-numbers n sub before (Further said ∷ lines) = times-numbers n sub (before ++ Further said ∷ []) lines
-times-numbers n sub before (Event r ∷ lines) =
-    drawn-event n sub before (number_for sub r) (entries_of_resync sub before (resync_for sub r)) (numbers_of sub lines) (entries_of_lines sub (before ++ Event r ∷ []) lines)
-    (times-numbers n sub (before ++ Event r ∷ []) lines)
+times-numbers n sub before (line ∷ lines) =
+    drawn-synced n sub before (number_by sub line) (entries_of_resync sub before (resync_by sub line)) (numbers_of sub lines) (entries_of_lines sub (before ++ line ∷ []) lines)
+    (times-numbers n sub (before ++ line ∷ []) lines)
 
 -- ---- two lists of lines
 

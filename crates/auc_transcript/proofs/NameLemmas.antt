@@ -11,10 +11,10 @@ use Rattle.auc_hmac.specs.declared.method.Method.TheVariants as method
 use Rattle.auc_ident.specs.Name.{is_kept}
 use Rattle.auc_ident.specs.Permanent.{username}
 use Rattle.auc_packet.specs.Messages.{is_missing}
-use Rattle.auc_packet.specs.Received.{Seen, is_sealed}
+use Rattle.auc_packet.specs.Received.{Seen, attrs_in, is_sealed}
 use Rattle.auc_packet.specs.declared.subtype.Subtype.TheVariants as subtype
 use Rattle.auc_peer.specs.Asking.{answer_noted}
-use Rattle.auc_peer.specs.Attributes.{attrs_in, checkcode, differs}
+use Rattle.auc_peer.specs.Attributes.{checkcode}
 use Rattle.auc_peer.specs.Identities.{adopted, renamed, under, with_next_context, with_next_pseudonym}
 use Rattle.auc_peer.specs.Subscription.{Subscription}
 use Rattle.auc_peer.specs.Table.{accepting, by_answer, by_counter, client, context_from, context_of, counted_up, disclosed, keys_at, kept_by, master_at, opened as peer_opened, own_code, peer_does, pseudonym_given, resumed_by, resuming, small, succeeded, taken, taken_up, with_inner}
@@ -29,6 +29,7 @@ use Rattle.auc_peer.specs.declared.peer.PeerState.{PeerState}
 use Rattle.auc_peer.specs.declared.peer.PeerState.TheVariants as state
 use Rattle.auc_peer.specs.declared.rows.Row.{Row as PeerRow}
 use Rattle.auc_peer.specs.declared.rows.Row.TheVariants as row
+use Rattle.auc_seal.specs.Checkcode.{differs}
 use Rattle.auc_vector.specs.declared.why.PeerWhy.{PeerWhy}
 use Rattle.auc_vector.specs.declared.why.PeerWhy.TheVariants as why
 use Rattle.auc_reauth.specs.Device.{Keeps, accepting as accepting_counter, advanced, is_open, nothing_kept, with_context, with_pseudonym}

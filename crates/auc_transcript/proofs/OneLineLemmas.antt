@@ -28,9 +28,10 @@ use Rattle.auc_record.specs.VectorAt.{vector_at, vector_of_row}
 use Rattle.auc_record.specs.declared.further.Further.TheVariants as further
 use Rattle.auc_record.specs.declared.record.GiveVerdict.{GiveVerdict}
 use Rattle.auc_record.specs.declared.record.LineRecord.{LineRecord}
-use Rattle.auc_record.specs.declared.record.LineRecord.TheVariants.{Vector, Withheld, Exhausted, Sync, Give, Further, Event}
-use Rattle.auc_record.specs.declared.record.SyncVerdict.{SyncVerdict}
-use Rattle.auc_record.specs.declared.record.SyncVerdict.TheVariants as verdict
+use Rattle.auc_record.specs.declared.record.LineRecord.TheVariants.{Number, Sync, Give, Further, Event}
+use Rattle.auc_vector.specs.declared.notes.NumberNote.TheVariants as number
+use Rattle.auc_vector.specs.declared.notes.ResyncNote.{ResyncNote}
+use Rattle.auc_vector.specs.declared.notes.ResyncNote.TheVariants as resync
 use Rattle.auc_world.proofs.Facts.{noted}
 
 -- ---- lists
@@ -54,18 +55,14 @@ same_rest xs ys rest others is same =
 
 -- a line that is told whole
 abbrev IsWhole : LineRecord → Type 0
-IsWhole (Vector sub n) = Unit {0}
-IsWhole (Withheld sub n stop) = Unit {0}
-IsWhole (Exhausted sub word) = Unit {0}
+IsWhole (Number sub note) = Unit {0}
 IsWhole (Sync sub answer) = Unit {0}
 IsWhole (Give sub n answer) = Unit {0}
 IsWhole (Further said) = ⊥
 IsWhole (Event r) = ⊥
 
 told_whole : (line : LineRecord) → IsWhole line → told_line line ≡ line
-told_whole (Vector sub n) is = refl
-told_whole (Withheld sub n stop) is = refl
-told_whole (Exhausted sub word) is = refl
+told_whole (Number sub note) is = refl
 told_whole (Sync sub answer) is = refl
 told_whole (Give sub n answer) is = refl
 told_whole (Further said) is = absurd is
@@ -77,9 +74,7 @@ whole_one a b is was same = sym (told_whole a is) ∙ same ∙ told_whole b was
 -- ---- a request for a vector, and what follows its number
 
 first_whole : (set : Setting) (sub : ℕ) (F : ℕ → List LineRecord → Type 0) (line : LineRecord) (lines : List LineRecord) → OneGives set sub F (line ∷ lines) → IsWhole line
-first_whole set sub F (Vector s n) lines gives = tt
-first_whole set sub F (Withheld s n stop) lines gives = tt
-first_whole set sub F (Exhausted s word) lines gives = tt
+first_whole set sub F (Number s note) lines gives = tt
 first_whole set sub F (Sync s answer) lines gives = absurd gives
 first_whole set sub F (Give s n answer) lines gives = absurd gives
 first_whole set sub F (Further said) lines gives = absurd gives
@@ -92,9 +87,9 @@ module _ (set : Setting) (sub : ℕ) (F G : ℕ → List LineRecord → Type 0) 
 
   after_first : (line : LineRecord) (xs ys rest others : List LineRecord) → OneGives set sub F (line ∷ xs) → OneGives set sub G (line ∷ ys)
       → told_job (xs ++ rest) ≡ told_job (ys ++ others) → FollowsOnce rest others → xs ≡ ys
-  after_first (Vector s n) xs ys rest others (same_sub, is, gives) (also_sub, was, gave) same once = once n xs ys gives gave same
-  after_first (Withheld s n stop) xs ys rest others (same_sub, first, last, none) (also_sub, from, to, nothing) same once = none ∙ sym nothing
-  after_first (Exhausted s word) xs ys rest others (same_sub, spent, none) (also_sub, was, nothing) same once = none ∙ sym nothing
+  after_first (Number s (number.Drew n)) xs ys rest others (same_sub, is, gives) (also_sub, was, gave) same once = once n xs ys gives gave same
+  after_first (Number s (number.Withheld n stop)) xs ys rest others (same_sub, first, last, none) (also_sub, from, to, nothing) same once = none ∙ sym nothing
+  after_first (Number s (number.Exhausted word)) xs ys rest others (same_sub, spent, none) (also_sub, was, nothing) same once = none ∙ sym nothing
   after_first (Sync s answer) xs ys rest others gives gave same once = absurd gives
   after_first (Give s n answer) xs ys rest others gives gave same once = absurd gives
   after_first (Further said) xs ys rest others gives gave same once = absurd gives
@@ -120,16 +115,16 @@ draw_one set sub (suc count) xs ys rest others gives gave same =
     let More : ℕ → List LineRecord → Type 0 = λ (n : ℕ) (more : List LineRecord). DrawGives set sub count more in
     one_one set sub More More xs ys rest others (λ n more also_more is was told. draw_one set sub count more also_more rest others is was told) gives gave same
 
--- what follows a verdict
-follow_one : (set : Setting) (sub count : ℕ) (answer : SyncVerdict) (xs ys rest others : List LineRecord) → VectorsFollow set sub count answer xs → VectorsFollow set sub count answer ys
+-- what follows a resynchronisation
+follow_one : (set : Setting) (sub count : ℕ) (note : ResyncNote) (xs ys rest others : List LineRecord) → VectorsFollow set sub count note xs → VectorsFollow set sub count note ys
     → told_job (xs ++ rest) ≡ told_job (ys ++ others) → xs ≡ ys
-follow_one set sub count (verdict.Moved seen seq_ms) xs ys rest others gives gave same = draw_one set sub count xs ys rest others gives gave same
-follow_one set sub count (verdict.InRange seen seq_ms) xs ys rest others gives gave same = draw_one set sub count xs ys rest others gives gave same
-follow_one set sub count (verdict.Beyond seen seq_ms) xs ys rest others none nothing same = none ∙ sym nothing
-follow_one set sub count verdict.WrongMac xs ys rest others none nothing same = none ∙ sym nothing
+follow_one set sub count (resync.Moved seen seq_ms) xs ys rest others gives gave same = draw_one set sub count xs ys rest others gives gave same
+follow_one set sub count (resync.InRange seen seq_ms) xs ys rest others gives gave same = draw_one set sub count xs ys rest others gives gave same
+follow_one set sub count (resync.Beyond seen seq_ms) xs ys rest others none nothing same = none ∙ sym nothing
+follow_one set sub count resync.BadAuts xs ys rest others none nothing same = none ∙ sym nothing
 
-sync_verdicts : (s t : ℕ) (a b : SyncVerdict) → Sync s a ≡ Sync t b → a ≡ b
-sync_verdicts s t a b e = cc
+sync_notes : (s t : ℕ) (a b : ResyncNote) → Sync s a ≡ Sync t b → a ≡ b
+sync_notes s t a b e = cc
 
 give_verdicts : (s t m n : ℕ) (a b : GiveVerdict) → Give s m a ≡ Give t n b → a ≡ b
 give_verdicts s t m n a b e = cc
@@ -137,14 +132,14 @@ give_verdicts s t m n a b e = cc
 pub sync_one : (set : Setting) (sub : ℕ) (report : Report) (count : ℕ) (xs ys rest others : List LineRecord) → SyncGives set sub report count xs → SyncGives set sub report count ys
     → told_job (xs ++ rest) ≡ told_job (ys ++ others) → xs ≡ ys
 sync_one set sub report count xs ys rest others gives gave same =
-    let a = gives.answer in
-    let b = gave.answer in
+    let a = gives.note in
+    let b = gave.note in
     let cut : Sync sub a ∷ told_job (gives.more ++ rest) ≡ Sync sub b ∷ told_job (gave.more ++ others) =
     ap (λ (ls : List LineRecord). told_job (ls ++ rest)) (sym gives.lines_are) ∙ same ∙ ap (λ (ls : List LineRecord). told_job (ls ++ others)) gave.lines_are in
-    let answers = sync_verdicts sub sub a b (heads (Sync sub a) (Sync sub b) (told_job (gives.more ++ rest)) (told_job (gave.more ++ others)) cut) in
-    let more = follow_one set sub count a gives.more gave.more rest others gives.follows (subst (λ (v : SyncVerdict). VectorsFollow set sub count v gave.more) (sym answers) gave.follows)
+    let notes = sync_notes sub sub a b (heads (Sync sub a) (Sync sub b) (told_job (gives.more ++ rest)) (told_job (gave.more ++ others)) cut) in
+    let more = follow_one set sub count a gives.more gave.more rest others gives.follows (subst (λ (note : ResyncNote). VectorsFollow set sub count note gave.more) (sym notes) gave.follows)
     (tails (Sync sub a) (Sync sub b) (told_job (gives.more ++ rest)) (told_job (gave.more ++ others)) cut) in
-    gives.lines_are ∙ conses (Sync sub a) (Sync sub b) gives.more gave.more (ap (Sync sub) answers) more ∙ sym gave.lines_are
+    gives.lines_are ∙ conses (Sync sub a) (Sync sub b) gives.more gave.more (ap (Sync sub) notes) more ∙ sym gave.lines_are
 
 -- lines that a USIM's answer to a vector determines: the answer is told
 pub answered_one : (sub n : ℕ) (more : GiveVerdict → List LineRecord) (xs ys rest others : List LineRecord) (a b : GiveVerdict) → xs ≡ Give sub n a ∷ more a → ys ≡ Give sub n b ∷ more b
@@ -188,8 +183,8 @@ eps_one set sub snid xs ys rest others gives gave same =
 pub fiveg_one : (set : Setting) (before also_before : Before) (l : FivegLine) (xs ys rest others : List LineRecord) → FivegGives set before l xs → FivegGives set also_before l ys
     → told_job (xs ++ rest) ≡ told_job (ys ++ others) → xs ≡ ys
 fiveg_one set before also_before l xs ys rest others gives gave same =
-    let place : ℕ → Before = λ (n : ℕ). behind before (Vector l.sub n ∷ []) in
-    let also_place : ℕ → Before = λ (n : ℕ). behind also_before (Vector l.sub n ∷ []) in
+    let place : ℕ → Before = λ (n : ℕ). behind before (Number l.sub (number.Drew n) ∷ []) in
+    let also_place : ℕ → Before = λ (n : ℕ). behind also_before (Number l.sub (number.Drew n) ∷ []) in
     one_one set l.sub (λ n more. FivegFollows set (place n) l n more) (λ n more. FivegFollows set (also_place n) l n more) xs ys rest others
     (λ n more also_more f g told. fiveg_follows_one set (place n) (also_place n) l n more also_more rest others f g told) gives gave same
 

@@ -30,7 +30,7 @@ use Rattle.auc_record.specs.declared.event.EventRecord.{EventRecord}
 use Rattle.auc_world.specs.declared.net.SentPacket.{SentPacket}
 use Rattle.auc_world.specs.declared.net.Session.{Session}
 use Rattle.auc_record.specs.declared.record.LineRecord.{LineRecord}
-use Rattle.auc_record.specs.declared.record.LineRecord.TheVariants.{Vector, Withheld, Exhausted, Sync, Give, Further, Event}
+use Rattle.auc_record.specs.declared.record.LineRecord.TheVariants.{Number, Sync, Give, Further, Event}
 use Rattle.auc_record.specs.declared.record.PartRecord.{PartRecord}
 use Rattle.auc_record.specs.declared.record.PartRecord.TheVariants as record_of
 use Rattle.auc_world.proofs.Facts.{AreAt}
@@ -69,9 +69,7 @@ module _ (set : Setting) where
 
   -- a line outside sessions leaves the network as it is
   quiet_line : (before : Before) (w : Net) (line : LineRecord) → IsOutsideSessions line → LineLeads set before w line w
-  quiet_line before w (Vector sub n) is = refl
-  quiet_line before w (Withheld sub n stop) is = refl
-  quiet_line before w (Exhausted sub word) is = refl
+  quiet_line before w (Number sub note) is = refl
   quiet_line before w (Sync sub answer) is = refl
   quiet_line before w (Give sub n answer) is = refl
   quiet_line before w (Further said) is = refl
@@ -118,9 +116,7 @@ result_of a b same = cc
 
 module _ (laws : Laws) (set : Setting) where
   one_line : (before : Before) (w a b : Net) (line : LineRecord) → LineLeads set before w line a → LineLeads set before w line b → a ≡ b
-  one_line before w a b (Vector sub n) first second = first ∙ sym second
-  one_line before w a b (Withheld sub n stop) first second = first ∙ sym second
-  one_line before w a b (Exhausted sub word) first second = first ∙ sym second
+  one_line before w a b (Number sub note) first second = first ∙ sym second
   one_line before w a b (Sync sub answer) first second = first ∙ sym second
   one_line before w a b (Give sub n answer) first second = first ∙ sym second
   one_line before w a b (Further said) first second = first ∙ sym second
@@ -149,9 +145,7 @@ record Stands (set : Setting) (start w : Net) : Type 0 where
   placed : AreAt (IsPlaced set start.devices) w.sessions
 
 line_stands : (set : Setting) (start : Net) (before : Before) (w next : Net) (line : LineRecord) → LineLeads set before w line next → Stands set start w → Stands set start next
-line_stands set start before w next (Vector sub n) leads st = subst (Stands set start) (sym leads) st
-line_stands set start before w next (Withheld sub n stop) leads st = subst (Stands set start) (sym leads) st
-line_stands set start before w next (Exhausted sub word) leads st = subst (Stands set start) (sym leads) st
+line_stands set start before w next (Number sub note) leads st = subst (Stands set start) (sym leads) st
 line_stands set start before w next (Sync sub answer) leads st = subst (Stands set start) (sym leads) st
 line_stands set start before w next (Give sub n answer) leads st = subst (Stands set start) (sym leads) st
 line_stands set start before w next (Further said) leads st = subst (Stands set start) (sym leads) st

@@ -18,7 +18,7 @@ use Rattle.auc_subs.specs.Setting.{Setting}
 use Rattle.auc_record.specs.declared.event.Event.{Event as Happens}
 use Rattle.auc_record.specs.declared.event.Event.TheVariants as event
 use Rattle.auc_record.specs.declared.record.LineRecord.{LineRecord}
-use Rattle.auc_record.specs.declared.record.LineRecord.TheVariants.{Vector, Withheld, Exhausted, Sync, Give, Further, Event}
+use Rattle.auc_record.specs.declared.record.LineRecord.TheVariants.{Number, Sync, Give, Further, Event}
 use Rattle.auc_transcript.specs.Completeness.{is_of_session, records_of, session_in, session_named}
 use Rattle.auc_transcript.specs.Headline.{IsOutsideSessions}
 use Rattle.auc_transcript.proofs.KindLemmas.{by_kind, line_of, quiet_gives}
@@ -52,9 +52,7 @@ outside_none session (l ∷ lines) all =
     ∙ outside_none session lines (All-tail IsOutsideSessions l lines all)
   where
     one : (l : LineRecord) → IsOutsideSessions l → is_of_session session l ≡ false
-    one (Vector sub n) is = refl
-    one (Withheld sub n stop) is = refl
-    one (Exhausted sub word) is = refl
+    one (Number sub note) is = refl
     one (Sync sub answer) is = refl
     one (Give sub n answer) is = refl
     one (Further said) is = refl

@@ -7,7 +7,7 @@ use Rattle.std.proofs.lemmas.List.Elements.{Contains-append_left, Contains-appen
 use Rattle.std.proofs.lemmas.List.Quantifiers.{position-Some}
 use Rattle.std.proofs.lemmas.List.Sorted.{Contains-permutation}
 use Rattle.std.proofs.lemmas.Option.{get_or_from_slice_get, slice_get-get_or, slice_get_within}
-use Rattle.auc_edge.specs.declared.stop.Stop.{Stop}
+use Rattle.auc_memory.specs.declared.stop.Stop.{Stop}
 use Rattle.auc_lines.specs.Part.{IsShortIdentity, held_subs}
 use Rattle.auc_lines.specs.declared.part.End.{End}
 use Rattle.auc_lines.specs.declared.part.End.TheVariants as end

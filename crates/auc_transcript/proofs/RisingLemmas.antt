@@ -1,8 +1,7 @@
 -- For the law of leases: the numbers that a job releases for a subscriber rise, since its entries are a part of a history.
-use Rattle.std.proofs.Common.{◌≡◌, ℕ, zero, ◌<◌, ◌==◌, Bool, true, false, List, [], ◌∷◌, ◌++◌, length, get_or, All, Contains, Option, Some, None, refl, sym, subst, arith}
-use Rattle.std.specs.Prelude.{if◌then◌else◌}
+use Rattle.std.proofs.Common.{◌≡◌, ℕ, zero, ◌<◌, List, [], ◌∷◌, ◌++◌, length, get_or, All, Contains, Option, Some, None, refl, sym, subst, arith}
 use Rattle.std.proofs.lemmas.List.Elements.{All-append, All-cons, All-head, All-nil, All-tail, Contains-append_left, Contains-append_right}
-use Rattle.auc_edge.specs.declared.stop.Stop.{Stop}
+use Rattle.auc_memory.specs.declared.stop.Stop.{Stop}
 use Rattle.auc_history.specs.History.{IsBefore, IsInOrder}
 use Rattle.auc_history.specs.declared.entry.Entry.{Entry}
 use Rattle.auc_history.specs.declared.entry.Entry.TheVariants.{Drawn}
@@ -13,12 +12,11 @@ use Rattle.auc_sites.specs.Lease.{IsRising}
 use Rattle.auc_vector.specs.declared.notes.NumberNote.{NumberNote}
 use Rattle.auc_vector.specs.declared.notes.NumberNote.TheVariants as number
 use Rattle.auc_record.specs.Entries.{entries_of_jobs, entries_of_line, entries_of_lines, entries_of_number, entries_of_resync}
-use Rattle.auc_record.specs.Event.{number_for, number_released, resync_for}
-use Rattle.auc_record.specs.Lines.{numbers_of, released_by}
+use Rattle.auc_record.specs.Event.{number_released}
+use Rattle.auc_record.specs.Lines.{number_by, numbers_of, released_by, resync_by}
 use Rattle.auc_subs.specs.Setting.{Setting}
 use Rattle.auc_world.specs.Transcript.{Course, IsLawful, Leads, after_restart, after_round, beginning}
 use Rattle.auc_record.specs.declared.record.LineRecord.{LineRecord}
-use Rattle.auc_record.specs.declared.record.LineRecord.TheVariants.{Vector, Withheld, Exhausted, Sync, Give, Further, Event}
 use Rattle.auc_record.specs.declared.record.PartRecord.{PartRecord}
 use Rattle.auc_record.specs.declared.record.PartRecord.TheVariants as record_of
 use Rattle.auc_world.proofs.Facts.{length-opened}
@@ -57,20 +55,10 @@ more_rise xs ys es fs order first rest = record {
 -- ---- lines
 
 line_rises : (sub : ℕ) (before : List LineRecord) (l : LineRecord) → Rise (released_by sub l) (entries_of_line sub before l)
-line_rises sub before (Vector s n) = by (s == sub)
-  where
-    by : (own : Bool) → Rise (if own then n ∷ [] else []) (if own then Drawn n ∷ [] else [])
-    by true = one_rises n (Drawn n ∷ []) (zero, omega arith, refl)
-    by false = nothing_rises []
-line_rises sub before (Withheld s n stop) = nothing_rises (entries_of_line sub before (Withheld s n stop))
-line_rises sub before (Exhausted s word) = nothing_rises (entries_of_line sub before (Exhausted s word))
-line_rises sub before (Sync s answer) = nothing_rises (entries_of_line sub before (Sync s answer))
-line_rises sub before (Give s n answer) = nothing_rises []
-line_rises sub before (Further said) = nothing_rises []
-line_rises sub before (Event r) = by (number_for sub r)
+line_rises sub before l = by (number_by sub l)
   where
     front : List Entry
-    front = entries_of_resync sub before (resync_for sub r)
+    front = entries_of_resync sub before (resync_by sub l)
 
     by : (note : Option NumberNote) → Rise (number_released note) (front ++ entries_of_number sub before note)
     by None = nothing_rises (front ++ [])

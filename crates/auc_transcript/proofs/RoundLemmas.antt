@@ -1,7 +1,6 @@
 -- For the laws: what the entries of a subscriber in one round cover and draw.
-use Rattle.std.proofs.Common.{◌≡◌, ℕ, ◌+◌, ◌≤◌, ◌==◌, ◌&&◌, nat_lt, nat_le, Bool, true, false, Option, Some, None, List, [], ◌∷◌, ◌++◌, refl, sym, ◌∙◌, ap, subst, arith, min, max, append_assoc, append-nil}
+use Rattle.std.proofs.Common.{◌≡◌, ℕ, ◌+◌, ◌≤◌, ◌&&◌, nat_lt, nat_le, Bool, true, false, Option, Some, None, List, [], ◌∷◌, ◌++◌, refl, sym, ◌∙◌, ap, arith, min, max, append_assoc, append-nil}
 use Rattle.std.specs.Prelude.{if◌then◌else◌}
-use Rattle.std.proofs.lemmas.Bool.{eqb-true}
 use Rattle.std.proofs.lemmas.Bool.Decides.{nat_tests}
 use Rattle.std.proofs.lemmas.List.Concat.{flat_map-append}
 use Rattle.auc_history.specs.declared.entry.Entry.{Entry}
@@ -14,19 +13,16 @@ use Rattle.auc_vector.specs.declared.notes.NumberNote.{NumberNote}
 use Rattle.auc_vector.specs.declared.notes.NumberNote.TheVariants as number
 use Rattle.auc_vector.specs.declared.notes.ResyncNote.{ResyncNote}
 use Rattle.auc_vector.specs.declared.notes.ResyncNote.TheVariants as resync
-use Rattle.auc_record.specs.Event.{number_for, number_released, number_withheld, resync_for}
+use Rattle.auc_record.specs.Event.{number_released, number_withheld}
 use Rattle.auc_record.specs.declared.record.LineRecord.{LineRecord}
-use Rattle.auc_record.specs.declared.record.LineRecord.TheVariants.{Vector, Withheld, Exhausted, Sync, Give, Further, Event}
 use Rattle.auc_record.specs.declared.record.RoundRecord.{RoundRecord}
-use Rattle.auc_record.specs.declared.record.SyncVerdict.{SyncVerdict}
-use Rattle.auc_record.specs.declared.record.SyncVerdict.TheVariants as verdict
-use Rattle.auc_record.specs.Lines.{numbers_of, withheld_of, all_lines}
-use Rattle.auc_record.specs.Entries.{is_reported, entries_of_verdict, entries_of_resync, entries_of_number, entries_of_line, entries_of_lines, entries_of_jobs}
+use Rattle.auc_record.specs.Lines.{number_by, numbers_of, resync_by, withheld_of, all_lines}
+use Rattle.auc_record.specs.Entries.{is_reported, entries_of_resync, entries_of_number, entries_of_line, entries_of_lines, entries_of_jobs}
 use Rattle.auc_subs.specs.Setting.{Setting}
 use Rattle.auc_world.specs.Transcript.{entries_of}
 use Rattle.auc_transcript.proofs.EventLemmas.{IsNoteServed}
 use Rattle.auc_transcript.proofs.LineLemmas.{times-numbers}
-use Rattle.auc_transcript.proofs.ServedLemmas.{AreServed}
+use Rattle.auc_transcript.proofs.ServedLemmas.{AreServed, note_of_line_served}
 
 -- ---- what entries cover
 
@@ -97,56 +93,28 @@ round_drawn n sub round =
 -- ---- drawn numbers that vectors may have are released or withheld
 
 -- a released number
-told_vector : (there : Bool) (n m many : ℕ) (numbers : List ℕ) (entries : List Entry) → times n (drawn entries) ≤ times n numbers + many
-    → times n (drawn ((if there then Drawn m ∷ [] else []) ++ entries)) ≤ times n ((if there then m ∷ [] else []) ++ numbers) + many
-told_vector true n m many numbers entries rest =
+told_drawn : (n m many : ℕ) (numbers : List ℕ) (entries : List Entry) → times n (drawn entries) ≤ times n numbers + many → times n (drawn (Drawn m ∷ entries)) ≤ times n (m ∷ numbers) + many
+told_drawn n m many numbers entries rest =
     let these = times-cons n m (drawn entries) in let those = times-cons n m numbers in omega (arith, rest, these, those)
-told_vector false n m many numbers entries rest = rest
 
 -- a withheld one
-told_withheld : (there : Bool) (n m many : ℕ) (numbers : List ℕ) (entries : List Entry) → times n (drawn entries) ≤ many + times n numbers
-    → times n (drawn ((if there then Drawn m ∷ [] else []) ++ entries)) ≤ many + times n ((if there then m ∷ [] else []) ++ numbers)
-told_withheld true n m many numbers entries rest =
+told_withheld : (n m many : ℕ) (numbers : List ℕ) (entries : List Entry) → times n (drawn entries) ≤ many + times n numbers → times n (drawn (Drawn m ∷ entries)) ≤ many + times n (m ∷ numbers)
+told_withheld n m many numbers entries rest =
     let these = times-cons n m (drawn entries) in let those = times-cons n m numbers in omega (arith, rest, these, those)
-told_withheld false n m many numbers entries rest = rest
 
 -- a mark is above all of them
 mark_apart : (top n word : ℕ) → n ≤ top → top ≤ word → times n ((word + 1) ∷ []) ≡ 0
 mark_apart top n word within spent = let cut = times-cons n (word + 1) [] in grind (arith, nat_tests, cut)
 
-no_mark : (there known : Bool) (top n word : ℕ) → n ≤ top → top ≤ word
-    → times n (drawn (if there then (if known then [] else Drawn (word + 1) ∷ []) else [])) ≡ 0
-no_mark true true top n word within spent = refl
-no_mark true false top n word within spent = mark_apart top n word within spent
-no_mark false known top n word within spent = refl
-
--- that of a subscriber is the subscriber's own greatest number at least
-no_mark_of : (there known : Bool) (set : Setting) (n s sub word : ℕ) → (s == sub) ≡ there → n ≤ top_at set.rows sub → top_at set.rows s ≤ word
-    → times n (drawn (if there then (if known then [] else Drawn (word + 1) ∷ []) else [])) ≡ 0
-no_mark_of true known set n s sub word mine within spent =
-    no_mark true known (top_at set.rows sub) n word within (subst (λ (k : ℕ). top_at set.rows k ≤ word) (eqb-true s sub mine) spent)
-no_mark_of false known set n s sub word mine within spent = refl
+no_mark : (known : Bool) (top n word : ℕ) → n ≤ top → top ≤ word → times n (drawn (if known then [] else Drawn (word + 1) ∷ [])) ≡ 0
+no_mark true top n word within spent = refl
+no_mark false top n word within spent = mark_apart top n word within spent
 
 -- a resynchronisation draws nothing
 no_look : (known : Bool) (n seen : ℕ) → times n (drawn (if known then [] else Look seen ∷ [])) ≡ 0
 no_look true n seen = refl
 no_look false n seen = refl
 
-no_draw : (n sub : ℕ) (before : List LineRecord) (answer : SyncVerdict) → times n (drawn (entries_of_verdict sub before answer)) ≡ 0
-no_draw n sub before (verdict.Moved from to) = refl
-no_draw n sub before (verdict.InRange seen seq_ms) = no_look (is_reported sub seen before) n seen
-no_draw n sub before (verdict.Beyond seen seq_ms) = no_look (is_reported sub seen before) n seen
-no_draw n sub before verdict.WrongMac = refl
-
-no_draw_of : (there : Bool) (n sub : ℕ) (before : List LineRecord) (answer : SyncVerdict) → times n (drawn (if there then entries_of_verdict sub before answer else [])) ≡ 0
-no_draw_of true n sub before answer = no_draw n sub before answer
-no_draw_of false n sub before answer = refl
-
--- entries that don't draw it change nothing
-told_apart : (n many : ℕ) (xs ys : List Entry) → times n (drawn xs) ≡ 0 → times n (drawn ys) ≤ many → times n (drawn (xs ++ ys)) ≤ many
-told_apart n many xs ys none rest = let cut = times-drawn-append n xs ys in omega (arith, cut, none, rest)
-
--- an event: its resynchronisation draws nothing, and what its number draws it releases or withholds
 no_resync : (n sub : ℕ) (before : List LineRecord) (note : Option ResyncNote) → times n (drawn (entries_of_resync sub before note)) ≡ 0
 no_resync n sub before None = refl
 no_resync n sub before (Some (resync.Moved from to)) = refl
@@ -154,19 +122,24 @@ no_resync n sub before (Some (resync.InRange seen seq)) = no_look (is_reported s
 no_resync n sub before (Some (resync.Beyond seen seq)) = no_look (is_reported sub seen before) n seen
 no_resync n sub before (Some resync.BadAuts) = refl
 
+-- entries that don't draw it change nothing
+told_apart : (n many : ℕ) (xs ys : List Entry) → times n (drawn xs) ≡ 0 → times n (drawn ys) ≤ many → times n (drawn (xs ++ ys)) ≤ many
+told_apart n many xs ys none rest = let cut = times-drawn-append n xs ys in omega (arith, cut, none, rest)
+
+-- what a line's number draws, it releases or withholds, after a resynchronisation too
 told_number : (top n sub : ℕ) (before : List LineRecord) (note : Option NumberNote) (numbers withheld : List ℕ) (entries : List Entry) → n ≤ top → IsNoteServed top note
     → times n (drawn entries) ≤ times n numbers + times n withheld
     → times n (drawn (entries_of_number sub before note ++ entries)) ≤ times n (number_released note ++ numbers) + times n (number_withheld note ++ withheld)
 told_number top n sub before None numbers withheld entries within is rest = rest
-told_number top n sub before (Some (number.Drew m)) numbers withheld entries within is rest = told_vector true n m (times n withheld) numbers entries rest
+told_number top n sub before (Some (number.Drew m)) numbers withheld entries within is rest = told_drawn n m (times n withheld) numbers entries rest
 told_number top n sub before (Some (number.Exhausted word)) numbers withheld entries within is rest =
-    told_apart n (times n numbers + times n withheld) (entries_of_number sub before (Some (number.Exhausted word))) entries (no_mark true (is_reported sub word before) top n word within is) rest
-told_number top n sub before (Some (number.Withheld m stop)) numbers withheld entries within is rest = told_withheld true n m (times n numbers) withheld entries rest
+    told_apart n (times n numbers + times n withheld) (entries_of_number sub before (Some (number.Exhausted word))) entries (no_mark (is_reported sub word before) top n word within is) rest
+told_number top n sub before (Some (number.Withheld m stop)) numbers withheld entries within is rest = told_withheld n m (times n numbers) withheld entries rest
 
-told_event : (top n sub : ℕ) (before : List LineRecord) (synced : Option ResyncNote) (note : Option NumberNote) (numbers withheld : List ℕ) (entries : List Entry) → n ≤ top
+told_synced : (top n sub : ℕ) (before : List LineRecord) (synced : Option ResyncNote) (note : Option NumberNote) (numbers withheld : List ℕ) (entries : List Entry) → n ≤ top
     → IsNoteServed top note → times n (drawn entries) ≤ times n numbers + times n withheld
     → times n (drawn ((entries_of_resync sub before synced ++ entries_of_number sub before note) ++ entries)) ≤ times n (number_released note ++ numbers) + times n (number_withheld note ++ withheld)
-told_event top n sub before synced note numbers withheld entries within is rest =
+told_synced top n sub before synced note numbers withheld entries within is rest =
     let here = entries_of_resync sub before synced in
     let of_number = entries_of_number sub before note in
     let cut = ap (λ (es : List Entry). times n (drawn es)) (append_assoc here of_number entries) in
@@ -178,27 +151,9 @@ told_event top n sub before synced note numbers withheld entries within is rest 
 drawn_told : (set : Setting) (n sub : ℕ) (start before lines : List LineRecord) → n ≤ top_at set.rows sub → AreServed set start lines
     → times n (drawn (entries_of_lines sub before lines)) ≤ times n (numbers_of sub lines) + times n (withheld_of sub lines)
 drawn_told set n sub start before [] within served = omega arith
-drawn_told set n sub start before (Vector s m ∷ lines) within (is, more) =
-    told_vector (s == sub) n m (times n (withheld_of sub lines)) (numbers_of sub lines) (entries_of_lines sub (before ++ Vector s m ∷ []) lines)
-    (drawn_told set n sub (start ++ Vector s m ∷ []) (before ++ Vector s m ∷ []) lines within more)
-drawn_told set n sub start before (Withheld s m stop ∷ lines) within (is, more) =
-    told_withheld (s == sub) n m (times n (numbers_of sub lines)) (withheld_of sub lines) (entries_of_lines sub (before ++ Withheld s m stop ∷ []) lines)
-    (drawn_told set n sub (start ++ Withheld s m stop ∷ []) (before ++ Withheld s m stop ∷ []) lines within more)
-drawn_told set n sub start before (Exhausted s word ∷ lines) within (spent, more) =
-    told_apart n (times n (numbers_of sub lines) + times n (withheld_of sub lines)) (entries_of_line sub before (Exhausted s word)) (entries_of_lines sub (before ++ Exhausted s word ∷ []) lines)
-    (no_mark_of (s == sub) (is_reported sub word before) set n s sub word refl within spent)
-    (drawn_told set n sub (start ++ Exhausted s word ∷ []) (before ++ Exhausted s word ∷ []) lines within more)
-drawn_told set n sub start before (Sync s answer ∷ lines) within (is, more) =
-    told_apart n (times n (numbers_of sub lines) + times n (withheld_of sub lines)) (entries_of_line sub before (Sync s answer)) (entries_of_lines sub (before ++ Sync s answer ∷ []) lines)
-    (no_draw_of (s == sub) n sub before answer)
-    (drawn_told set n sub (start ++ Sync s answer ∷ []) (before ++ Sync s answer ∷ []) lines within more)
-drawn_told set n sub start before (Give s m answer ∷ lines) within (is, more) =
-    drawn_told set n sub (start ++ Give s m answer ∷ []) (before ++ Give s m answer ∷ []) lines within more
-drawn_told set n sub start before (Further said ∷ lines) within (is, more) =
-    drawn_told set n sub (start ++ Further said ∷ []) (before ++ Further said ∷ []) lines within more
-drawn_told set n sub start before (Event r ∷ lines) within (is, more) =
-    told_event (top_at set.rows sub) n sub before (resync_for sub r) (number_for sub r) (numbers_of sub lines) (withheld_of sub lines) (entries_of_lines sub (before ++ Event r ∷ []) lines) within
-    (is.numbers sub) (drawn_told set n sub (start ++ Event r ∷ []) (before ++ Event r ∷ []) lines within more)
+drawn_told set n sub start before (line ∷ lines) within (is, more) =
+    told_synced (top_at set.rows sub) n sub before (resync_by sub line) (number_by sub line) (numbers_of sub lines) (withheld_of sub lines) (entries_of_lines sub (before ++ line ∷ []) lines) within
+    (note_of_line_served set start sub line is) (drawn_told set n sub (start ++ line ∷ []) (before ++ line ∷ []) lines within more)
 
 -- what a round draws, it releases or withholds
 pub round_told : (set : Setting) (n sub : ℕ) (early : List LineRecord) (round : RoundRecord) → n ≤ top_at set.rows sub → AreServed set early (all_lines round.jobs)

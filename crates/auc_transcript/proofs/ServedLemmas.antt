@@ -2,7 +2,7 @@
 use Rattle.std.proofs.Common.{◌≡◌, ◌≢◌, ℕ, ◌≤◌, Bool, true, false, Option, List, [], ◌∷◌, ◌++◌, Some, None, refl, sym, subst, arith, inl, inr, append_assoc, append-nil}
 use Rattle.std.specs.Prelude.{slice_get}
 use Rattle.std.proofs.lemmas.Bool.{or_cases}
-use Rattle.auc_edge.specs.declared.stop.Stop.{Stop}
+use Rattle.auc_memory.specs.declared.stop.Stop.{Stop}
 use Rattle.auc_history.specs.Split.{times}
 use Rattle.auc_lines.specs.declared.part.End.{End}
 use Rattle.auc_lines.specs.declared.part.End.TheVariants as end
@@ -14,10 +14,10 @@ use Rattle.auc_subs.specs.declared.row.Row.{Row}
 use Rattle.auc_record.specs.declared.record.GiveVerdict.{GiveVerdict}
 use Rattle.auc_record.specs.declared.record.GiveVerdict.TheVariants as given
 use Rattle.auc_record.specs.declared.record.LineRecord.{LineRecord}
-use Rattle.auc_record.specs.declared.record.LineRecord.TheVariants.{Vector, Withheld, Exhausted, Sync, Give, Further, Event}
+use Rattle.auc_record.specs.declared.record.LineRecord.TheVariants.{Number, Sync, Give, Further, Event}
 use Rattle.auc_record.specs.declared.record.PartRecord.{PartRecord}
 use Rattle.auc_record.specs.declared.record.PartRecord.TheVariants as record_of
-use Rattle.auc_record.specs.Lines.{numbers_of, all_lines}
+use Rattle.auc_record.specs.Lines.{number_by, numbers_of, all_lines}
 use Rattle.auc_world.specs.Given.{Before, EventGives, PlainGives, RelayGives, is_released, packet_of, past_before, past_by, verdict_by, UsimAnswers, IsGiven, LineGives, behind, JobGives, JobsGive}
 use Rattle.auc_world.specs.Net.{Net, other}
 use Rattle.auc_world.specs.Start.{Kept, start_of}
@@ -25,7 +25,7 @@ use Rattle.auc_record.specs.declared.event.Event.{Event as Happens}
 use Rattle.auc_record.specs.declared.event.Event.TheVariants as event
 use Rattle.auc_subs.specs.Setting.{Setting}
 use Rattle.auc_world.specs.Transcript.{Course, Leads, after_round, after_restart, lines_of}
-use Rattle.auc_transcript.proofs.EventLemmas.{IsEventServed, all_before, event_served}
+use Rattle.auc_transcript.proofs.EventLemmas.{IsEventServed, IsNoteServed, all_before, event_served, note_served}
 use Rattle.auc_transcript.proofs.KindLemmas.{AreKnown, IsKnown, by_kind, event_gives}
 use Rattle.auc_transcript.proofs.LineLemmas.{times-from_is_in, times-numbers-append}
 
@@ -36,16 +36,22 @@ pub record IsAnswered (set : Setting) (before : List LineRecord) (sub n : ℕ) (
   pub released : 1 ≤ times n (numbers_of sub before)
   pub answers : UsimAnswers row.bits (verdict_by row (past_by row sub before) n) (past_by row sub before) answer
 
--- what a line is, after the lines before it: a vector has a number, the word of a spent subscriber is no number
--- that one may still have, a presented vector was answered, and an event was served
+-- what a line is, after the lines before it: the centre's note is one that it may give, a presented vector was answered, and an event
+-- was served
 abbrev pub IsServed : Setting → List LineRecord → LineRecord → Type 0
-IsServed set before (Vector s m) = m ≤ top_at set.rows s
-IsServed set before (Withheld s n stop) = Unit {0}
-IsServed set before (Exhausted s word) = top_at set.rows s ≤ word
+IsServed set before (Number s note) = IsNoteServed (top_at set.rows s) (Some note)
 IsServed set before (Sync s answer) = Unit {0}
 IsServed set before (Give s n answer) = answer ≢ given.Absent → IsAnswered set before s n answer
 IsServed set before (Further said) = Unit {0}
 IsServed set before (Event r) = IsEventServed set before r.result
+
+-- the note of such a line is so for each subscriber
+pub note_of_line_served : (set : Setting) (before : List LineRecord) (sub : ℕ) (line : LineRecord) → IsServed set before line → IsNoteServed (top_at set.rows sub) (number_by sub line)
+note_of_line_served set before sub (Number s note) is = note_served set s sub (Some note) is
+note_of_line_served set before sub (Sync s note) is = tt
+note_of_line_served set before sub (Give s n answer) is = tt
+note_of_line_served set before sub (Further said) is = tt
+note_of_line_served set before sub (Event r) is = is.numbers sub
 
 -- what lines are, one after the other
 abbrev pub AreServed : Setting → List LineRecord → List LineRecord → Type 0
@@ -103,9 +109,7 @@ known_served set place (line ∷ lines) (first, more) =
     (one line first, subst (λ (ls : List LineRecord). AreServed set ls lines) (all_behind place (line ∷ [])) (known_served set (behind place (line ∷ [])) lines more))
   where
     one : (l : LineRecord) → IsKnown set place l → IsServed set (all_before place) l
-    one (Vector s n) is = is.last
-    one (Withheld s n stop) is = tt
-    one (Exhausted s word) is = is
+    one (Number s note) is = is
     one (Sync s answer) is = tt
     one (Give s n answer) (row, there, given) = given_answered set place s n row answer (is_released place s n) refl there given
     one (Further said) is = tt

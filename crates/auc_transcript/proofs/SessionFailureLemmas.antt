@@ -2,11 +2,10 @@
 use Rattle.std.proofs.Common.{◌≡◌, ◌↔◌, ℕ, ◌≤◌, List, [], ◌∷◌, ◌++◌, map, Option, Some, Contains, sym, ap, ◌∙◌, subst}
 use Rattle.std.specs.Prelude.{slice_get}
 use Rattle.std.proofs.lemmas.List.Elements.{All-contains}
-use Rattle.auc_edge.specs.declared.stop.Stop.{Stop}
+use Rattle.auc_memory.specs.declared.stop.Stop.{Stop}
 use Rattle.auc_lines.specs.declared.part.Part.{Part}
-use Rattle.auc_packet.specs.Received.{OneReceived, Seen}
+use Rattle.auc_packet.specs.Received.{OneReceived, Seen, attrs_in}
 use Rattle.auc_peer.specs.Asking.{answer_noted}
-use Rattle.auc_peer.specs.Attributes.{attrs_in}
 use Rattle.auc_peer.specs.declared.peer.Challenge.{Challenge}
 use Rattle.auc_request.specs.Request.{autn_of as autn_value, first_value, rand_of as rand_value}
 use Rattle.auc_sqn.specs.Past.{Past}

@@ -5,7 +5,8 @@ use Rattle.std.specs.Prelude.{slice_index}
 use Rattle.std.proofs.lemmas.Bool.{eqb-true}
 use Rattle.std.proofs.lemmas.List.{length-append, length-map}
 use Rattle.std.proofs.lemmas.List.Elements.{All-cons, All-nil}
-use Rattle.auc_edge.specs.Identity.{digits_of, last_digits}
+use Rattle.auc_memory.specs.Identity.{digits_of, last_digits}
+use Rattle.auc_ident.specs.Permanent.{with_realm}
 use Rattle.auc_lines.specs.Sim.{IsSimValue, SimValue}
 use Rattle.auc_lines.specs.declared.part.Line.{Line}
 use Rattle.auc_lines.specs.declared.part.Line.TheVariants as line
@@ -13,7 +14,7 @@ use Rattle.auc_lines.specs.declared.part.Part.{Part}
 use Rattle.auc_lines.specs.declared.part.Part.TheVariants as part
 use Rattle.auc_lines.specs.declared.sim.SimSchedule.{SimSchedule}
 use Rattle.auc_random.specs.Random.{rand_of, sim_nonce}
-use Rattle.auc_sim.specs.Identity.{sim_identity, with_realm}
+use Rattle.auc_sim.specs.Identity.{sim_identity}
 use Rattle.auc_sim.specs.Session.{SimRuns}
 use Rattle.auc_sim.specs.SessionLaws.{AreMatched, EachCardHasTheTripletOfItsVector, EachPlainSessionSucceeds, EachSessionAgrees}
 use Rattle.auc_sim.specs.Triplets.{card_of, of_vector}

@@ -1,7 +1,7 @@
 -- For the witnesses of the law of sessions of EAP-SIM: what is drawn for a line, and what is said of its session.
 use Rattle.std.proofs.Common.{◌≡◌, ◌≢◌, ℕ, zero, suc, Bool, true, false, List, [], ◌∷◌, ◌++◌, length, All, AllPairs, refl, sym, ap, ◌∙◌, subst, arith, append-nil}
 use Rattle.std.proofs.lemmas.List.Elements.{All-head}
-use Rattle.auc_edge.specs.declared.stop.Stop.{Stop}
+use Rattle.auc_memory.specs.declared.stop.Stop.{Stop}
 use Rattle.auc_lines.specs.Sim.{IsSchedule, IsSimValue}
 use Rattle.auc_lines.specs.declared.sim.SimSchedule.{SimSchedule}
 use Rattle.auc_lines.specs.declared.sim.SimSchedule.TheVariants.{Plain}
@@ -15,7 +15,8 @@ use Rattle.auc_world.specs.Net.{Net}
 use Rattle.auc_subs.specs.Setting.{Setting}
 use Rattle.auc_record.specs.declared.further.Further.TheVariants as further
 use Rattle.auc_record.specs.declared.record.LineRecord.{LineRecord}
-use Rattle.auc_record.specs.declared.record.LineRecord.TheVariants.{Vector, Withheld, Further}
+use Rattle.auc_record.specs.declared.record.LineRecord.TheVariants.{Number, Further}
+use Rattle.auc_vector.specs.declared.notes.NumberNote.TheVariants as number
 use Rattle.auc_world.proofs.Facts.{noted}
 use Rattle.auc_transcript.specs.SimSessions.{HasSession, SimLineHolds, SimSessionsAgree}
 use Rattle.auc_transcript.specs.Witnesses.{SimEndsAgree, SimSessionIsNone, SimSessionSucceeds, setting, sim_line, sim_lines, sim_round, transcript_of}
@@ -23,42 +24,49 @@ use Rattle.auc_transcript.proofs.OneLineLemmas.{heads, tails}
 
 -- ---- what is drawn
 
+-- the line of a number that was drawn, and that of the second number if it was withheld
+abbrev drew : ℕ → LineRecord
+drew n = Number 0 (number.Drew n)
+
+abbrev held : Stop → LineRecord
+held stop = Number 0 (number.Withheld 2 stop)
+
 -- two vectors are as many as are asked for
-two_drawn : (set : Setting) (said drawn rest : List LineRecord) → Vector 0 1 ∷ Vector 0 2 ∷ said ≡ drawn ++ rest → DrawGives set 0 2 drawn
-    → (drawn ≡ Vector 0 1 ∷ Vector 0 2 ∷ []) × (said ≡ rest)
+two_drawn : (set : Setting) (said drawn rest : List LineRecord) → drew 1 ∷ drew 2 ∷ said ≡ drawn ++ rest → DrawGives set 0 2 drawn
+    → (drawn ≡ drew 1 ∷ drew 2 ∷ []) × (said ≡ rest)
 two_drawn set said [] rest are draws = absurd draws
 two_drawn set said (x ∷ xs) rest are draws =
-    let first = heads (Vector 0 1) x (Vector 0 2 ∷ said) (xs ++ rest) are in
-    let second = next xs (tails (Vector 0 1) x (Vector 0 2 ∷ said) (xs ++ rest) are)
+    let first = heads (drew 1) x (drew 2 ∷ said) (xs ++ rest) are in
+    let second = next xs (tails (drew 1) x (drew 2 ∷ said) (xs ++ rest) are)
     (subst (λ (l : LineRecord). DrawGives set 0 2 (l ∷ xs)) (sym first) draws).2 in
-    (ap (λ (l : LineRecord). l ∷ xs) (sym first) ∙ ap (λ (ls : List LineRecord). Vector 0 1 ∷ ls) second.0, second.1)
+    (ap (λ (l : LineRecord). l ∷ xs) (sym first) ∙ ap (λ (ls : List LineRecord). drew 1 ∷ ls) second.0, second.1)
   where
-    next : (ys : List LineRecord) → Vector 0 2 ∷ said ≡ ys ++ rest → DrawGives set 0 1 ys → (ys ≡ Vector 0 2 ∷ []) × (said ≡ rest)
+    next : (ys : List LineRecord) → drew 2 ∷ said ≡ ys ++ rest → DrawGives set 0 1 ys → (ys ≡ drew 2 ∷ []) × (said ≡ rest)
     next [] here more = absurd more
     next (y ∷ ys) here more =
-        let is = heads (Vector 0 2) y said (ys ++ rest) here in
+        let is = heads (drew 2) y said (ys ++ rest) here in
         let none = (subst (λ (l : LineRecord). DrawGives set 0 1 (l ∷ ys)) (sym is) more).2 in (
-          ap (λ (l : LineRecord). l ∷ ys) (sym is) ∙ ap (λ (ls : List LineRecord). Vector 0 2 ∷ ls) none,
-          tails (Vector 0 2) y said (ys ++ rest) here ∙ ap (λ (ls : List LineRecord). ls ++ rest) none,
+          ap (λ (l : LineRecord). l ∷ ys) (sym is) ∙ ap (λ (ls : List LineRecord). drew 2 ∷ ls) none,
+          tails (drew 2) y said (ys ++ rest) here ∙ ap (λ (ls : List LineRecord). ls ++ rest) none,
         )
 
 -- a withheld number is the last thing that is drawn
-withheld_drawn : (set : Setting) (stop : Stop) (said drawn rest : List LineRecord) → Vector 0 1 ∷ Withheld 0 2 stop ∷ said ≡ drawn ++ rest → DrawGives set 0 2 drawn
-    → (drawn ≡ Vector 0 1 ∷ Withheld 0 2 stop ∷ []) × (said ≡ rest)
+withheld_drawn : (set : Setting) (stop : Stop) (said drawn rest : List LineRecord) → drew 1 ∷ held stop ∷ said ≡ drawn ++ rest → DrawGives set 0 2 drawn
+    → (drawn ≡ drew 1 ∷ held stop ∷ []) × (said ≡ rest)
 withheld_drawn set stop said [] rest are draws = absurd draws
 withheld_drawn set stop said (x ∷ xs) rest are draws =
-    let first = heads (Vector 0 1) x (Withheld 0 2 stop ∷ said) (xs ++ rest) are in
-    let second = next xs (tails (Vector 0 1) x (Withheld 0 2 stop ∷ said) (xs ++ rest) are)
+    let first = heads (drew 1) x (held stop ∷ said) (xs ++ rest) are in
+    let second = next xs (tails (drew 1) x (held stop ∷ said) (xs ++ rest) are)
     (subst (λ (l : LineRecord). DrawGives set 0 2 (l ∷ xs)) (sym first) draws).2 in
-    (ap (λ (l : LineRecord). l ∷ xs) (sym first) ∙ ap (λ (ls : List LineRecord). Vector 0 1 ∷ ls) second.0, second.1)
+    (ap (λ (l : LineRecord). l ∷ xs) (sym first) ∙ ap (λ (ls : List LineRecord). drew 1 ∷ ls) second.0, second.1)
   where
-    next : (ys : List LineRecord) → Withheld 0 2 stop ∷ said ≡ ys ++ rest → DrawGives set 0 1 ys → (ys ≡ Withheld 0 2 stop ∷ []) × (said ≡ rest)
+    next : (ys : List LineRecord) → held stop ∷ said ≡ ys ++ rest → DrawGives set 0 1 ys → (ys ≡ held stop ∷ []) × (said ≡ rest)
     next [] here more = absurd more
     next (y ∷ ys) here more =
-        let is = heads (Withheld 0 2 stop) y said (ys ++ rest) here in
+        let is = heads (held stop) y said (ys ++ rest) here in
         let none = (subst (λ (l : LineRecord). DrawGives set 0 1 (l ∷ ys)) (sym is) more).3 in (
-          ap (λ (l : LineRecord). l ∷ ys) (sym is) ∙ ap (λ (ls : List LineRecord). Withheld 0 2 stop ∷ ls) none,
-          tails (Withheld 0 2 stop) y said (ys ++ rest) here ∙ ap (λ (ls : List LineRecord). ls ++ rest) none,
+          ap (λ (l : LineRecord). l ∷ ys) (sym is) ∙ ap (λ (ls : List LineRecord). held stop ∷ ls) none,
+          tails (held stop) y said (ys ++ rest) here ∙ ap (λ (ls : List LineRecord). ls ++ rest) none,
         )
 
 -- ---- what is said
@@ -95,7 +103,7 @@ session_of_two key schedule notes line =
     let (drawn, rest) = two_drawn (setting key) (noted 0 notes) line.drawn line.rest line.lines_are line.draws in
     by line.drawn line.rest drawn rest line.all
   where
-    by : (drawn rest : List LineRecord) → drawn ≡ Vector 0 1 ∷ Vector 0 2 ∷ [] → noted 0 notes ≡ rest
+    by : (drawn rest : List LineRecord) → drawn ≡ drew 1 ∷ drew 2 ∷ [] → noted 0 notes ≡ rest
         → (length (numbers_of 0 drawn) ≡ 2 → HasSession (setting key) (sim_line schedule) (numbers_of 0 drawn) rest)
         → HasSession (setting key) (sim_line schedule) (1 ∷ 2 ∷ []) (noted 0 notes)
     by drawn rest are is session =
@@ -131,7 +139,7 @@ sim_session_succeeds key notes net differ promise =
 
 pub sim_session_is_none : SimSessionIsNone
 sim_session_is_none key schedule stop notes net is promise =
-    let line = line_of_promise key schedule (Vector 0 1 ∷ Withheld 0 2 stop ∷ noted 0 notes) net is promise in
+    let line = line_of_promise key schedule (drew 1 ∷ held stop ∷ noted 0 notes) net is promise in
     let (drawn, rest) = withheld_drawn (setting key) stop (noted 0 notes) line.drawn line.rest line.lines_are line.draws in
     one_notes notes [] (rest ∙ line.fewer (λ all. one_is_two (sym (ap (λ (ls : List LineRecord). length (numbers_of 0 ls)) drawn) ∙ all)))
   where

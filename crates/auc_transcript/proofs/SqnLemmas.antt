@@ -14,11 +14,10 @@ use Rattle.auc_attr.specs.declared.table.Row.{Row as AttrRow}
 use Rattle.auc_milenage.proofs.Facts.{f5_size}
 use Rattle.auc_milenage.specs.Milenage.{f5}
 use Rattle.auc_milenage.specs.declared.secret.Secret.{Secret}
-use Rattle.auc_packet.specs.Received.{IsReading, IsReceived, Seen}
+use Rattle.auc_packet.specs.Received.{IsReading, IsReceived, Seen, attrs_in}
 use Rattle.auc_packet.specs.declared.packet.Packet.TheVariants as packet
 use Rattle.auc_packet.specs.declared.received.Reading.{Reading}
 use Rattle.auc_packet.specs.declared.received.Reading.TheVariants as reading
-use Rattle.auc_peer.specs.Attributes.{attrs_in}
 use Rattle.auc_peer.specs.Rows.{peer_row}
 use Rattle.auc_peer.specs.Subscription.{Subscription}
 use Rattle.auc_peer.specs.Table.{origin_of, peer_does}

@@ -1,5 +1,5 @@
 -- The law of 5G: an authentication in which nothing happens to RES* on its way is confirmed exactly if the USIM accepts.
-use Rattle.std.proofs.Common.{◌≡◌, ◌≢◌, ℕ, ◌≤◌, Bool, true, false, List, [], ◌∷◌, ◌++◌, length, take, map, Option, None, refl, sym, ap, ◌∙◌, subst, arith, append_assoc}
+use Rattle.std.proofs.Common.{◌≡◌, ◌≢◌, ℕ, ◌≤◌, Bool, true, false, List, [], ◌∷◌, ◌++◌, length, take, map, Option, Some, None, refl, sym, ap, ◌∙◌, subst, arith, append_assoc}
 use Rattle.std.specs.Prelude.{if◌then◌else◌, nat_le, not, slice_index}
 use Rattle.std.specs.Str.{bytes_eq}
 use Rattle.std.proofs.lemmas.Bool.{eq-eqb, or_right}
@@ -31,6 +31,7 @@ use Rattle.auc_subs.specs.declared.row.Row.{Row}
 use Rattle.auc_vector.specs.Vector.{autn_of}
 use Rattle.auc_world.specs.Given.{Authenticates, AuthenticatesIf, Before, FivegFollows, IsGiven, JobGives, JobsGive, UsimAnswers, behind, device_of_row, hxres_lines, is_released, judged_lines, outcome_of, past_before, turned, verdict_by}
 use Rattle.auc_record.specs.Draws.{OneGives}
+use Rattle.auc_record.specs.Event.{number_released}
 use Rattle.auc_record.specs.Lines.{is_in, all_lines, numbers_of}
 use Rattle.auc_world.specs.Net.{Net}
 use Rattle.auc_subs.specs.Setting.{Setting}
@@ -42,7 +43,8 @@ use Rattle.auc_record.specs.declared.further.Further.TheVariants as further
 use Rattle.auc_record.specs.declared.record.GiveVerdict.{GiveVerdict}
 use Rattle.auc_record.specs.declared.record.GiveVerdict.TheVariants as given
 use Rattle.auc_record.specs.declared.record.LineRecord.{LineRecord}
-use Rattle.auc_record.specs.declared.record.LineRecord.TheVariants.{Vector, Withheld, Exhausted, Sync, Give, Further, Event}
+use Rattle.auc_record.specs.declared.record.LineRecord.TheVariants.{Number, Sync, Give, Further, Event}
+use Rattle.auc_vector.specs.declared.notes.NumberNote.TheVariants as number
 use Rattle.auc_record.specs.declared.record.PartRecord.{PartRecord}
 use Rattle.auc_record.specs.declared.record.PartRecord.TheVariants as record_of
 use Rattle.auc_transcript.specs.Keys.{AreNetsAfter}
@@ -121,13 +123,13 @@ judged_is l home device (given.Sync sqn_ms) untouched agree half = refl
 judged_is l home device given.Absent untouched agree half = refl
 
 -- a vector that was released just before is there
-is_there : (before : Before) (sub n : ℕ) → is_released (behind before (Vector sub n ∷ [])) sub n ≡ true
+is_there : (before : Before) (sub n : ℕ) → is_released (behind before (Number sub (number.Drew n) ∷ [])) sub n ≡ true
 is_there before sub n =
-    let here : numbers_of sub (Vector sub n ∷ []) ≡ n ∷ [] = ap (λ (b : Bool). (if b then n ∷ [] else []) ++ []) (eq-eqb sub sub refl) in
-    let once : 1 ≤ times n (numbers_of sub (Vector sub n ∷ [])) = subst (λ (ns : List ℕ). 1 ≤ times n ns) (sym here) (times_at (n ∷ []) 0 n (omega arith)) in
-    let cut = times-numbers-append n sub before.own (Vector sub n ∷ []) in
-    or_right (is_in n (numbers_of sub before.early)) (is_in n (numbers_of sub (before.own ++ Vector sub n ∷ [])))
-    (is_in-from_times n (numbers_of sub (before.own ++ Vector sub n ∷ [])) (omega (arith, cut, once)))
+    let here : numbers_of sub (Number sub (number.Drew n) ∷ []) ≡ n ∷ [] = ap (λ (b : Bool). number_released (if b then Some (number.Drew n) else None) ++ []) (eq-eqb sub sub refl) in
+    let once : 1 ≤ times n (numbers_of sub (Number sub (number.Drew n) ∷ [])) = subst (λ (ns : List ℕ). 1 ≤ times n ns) (sym here) (times_at (n ∷ []) 0 n (omega arith)) in
+    let cut = times-numbers-append n sub before.own (Number sub (number.Drew n) ∷ []) in
+    or_right (is_in n (numbers_of sub before.early)) (is_in n (numbers_of sub (before.own ++ Number sub (number.Drew n) ∷ [])))
+    (is_in-from_times n (numbers_of sub (before.own ++ Number sub (number.Drew n) ∷ [])) (omega (arith, cut, once)))
 
 -- so its USIM answers
 answers : (bits : ℕ) (v : Verdict) (past : Past) (answer : GiveVerdict) → UsimAnswers bits v past answer → answer ≢ given.Absent
@@ -141,7 +143,7 @@ present row true past n answer is given = answers row.bits (verdict_by row past 
 present row false past n answer is given = absurd (let no : ⊥ = cc in no)
 
 follows_confirmed : EachDeviceAgreesWithItsHome → (set : Setting) (before : Before) (l : FivegLine) (n : ℕ) (lines : List LineRecord) → AreSubscribers set.rows → IsHonest l
-    → FivegFollows set (behind before (Vector l.sub n ∷ [])) l n lines → IsConfirmed set l n lines
+    → FivegFollows set (behind before (Number l.sub (number.Drew n) ∷ [])) l n lines → IsConfirmed set l n lines
 follows_confirmed law set before l n lines are honest f = record {
   row = row;
   there = f.there;
@@ -154,7 +156,7 @@ follows_confirmed law set before l n lines are honest f = record {
     row = f.row
 
     place : Before
-    place = behind before (Vector l.sub n ∷ [])
+    place = behind before (Number l.sub (number.Drew n) ∷ [])
 
     home : HomeKeys
     home = home_of (vector_of_row set row l.sub n) l.home
@@ -183,9 +185,9 @@ follows_confirmed law set before l n lines are honest f = record {
 one_more : (set : Setting) (sub : ℕ) (F G : ℕ → List LineRecord → Type 0) (lines : List LineRecord) → ((n : ℕ) (rest : List LineRecord) → F n rest → G n rest) → OneGives set sub F lines
     → OneGives set sub G lines
 one_more set sub F G [] more gives = absurd gives
-one_more set sub F G (Vector s n ∷ lines) more (same, is, follows) = (same, is, more n lines follows)
-one_more set sub F G (Withheld s n stop ∷ lines) more gives = gives
-one_more set sub F G (Exhausted s word ∷ lines) more gives = gives
+one_more set sub F G (Number s (number.Drew n) ∷ lines) more (same, is, follows) = (same, is, more n lines follows)
+one_more set sub F G (Number s (number.Withheld n stop) ∷ lines) more gives = gives
+one_more set sub F G (Number s (number.Exhausted word) ∷ lines) more gives = gives
 one_more set sub F G (Sync s answer ∷ lines) more gives = absurd gives
 one_more set sub F G (Give s n answer ∷ lines) more gives = absurd gives
 one_more set sub F G (Further said ∷ lines) more gives = absurd gives
@@ -205,7 +207,7 @@ module _ (law : EachDeviceAgreesWithItsHome) (set : Setting) (are : AreSubscribe
         records_are = s.cut ∙ ap (λ (ls : List LineRecord). s.early ++ ls) parts;
         net = s.mid;
         first = s.first;
-        holds = one_more set l.sub (λ n lines. FivegFollows set (behind s.after (Vector l.sub n ∷ [])) l n lines) (λ n lines. IsConfirmed set l n lines) own
+        holds = one_more set l.sub (λ n lines. FivegFollows set (behind s.after (Number l.sub (number.Drew n) ∷ [])) l n lines) (λ n lines. IsConfirmed set l n lines) own
             (λ n lines f. follows_confirmed law set s.after l n lines are honest f) line_gives;
         rest = subst (λ (b : Before). JobGives set (behind b own) s.mid back rest last) s.after_is
             (subst (λ (w : Net). JobGives set (behind s.after own) w back rest last) same more);

@@ -11,7 +11,8 @@ use Rattle.auc_record.specs.declared.further.Further.TheVariants as further
 use Rattle.auc_record.specs.declared.record.GiveVerdict.{GiveVerdict}
 use Rattle.auc_record.specs.declared.record.GiveVerdict.TheVariants as given
 use Rattle.auc_record.specs.declared.record.LineRecord.{LineRecord}
-use Rattle.auc_record.specs.declared.record.LineRecord.TheVariants.{Vector, Give, Further}
+use Rattle.auc_record.specs.declared.record.LineRecord.TheVariants.{Number, Give, Further}
+use Rattle.auc_vector.specs.declared.notes.NumberNote.TheVariants as number
 use Rattle.auc_transcript.specs.Systems.{IsAnsweredWith, IsConfirmed, confirmed_lines, has_separation}
 use Rattle.auc_transcript.specs.Witnesses.{AuthenticationIsConfirmed, authentication, setting, subscriber}
 use Rattle.auc_transcript.proofs.OneLineLemmas.{heads, tails}
@@ -46,11 +47,11 @@ answered n home answer outcome (a, present, are) =
 one_row : (row : Row) → Some subscriber ≡ Some row → has_separation row ≡ true
 one_row row e = let same : subscriber ≡ row = cc in ap has_separation (sym same)
 
-given_own : (key : List ℕ) (answer : GiveVerdict) (outcome : FivegOutcome) (own : List LineRecord) → Vector 0 1 ∷ told answer outcome ≡ own
+given_own : (key : List ℕ) (answer : GiveVerdict) (outcome : FivegOutcome) (own : List LineRecord) → Number 0 (number.Drew 1) ∷ told answer outcome ≡ own
     → OneGives (setting key) 0 (λ n lines. IsConfirmed (setting key) authentication n lines) own → Confirmed answer outcome
 given_own key answer outcome own are holds = by (subst (OneGives (setting key) 0 (λ n lines. IsConfirmed (setting key) authentication n lines)) (sym are) holds)
   where
-    by : OneGives (setting key) 0 (λ n lines. IsConfirmed (setting key) authentication n lines) (Vector 0 1 ∷ told answer outcome) → Confirmed answer outcome
+    by : OneGives (setting key) 0 (λ n lines. IsConfirmed (setting key) authentication n lines) (Number 0 (number.Drew 1) ∷ told answer outcome) → Confirmed answer outcome
     by (same, is, confirmed) = answered 1 (home_of (vector_of_row (setting key) confirmed.row 0 1) authentication.home) answer outcome (confirmed.separated (one_row confirmed.row confirmed.there))
 
 pub authentication_is_confirmed : AuthenticationIsConfirmed

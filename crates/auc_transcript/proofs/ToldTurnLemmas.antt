@@ -1,6 +1,5 @@
 -- For the counters that are told: a server resumes the counter that its turn notes, and a peer accepts the one that its turn notes.
 use Rattle.std.proofs.Common.{◌≡◌, ℕ, ◌≤◌, Bool, true, false, List, [], ◌∷◌, ◌++◌, length, map, Option, Some, None, option_to_list, refl, sym, ap, ◌∙◌, arith, append-nil}
-use Rattle.auc_hmac.specs.declared.keys.KeySet.{KeySet}
 use Rattle.auc_peer.specs.declared.next.NextContext.{NextContext}
 use Rattle.auc_peer.specs.declared.next.NextContext.TheVariants as next
 use Rattle.auc_peer.specs.declared.peer.Peer.{Peer}
@@ -10,23 +9,20 @@ use Rattle.auc_reauth.specs.declared.context.Context.{Context}
 use Rattle.auc_packet.specs.Received.{Seen}
 use Rattle.auc_server.proofs.Facts.{Says, given_up_fits, none_resumed, says_row}
 use Rattle.auc_server.specs.Contexts.{context_in, homes_left}
-use Rattle.auc_server.specs.Laws.{Fits, awaits_identity}
+use Rattle.auc_server.specs.Laws.{Fits}
 use Rattle.auc_server.specs.Rows.{server_row, subscriber_in, text_in}
 use Rattle.auc_server.specs.Server.{ServerEnd, resumed_of}
 use Rattle.auc_subs.specs.Setting.{Setting}
-use Rattle.auc_server.specs.Table.{challenged, challenged_with, gave_up as server_gave_up, identified, names_given, noted, packets_after, reauthenticated, resumed_with, resynchronised, resynchronising, server_does, server_step, succeeded, vector_at}
-use Rattle.auc_server.specs.declared.options.ServerOptions.{ServerOptions}
+use Rattle.auc_server.specs.Table.{challenged, challenged_with, gave_up as server_gave_up, identified, names_given, noted, packets_after, resumed_with, resynchronised, resynchronising, server_does, server_step, vector_at}
 use Rattle.auc_server.specs.declared.naming.GivenNames.{GivenNames}
 use Rattle.auc_server.specs.declared.reply.Reply.{Reply}
 use Rattle.auc_server.specs.declared.rows.Row.{Row}
 use Rattle.auc_server.specs.declared.rows.Row.TheVariants as row
-use Rattle.auc_server.specs.declared.server.Challenged.{Challenged}
 use Rattle.auc_server.specs.declared.server.Resumed.{Resumed}
 use Rattle.auc_server.specs.declared.server.ServerState.{ServerState}
 use Rattle.auc_server.specs.declared.server.ServerState.TheVariants as state
 use Rattle.auc_server.specs.declared.setting.HomeRow.{HomeRow}
 use Rattle.auc_vector.specs.declared.why.ServerWhy.{ServerWhy}
-use Rattle.auc_vector.specs.declared.why.ServerWhy.TheVariants as why
 use Rattle.auc_vector.specs.declared.notes.CounterNote.{CounterNote}
 use Rattle.auc_vector.specs.declared.notes.CounterNote.TheVariants as counts
 use Rattle.auc_vector.specs.declared.notes.Notes.{Notes}
@@ -35,7 +31,6 @@ use Rattle.auc_vector.specs.declared.notes.NumberNote.TheVariants as number
 use Rattle.auc_vector.specs.declared.notes.ResyncNote.{ResyncNote}
 use Rattle.auc_vector.specs.declared.notes.ResyncNote.TheVariants as resync
 use Rattle.auc_vector.specs.declared.parts.Vector.{Vector}
-use Rattle.auc_vector.specs.declared.turn.Outcome.TheVariants as outcome
 use Rattle.auc_vector.specs.declared.turn.Turn.{Turn}
 use Rattle.auc_world.specs.Plain.{counter_taken}
 use Rattle.auc_world.specs.Resumption.{accepted_for, counter_given, counter_used, resumed_in}

@@ -1,11 +1,11 @@
 -- The law of vectors: no two vectors of a subscriber have the same SQN.
-use Rattle.std.proofs.Common.{◌≡◌, ◌≢◌, ℕ, ◌<◌, ◌≤◌, ◌==◌, ◌&&◌, nat_lt, nat_le, min, Bool, true, false, Option, Some, None, List, [], ◌∷◌, ◌++◌, length, get_or, map, All, AllPairs, refl, ◌∙◌, ap, subst, arith, inl, inr, append_assoc, append-nil}
+use Rattle.std.proofs.Common.{◌≡◌, ◌≢◌, ℕ, ◌<◌, ◌≤◌, ◌&&◌, nat_lt, nat_le, min, Option, Some, None, List, [], ◌∷◌, ◌++◌, length, get_or, map, All, AllPairs, ◌∙◌, ap, subst, arith, inl, inr, append_assoc, append-nil}
 use Rattle.std.specs.Prelude.{if◌then◌else◌, slice_get}
-use Rattle.std.proofs.lemmas.Bool.{cases_lt, eqb-true}
+use Rattle.std.proofs.lemmas.Bool.{cases_lt}
 use Rattle.std.proofs.lemmas.Bool.Decides.{nat_tests}
 use Rattle.std.proofs.lemmas.List.Elements.{All-nil, All-cons, All-head, All-tail, All-append, All-map}
 use Rattle.std.proofs.lemmas.Option.{get_or_from_slice_get, slice_get_within}
-use Rattle.auc_edge.specs.declared.stop.Stop.{Stop}
+use Rattle.auc_memory.specs.declared.stop.Stop.{Stop}
 use Rattle.auc_history.specs.History.{covered}
 use Rattle.auc_history.specs.Split.{times}
 use Rattle.auc_history.proofs.Facts.{differ_from_times, AllPairs-cons, AllPairs-head, AllPairs-tail, times-drawn}
@@ -19,12 +19,11 @@ use Rattle.auc_vector.specs.declared.notes.NumberNote.TheVariants as number
 use Rattle.auc_lines.specs.declared.part.Part.{Part}
 use Rattle.auc_lines.specs.declared.part.Part.TheVariants.{Round, Restart}
 use Rattle.auc_record.specs.declared.record.LineRecord.{LineRecord}
-use Rattle.auc_record.specs.declared.record.LineRecord.TheVariants.{Vector, Withheld, Exhausted, Sync, Give, Further, Event}
 use Rattle.auc_record.specs.declared.record.PartRecord.{PartRecord}
 use Rattle.auc_record.specs.declared.record.PartRecord.TheVariants as record_of
 use Rattle.auc_record.specs.declared.record.RoundRecord.{RoundRecord}
-use Rattle.auc_record.specs.Event.{number_for, number_released}
-use Rattle.auc_record.specs.Lines.{numbers_of, all_lines}
+use Rattle.auc_record.specs.Event.{number_released}
+use Rattle.auc_record.specs.Lines.{number_by, numbers_of, released_by, all_lines}
 use Rattle.auc_world.specs.Limits.{opened}
 use Rattle.auc_subs.specs.Setting.{Setting}
 use Rattle.auc_world.specs.Transcript.{Course, Leads, IsLawful, after_round, after_restart, beginning, lines_of, entries_of}
@@ -34,7 +33,7 @@ use Rattle.auc_transcript.proofs.EventLemmas.{IsNoteServed}
 use Rattle.auc_transcript.proofs.LineLemmas.{All-times, times-numbers-append}
 use Rattle.auc_record.proofs.Facts.{get_or-reopened, length-reopened}
 use Rattle.auc_world.proofs.Facts.{length-opened, opened_above}
-use Rattle.auc_transcript.proofs.ServedLemmas.{AreServed, round_served, parts_served}
+use Rattle.auc_transcript.proofs.ServedLemmas.{AreServed, note_of_line_served, round_served, parts_served}
 use Rattle.auc_transcript.proofs.RoundLemmas.{round_drawn}
 
 -- different numbers that vectors may have have different SQNs
@@ -48,13 +47,7 @@ sqns_differ bits (n ∷ numbers) few within differ =
     (λ k d k<n same. AllPairs-head ◌≢◌ n numbers differ k d k<n (each_number_has_its_own_sqn bits n (get_or numbers k d) few first (others k d k<n) same)))
     (sqns_differ bits numbers few others (AllPairs-tail ◌≢◌ n numbers differ))
 
--- a vector's number, if the line is the subscriber's
-within_one : (set : Setting) (s sub n : ℕ) (there : Bool) → (s == sub) ≡ there → n ≤ top_at set.rows s → All (λ m. m ≤ top_at set.rows sub) (if there then n ∷ [] else [])
-within_one set s sub n true mine within =
-    All-cons (λ m. m ≤ top_at set.rows sub) n [] (subst (λ (k : ℕ). n ≤ top_at set.rows k) (eqb-true s sub mine) within) (All-nil (λ m. m ≤ top_at set.rows sub))
-within_one set s sub n false mine within = All-nil (λ m. m ≤ top_at set.rows sub)
-
--- the number that an event releases
+-- the number that a line releases
 released_within : (top : ℕ) (note : Option NumberNote) → IsNoteServed top note → All (λ m. m ≤ top) (number_released note)
 released_within top None is = All-nil (λ m. m ≤ top)
 released_within top (Some (number.Drew n)) is = All-cons (λ m. m ≤ top) n [] is (All-nil (λ m. m ≤ top))
@@ -64,17 +57,9 @@ released_within top (Some (number.Withheld n stop)) is = All-nil (λ m. m ≤ to
 -- the numbers of all vectors of a subscriber are numbers that they may have
 pub numbers_within : (set : Setting) (sub : ℕ) (before lines : List LineRecord) → AreServed set before lines → All (λ n. n ≤ top_at set.rows sub) (numbers_of sub lines)
 numbers_within set sub before [] served = All-nil (λ n. n ≤ top_at set.rows sub)
-numbers_within set sub before (Vector s m ∷ lines) (is, more) =
-    All-append (λ n. n ≤ top_at set.rows sub) (if s == sub then m ∷ [] else []) (numbers_of sub lines) (within_one set s sub m (s == sub) refl is)
-    (numbers_within set sub (before ++ Vector s m ∷ []) lines more)
-numbers_within set sub before (Withheld s n stop ∷ lines) (is, more) = numbers_within set sub (before ++ Withheld s n stop ∷ []) lines more
-numbers_within set sub before (Exhausted s word ∷ lines) (is, more) = numbers_within set sub (before ++ Exhausted s word ∷ []) lines more
-numbers_within set sub before (Sync s answer ∷ lines) (is, more) = numbers_within set sub (before ++ Sync s answer ∷ []) lines more
-numbers_within set sub before (Give s n answer ∷ lines) (is, more) = numbers_within set sub (before ++ Give s n answer ∷ []) lines more
-numbers_within set sub before (Further said ∷ lines) (is, more) = numbers_within set sub (before ++ Further said ∷ []) lines more
-numbers_within set sub before (Event r ∷ lines) (is, more) =
-    All-append (λ n. n ≤ top_at set.rows sub) (number_released (number_for sub r)) (numbers_of sub lines) (released_within (top_at set.rows sub) (number_for sub r) (is.numbers sub))
-    (numbers_within set sub (before ++ Event r ∷ []) lines more)
+numbers_within set sub before (line ∷ lines) (is, more) =
+    All-append (λ n. n ≤ top_at set.rows sub) (released_by sub line) (numbers_of sub lines) (released_within (top_at set.rows sub) (number_by sub line) (note_of_line_served set before sub line is))
+    (numbers_within set sub (before ++ line ∷ []) lines more)
 
 -- what the lines of a lawful transcript are
 pub transcript_served : (set : Setting) (reserved : List ℕ) (stop : Option Stop) (parts : List Part) (records : List PartRecord) → IsLawful set reserved stop parts records

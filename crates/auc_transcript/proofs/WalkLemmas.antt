@@ -7,8 +7,8 @@ use Rattle.std.proofs.lemmas.List.Concat.{flat_map-append}
 use Rattle.std.proofs.lemmas.List.Elements.{All-append, All-cons, All-head, All-nil, All-tail}
 use Rattle.std.proofs.lemmas.List.Quantifiers.{position-Some}
 use Rattle.std.proofs.lemmas.Option.{get_or_from_slice_get, slice_get_within}
-use Rattle.auc_edge.specs.Identity.{Identity}
-use Rattle.auc_edge.specs.declared.stop.Stop.{Stop}
+use Rattle.auc_memory.specs.Identity.{Identity}
+use Rattle.auc_memory.specs.declared.stop.Stop.{Stop}
 use Rattle.auc_lines.specs.Part.{held_subs}
 use Rattle.auc_lines.specs.declared.part.End.{End}
 use Rattle.auc_lines.specs.declared.part.End.TheVariants as end
@@ -32,7 +32,7 @@ use Rattle.auc_record.specs.declared.event.Event.TheVariants as event
 use Rattle.auc_record.specs.declared.event.EventRecord.{EventRecord}
 use Rattle.auc_world.specs.declared.net.Session.{Session}
 use Rattle.auc_record.specs.declared.record.LineRecord.{LineRecord}
-use Rattle.auc_record.specs.declared.record.LineRecord.TheVariants.{Vector, Withheld, Exhausted, Sync, Give, Further, Event}
+use Rattle.auc_record.specs.declared.record.LineRecord.TheVariants.{Number, Sync, Give, Further, Event}
 use Rattle.auc_record.specs.declared.record.PartRecord.{PartRecord}
 use Rattle.auc_record.specs.declared.record.PartRecord.TheVariants as record_of
 use Rattle.auc_record.specs.declared.record.RoundRecord.{RoundRecord}
@@ -139,9 +139,7 @@ pub record Occurred (set : Setting) (place : Before) (r : EventRecord) : Type 0 
   pub usim : IsUsimAsked set place (presented_by net r.event told) told
 
 abbrev pub HasOccurred : Setting → Before → LineRecord → Type 0
-HasOccurred set place (Vector sub n) = Unit {0}
-HasOccurred set place (Withheld sub n stop) = Unit {0}
-HasOccurred set place (Exhausted sub word) = Unit {0}
+HasOccurred set place (Number sub note) = Unit {0}
 HasOccurred set place (Sync sub answer) = Unit {0}
 HasOccurred set place (Give sub n answer) = Unit {0}
 HasOccurred set place (Further said) = Unit {0}
@@ -176,9 +174,7 @@ quiet_have set place [] none = tt
 quiet_have set place (line ∷ lines) none = (one line (All-head IsOutsideSessions line lines none), quiet_have set (behind place (line ∷ [])) lines (All-tail IsOutsideSessions line lines none))
   where
     one : (l : LineRecord) → IsOutsideSessions l → HasOccurred set place l
-    one (Vector sub n) is = tt
-    one (Withheld sub n stop) is = tt
-    one (Exhausted sub word) is = tt
+    one (Number sub note) is = tt
     one (Sync sub answer) is = tt
     one (Give sub n answer) is = tt
     one (Further said) is = tt
@@ -190,9 +186,7 @@ quiet_sends (line ∷ lines) none =
     ap (λ (bs : List (List ℕ)). bs ++ packets_in lines) (one line (All-head IsOutsideSessions line lines none)) ∙ quiet_sends lines (All-tail IsOutsideSessions line lines none)
   where
     one : (l : LineRecord) → IsOutsideSessions l → sent_in_line l ≡ []
-    one (Vector sub n) is = refl
-    one (Withheld sub n stop) is = refl
-    one (Exhausted sub word) is = refl
+    one (Number sub note) is = refl
     one (Sync sub answer) is = refl
     one (Give sub n answer) is = refl
     one (Further said) is = refl

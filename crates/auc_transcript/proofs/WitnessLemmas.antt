@@ -50,7 +50,8 @@ use Rattle.auc_world.specs.declared.net.Session.{Session}
 use Rattle.auc_record.specs.declared.record.GiveVerdict.{GiveVerdict}
 use Rattle.auc_record.specs.declared.record.GiveVerdict.TheVariants as given
 use Rattle.auc_record.specs.declared.record.LineRecord.{LineRecord}
-use Rattle.auc_record.specs.declared.record.LineRecord.TheVariants.{Vector}
+use Rattle.auc_record.specs.declared.record.LineRecord.TheVariants.{Number}
+use Rattle.auc_vector.specs.declared.notes.NumberNote.TheVariants as number
 use Rattle.auc_world.proofs.Facts.{autn_size, rand_block}
 use Rattle.auc_transcript.specs.Completeness.{HasContext, IsAlone, IsOnlyEvent, records_of, session_named}
 use Rattle.auc_transcript.specs.Counters.{KeepsContexts}
@@ -78,7 +79,7 @@ late_fails answer released promise =
 first_stays : (answer : GiveVerdict) → answer ≢ given.Absent → FailsExactlyByPlace (subscriber ∷ []) (given_first answer) → IsFailure answer → ⊥
 first_stays answer released promise failure =
     let stretches = stretches_of 0 (given_first answer) in
-    none_fails 1 answer ((promise (Vector 0 1 ∷ []) 0 1 answer subscriber (record { after = []; lines_are = refl; released = released }) refl (record {
+    none_fails 1 answer ((promise (Number 0 (number.Drew 1) ∷ []) 0 1 answer subscriber (record { after = []; lines_are = refl; released = released }) refl (record {
       genuine = All-nil (IsGenuine 5 (all_entries stretches));
       earlier = All-nil (λ sqn. is_later stretches 1 (seq_of 5 sqn) ≡ false);
       near = omega arith;

@@ -2,7 +2,7 @@
 -- Success at both ends under the same keys, unless a record of it tells why not (RFC 4187 §3, RFC 9048 §3).
 use Rattle.std.specs.Prelude.{◌≡◌, ◌≢◌, ℕ, ◌==◌, Bool, true, false, if◌then◌else◌, List, [], ◌∷◌, ◌++◌, filter, map, All, Contains, Option, Some, None, slice_get}
 use Rattle.std.specs.Option.{option_or}
-use Rattle.auc_edge.specs.declared.stop.Stop.{Stop}
+use Rattle.auc_memory.specs.declared.stop.Stop.{Stop}
 use Rattle.auc_lines.specs.Part.{IsShortIdentity, is_that}
 use Rattle.auc_lines.specs.declared.part.Line.{Line}
 use Rattle.auc_lines.specs.declared.part.Line.TheVariants as line
@@ -28,7 +28,7 @@ use Rattle.auc_record.specs.declared.event.Event.{Event as Happens}
 use Rattle.auc_record.specs.declared.event.Event.TheVariants as event
 use Rattle.auc_world.specs.declared.net.Session.{Session}
 use Rattle.auc_record.specs.declared.record.LineRecord.{LineRecord}
-use Rattle.auc_record.specs.declared.record.LineRecord.TheVariants.{Vector, Withheld, Exhausted, Sync, Give, Further, Event}
+use Rattle.auc_record.specs.declared.record.LineRecord.TheVariants.{Number, Sync, Give, Further, Event}
 use Rattle.auc_record.specs.declared.record.PartRecord.{PartRecord}
 use Rattle.auc_record.specs.declared.record.PartRecord.TheVariants as record_of
 use Rattle.auc_record.specs.declared.record.SessionVerdict.{SessionVerdict}
@@ -128,9 +128,7 @@ session_in (event.Cut packet count) = None
 
 -- whether a record is that of an event in a session
 abbrev pub is_of_session : ℕ → LineRecord → Bool
-is_of_session session (Vector sub n) = false
-is_of_session session (Withheld sub n stop) = false
-is_of_session session (Exhausted sub word) = false
+is_of_session session (Number sub note) = false
 is_of_session session (Sync sub answer) = false
 is_of_session session (Give sub n answer) = false
 is_of_session session (Further said) = false

@@ -1,7 +1,7 @@
 -- What every lawful transcript promises of a subscriber's vectors and its USIM.
 use Rattle.std.specs.Prelude.{◌≡◌, ◌≢◌, ◌↔◌, ℕ, ◌+◌, ◌*◌, ◌^◌, ◌<◌, ◌≤◌, ◌&&◌, ◌||◌, ◌⊎◌, max, nat_le, nat_lt, not, Bool, true, false, Option, Some, None, List, [], ◌∷◌, ◌++◌, length, filter, fold, map, All, AllPairs, Contains, slice_get, slice_index, if◌then◌else◌}
 use Rattle.std.specs.List.{list_any}
-use Rattle.auc_edge.specs.declared.stop.Stop.{Stop}
+use Rattle.auc_memory.specs.declared.stop.Stop.{Stop}
 use Rattle.auc_history.specs.declared.entry.Entry.{Entry}
 use Rattle.auc_history.specs.declared.entry.Entry.TheVariants.{Drawn, Moved, Look}
 use Rattle.auc_history.specs.History.{drawn}
@@ -14,7 +14,7 @@ use Rattle.auc_subs.specs.declared.row.Row.{Row}
 use Rattle.auc_record.specs.declared.record.GiveVerdict.{GiveVerdict}
 use Rattle.auc_record.specs.declared.record.GiveVerdict.TheVariants as given
 use Rattle.auc_record.specs.declared.record.LineRecord.{LineRecord}
-use Rattle.auc_record.specs.declared.record.LineRecord.TheVariants.{Vector, Withheld, Exhausted, Sync, Give, Further, Event}
+use Rattle.auc_record.specs.declared.record.LineRecord.TheVariants.{Number, Sync, Give, Further, Event}
 use Rattle.auc_record.specs.declared.record.PartRecord.{PartRecord}
 use Rattle.auc_record.specs.declared.record.PartRecord.TheVariants as record_of
 use Rattle.auc_record.specs.Lines.{is_in, numbers_of, accepted}
@@ -147,9 +147,7 @@ EachFailureIsByPlace = (set : Setting) (reserved : List ℕ) (stop : Option Stop
 
 -- a line that isn't an event's
 abbrev pub IsOutsideSessions : LineRecord → Type 0
-IsOutsideSessions (Vector sub n) = Unit {0}
-IsOutsideSessions (Withheld sub n stop) = Unit {0}
-IsOutsideSessions (Exhausted sub word) = Unit {0}
+IsOutsideSessions (Number sub note) = Unit {0}
 IsOutsideSessions (Sync sub answer) = Unit {0}
 IsOutsideSessions (Give sub n answer) = Unit {0}
 IsOutsideSessions (Further said) = Unit {0}

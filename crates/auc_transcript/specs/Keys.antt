@@ -2,7 +2,7 @@
 -- held; and what the records of rounds tell of the premise.
 use Rattle.std.specs.Prelude.{◌≡◌, ◌↔◌, ◌<◌, ℕ, true, List, [], ◌∷◌, ◌++◌, Option, None, length, map, All, AllPairs, Contains}
 use Rattle.auc_aes.specs.Bytes.{IsBlock}
-use Rattle.auc_edge.specs.declared.stop.Stop.{Stop}
+use Rattle.auc_memory.specs.declared.stop.Stop.{Stop}
 use Rattle.auc_hmac.specs.declared.keys.KeySet.{KeySet}
 use Rattle.auc_lines.specs.Part.{AreApart, holds}
 use Rattle.auc_lines.specs.declared.part.Line.{Line}

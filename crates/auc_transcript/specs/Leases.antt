@@ -2,7 +2,7 @@
 -- packets; sites and masters start again. Each number that a site hands out is that of a vector which the site's line released
 -- before, and no number is handed out twice for a subscriber.
 use Rattle.std.specs.Prelude.{◌≡◌, ◌≢◌, ℕ, ◌<◌, ◌==◌, List, [], ◌∷◌, ◌++◌, flat_map, length, map, All, AllPairs, Contains, Option, if◌then◌else◌}
-use Rattle.auc_edge.specs.declared.stop.Stop.{Stop}
+use Rattle.auc_memory.specs.declared.stop.Stop.{Stop}
 use Rattle.auc_lines.specs.Sites.{SitesValue}
 use Rattle.auc_lines.specs.declared.part.Line.{Line}
 use Rattle.auc_lines.specs.declared.part.Line.TheVariants as line
@@ -20,7 +20,7 @@ use Rattle.auc_world.specs.Transcript.{IsLawful, lines_of}
 use Rattle.auc_record.specs.declared.further.Further.{Further as Said}
 use Rattle.auc_record.specs.declared.further.Further.TheVariants.{Kasme, HxresStar, Fiveg, Sites, Sim}
 use Rattle.auc_record.specs.declared.record.LineRecord.{LineRecord}
-use Rattle.auc_record.specs.declared.record.LineRecord.TheVariants.{Vector, Withheld, Exhausted, Sync, Give, Further, Event}
+use Rattle.auc_record.specs.declared.record.LineRecord.TheVariants.{Number, Sync, Give, Further, Event}
 use Rattle.auc_record.specs.declared.record.PartRecord.{PartRecord}
 use Rattle.auc_record.specs.declared.record.PartRecord.TheVariants as record_of
 use Rattle.auc_record.specs.declared.sites.SitesNote.{SitesNote}
@@ -48,9 +48,7 @@ handed_in sub (Sim s said) = []
 
 -- the number that a line says that one of a subscriber's sites handed out
 abbrev pub handed_by : ℕ → LineRecord → List ℕ
-handed_by sub (Vector s n) = []
-handed_by sub (Withheld s n stop) = []
-handed_by sub (Exhausted s word) = []
+handed_by sub (Number s note) = []
 handed_by sub (Sync s answer) = []
 handed_by sub (Give s n answer) = []
 handed_by sub (Further said) = handed_in sub said

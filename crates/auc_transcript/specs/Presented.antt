@@ -1,11 +1,10 @@
 -- The law of failures for vectors that sessions present: a packet with RAND and AUTN of a released vector reaches the
 -- device of its subscriber, and the USIM answers (RFC 4187 §9.3).
 use Rattle.std.specs.Prelude.{◌≡◌, ◌≢◌, ◌↔◌, ℕ, zero, suc, List, [], ◌∷◌, ◌++◌, Option, Some, None, Ok, Err, flat_map, map, slice_get, Contains}
-use Rattle.auc_edge.specs.declared.stop.Stop.{Stop}
+use Rattle.auc_memory.specs.declared.stop.Stop.{Stop}
 use Rattle.auc_lines.specs.declared.part.End.TheVariants as end
 use Rattle.auc_lines.specs.declared.part.Part.{Part}
-use Rattle.auc_packet.specs.Received.{IsReceived, Seen}
-use Rattle.auc_peer.specs.Attributes.{attrs_in}
+use Rattle.auc_packet.specs.Received.{IsReceived, Seen, attrs_in}
 use Rattle.auc_request.specs.Request.{autn_of as autn_value, first_value, rand_of as rand_value}
 use Rattle.auc_subs.specs.Subscriber.{AreSubscribers}
 use Rattle.auc_subs.specs.declared.row.Row.{Row}

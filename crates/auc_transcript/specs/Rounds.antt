@@ -2,7 +2,7 @@
 -- end at moves alone, and a place counts the drawn numbers of a period.
 use Rattle.std.specs.Prelude.{◌≡◌, ◌↔◌, ℕ, ◌+◌, ◌^◌, ◌<◌, ◌≤◌, ◌&&◌, max, nat_le, not, Bool, true, false, Option, Some, List, ◌++◌, length, filter, flat_map, fold, map, All, Contains, slice_get}
 use Rattle.std.specs.List.{list_any}
-use Rattle.auc_edge.specs.declared.stop.Stop.{Stop}
+use Rattle.auc_memory.specs.declared.stop.Stop.{Stop}
 use Rattle.auc_history.specs.declared.entry.Entry.{Entry}
 use Rattle.auc_history.specs.History.{drawn}
 use Rattle.auc_lines.specs.declared.part.Part.{Part}

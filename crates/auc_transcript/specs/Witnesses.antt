@@ -3,7 +3,7 @@
 -- false.
 use Rattle.std.specs.Prelude.{◌≡◌, ◌≢◌, ℕ, ◌≤◌, Bool, true, false, List, [], ◌∷◌, ◌++◌, map, replicate, Contains, Option, Some, None, Ok}
 use Rattle.auc_attr.specs.declared.attr.Attr.TheVariants as attr
-use Rattle.auc_edge.specs.declared.stop.Stop.{Stop}
+use Rattle.auc_memory.specs.declared.stop.Stop.{Stop}
 use Rattle.auc_history.specs.History.{numbers_after}
 use Rattle.auc_hmac.specs.declared.keys.KeySet.{KeySet}
 use Rattle.auc_hmac.specs.declared.keys.Master.TheVariants as master
@@ -69,7 +69,7 @@ use Rattle.auc_world.specs.declared.net.Session.{Session}
 use Rattle.auc_record.specs.declared.record.GiveVerdict.{GiveVerdict}
 use Rattle.auc_record.specs.declared.record.GiveVerdict.TheVariants as given
 use Rattle.auc_record.specs.declared.record.LineRecord.{LineRecord}
-use Rattle.auc_record.specs.declared.record.LineRecord.TheVariants.{Vector, Withheld, Give, Further, Event}
+use Rattle.auc_record.specs.declared.record.LineRecord.TheVariants.{Number, Give, Further, Event}
 use Rattle.auc_record.specs.declared.record.PartRecord.{PartRecord}
 use Rattle.auc_record.specs.declared.record.PartRecord.TheVariants as record_of
 use Rattle.auc_record.specs.declared.record.Premise.TheVariants as premise
@@ -118,7 +118,7 @@ transcript_of lines = record_of.Round (round_of 1 lines []) ∷ []
 
 -- the vectors of 1 to 33 are released, and that of 33 is accepted, which is 32 places after 1
 abbrev pub accepted_late : List LineRecord
-accepted_late = map (Vector 0) (numbers_after 0 33) ++ Give 0 33 given.Accepted ∷ []
+accepted_late = map (λ n. Number 0 (number.Drew n)) (numbers_after 0 33) ++ Give 0 33 given.Accepted ∷ []
 
 -- then that of 1 is presented, with this answer
 abbrev pub given_late : GiveVerdict → List PartRecord
@@ -126,7 +126,7 @@ given_late answer = transcript_of (accepted_late ++ Give 0 1 answer ∷ [])
 
 -- the first vector is presented before any other
 abbrev pub given_first : GiveVerdict → List PartRecord
-given_first answer = transcript_of (Vector 0 1 ∷ Give 0 1 answer ∷ [])
+given_first answer = transcript_of (Number 0 (number.Drew 1) ∷ Give 0 1 answer ∷ [])
 
 -- the late vector gets a synchronisation failure, and the first one doesn't
 abbrev pub PlacesDecide : Type 0
@@ -141,7 +141,7 @@ ageing = record subscriber { age = Some 3 }
 
 -- the vectors of 1 to 4 are released, and that of 4 is accepted
 abbrev pub accepted_fourth : List LineRecord
-accepted_fourth = map (Vector 0) (numbers_after 0 4) ++ Give 0 4 given.Accepted ∷ []
+accepted_fourth = map (λ n. Number 0 (number.Drew n)) (numbers_after 0 4) ++ Give 0 4 given.Accepted ∷ []
 
 -- then that of a number is presented, with this answer
 abbrev pub given_aged : ℕ → GiveVerdict → List PartRecord
@@ -425,7 +425,7 @@ fiveg_round = part.Round ((line.Fiveg authentication ∷ []) ∷ [])
 
 -- the first vector is released for it, the USIM gives this answer, and this is its outcome
 abbrev pub authenticated : GiveVerdict → FivegOutcome → List PartRecord
-authenticated answer outcome = transcript_of (Vector 0 1 ∷ Give 0 1 answer ∷ Further (further.Fiveg 0 outcome) ∷ [])
+authenticated answer outcome = transcript_of (Number 0 (number.Drew 1) ∷ Give 0 1 answer ∷ Further (further.Fiveg 0 outcome) ∷ [])
 
 -- the USIM accepted, and both ends have one K_SEAF, whatever network there is
 abbrev pub AuthenticationIsConfirmed : Type 0
@@ -449,7 +449,7 @@ said what = Further (further.Sites 0 what)
 -- the first vector is released for the site's request, and the site hands out this number
 abbrev pub leased_lines : ℕ → List LineRecord
 leased_lines n =
-    said (site_note.Asked 1 1) ∷ Vector 0 1 ∷ said (site_note.Delivered 1 (site_outcome.Granted 1 2)) ∷ said (site_note.Delivered 2 (site_outcome.Taken 1)) ∷ said (site_note.Number 1 n) ∷ []
+    said (site_note.Asked 1 1) ∷ Number 0 (number.Drew 1) ∷ said (site_note.Delivered 1 (site_outcome.Granted 1 2)) ∷ said (site_note.Delivered 2 (site_outcome.Taken 1)) ∷ said (site_note.Number 1 n) ∷ []
 
 abbrev pub leased : ℕ → List PartRecord
 leased n = transcript_of (leased_lines n)
@@ -469,7 +469,7 @@ sim_round schedule = part.Round ((line.Sim (sim_line schedule) ∷ []) ∷ [])
 
 -- the first two vectors are released for it, and this is said of it
 abbrev pub sim_lines : List SimNote → List LineRecord
-sim_lines notes = Vector 0 1 ∷ Vector 0 2 ∷ map (λ note. Further (further.Sim 0 note)) notes
+sim_lines notes = Number 0 (number.Drew 1) ∷ Number 0 (number.Drew 2) ∷ map (λ note. Further (further.Sim 0 note)) notes
 
 -- by whichever schedule, if both ends ended in Success, then with equal keys, whatever network there is
 abbrev pub SimEndsAgree : Type 0
@@ -485,4 +485,4 @@ SimSessionSucceeds = (key : List ℕ) (notes : List SimNote) (net : Net) → ran
 abbrev pub SimSessionIsNone : Type 0
 SimSessionIsNone = (key : List ℕ) (schedule : SimSchedule) (stop : Stop) (notes : List SimNote) (net : Net) → IsSchedule schedule
     → SimSessionsAgree (setting key) (sim_round schedule ∷ [])
-    (transcript_of (Vector 0 1 ∷ Withheld 0 2 stop ∷ map (λ note. Further (further.Sim 0 note)) notes)) ((net ∷ []) ∷ []) → notes ≡ []
+    (transcript_of (Number 0 (number.Drew 1) ∷ Number 0 (number.Withheld 2 stop) ∷ map (λ note. Further (further.Sim 0 note)) notes)) ((net ∷ []) ∷ []) → notes ≡ []

@@ -2,7 +2,7 @@
 -- §6.3.2 and §6.3.5). `top` is the subscriber's greatest number. `kept` is the word of the first draw that was refused:
 -- once it is kept, it stays, and the subscriber is spent.
 use Rattle.std.specs.Prelude.{◌≡◌, ℕ, ◌+◌, ◌≤◌, List, [], ◌∷◌, Option, Some, None, Result, Ok, Err}
-use Rattle.auc_edge.specs.declared.stop.Stop.{Stop}
+use Rattle.auc_memory.specs.declared.stop.Stop.{Stop}
 use Rattle.auc_history.specs.declared.entry.Entry.{Entry}
 use Rattle.auc_history.specs.declared.entry.Entry.TheVariants.{Drawn, Moved as moved, Look}
 use Rattle.auc_history.specs.Resynchronise.{resynchronise_of, Moved as moved_to, InRange as in_range, Beyond as beyond}

@@ -3,7 +3,7 @@
 use Rattle.std.specs.Prelude.{ℕ, List, [], ◌++◌, slice_index}
 use Rattle.std.proofs.Common.{refl, ap, subst, ◌∙◌}
 use Rattle.auc_core.specs.Step.{CoreState}
-use Rattle.auc_edge.specs.declared.stop.Stop.{Stop}
+use Rattle.auc_memory.specs.declared.stop.Stop.{Stop}
 use Rattle.auc_history.specs.declared.entry.Entry.{Entry}
 use Rattle.auc_history.specs.History.{IsLegal}
 use Rattle.auc_history.proofs.Facts.{IsLegal-append, IsLegal-nil}

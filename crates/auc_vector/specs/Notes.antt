@@ -1,7 +1,7 @@
 -- What the notes of a turn say of the centre: which of its answers they stand for, which entries of the subscriber's
 -- history it made, and which word is kept after it.
 use Rattle.std.specs.Prelude.{◌≡◌, ◌≢◌, ℕ, List, [], ◌++◌, Option, Some, None, Result, Ok, Err}
-use Rattle.auc_edge.specs.declared.stop.Stop.{Stop}
+use Rattle.auc_memory.specs.declared.stop.Stop.{Stop}
 use Rattle.auc_history.specs.declared.entry.Entry.{Entry}
 use Rattle.auc_vector.specs.declared.centre.Resynced.TheVariants as resynced
 use Rattle.auc_vector.specs.declared.centre.CentreRefusal.{CentreRefusal}

@@ -2,7 +2,7 @@
 -- drawn or passed over, or the mark, top + 1, after a draw was refused; and the subscriber's greatest number.
 use Rattle.std.specs.Prelude.{◌≡◌, ℕ, nat_le, if◌then◌else◌, List, [], Option, Some, None, slice_index}
 use Rattle.auc_core.specs.Step.{CoreState}
-use Rattle.auc_edge.specs.declared.stop.Stop.{Stop}
+use Rattle.auc_memory.specs.declared.stop.Stop.{Stop}
 use Rattle.auc_history.specs.declared.entry.Entry.{Entry}
 use Rattle.auc_history.specs.History.{IsLegal}
 

@@ -1,12 +1,12 @@
 //! The authentication centre, as the layers above call it.
 
 ghost use Rattle.std.specs.Prelude.{◌≡◌, ◌≢◌, ◌<◌, ◌≤◌, ◌++◌, ℕ, List, [], Option};
-ghost use Rattle.auc_edge.specs.declared.stop.Stop.{Stop};
+ghost use Rattle.auc_memory.specs.declared.stop.Stop.{Stop};
 ghost use Rattle.auc_history.specs.declared.entry.Entry.{Entry};
 ghost use Rattle.auc_history.specs.History.{IsInOrder};
 ghost use Rattle.auc_vector.specs.Centre.{AnswersNext, entries_of_next, withheld_of_next, kept_after_next, AnswersResync, entries_of_resync};
 
-use auc_edge::Stop;
+use auc_memory::Stop;
 use std::sync::Wait;
 
 /// What a resynchronisation comes to if the USIM accepts the next number. Each names the number that stood at the

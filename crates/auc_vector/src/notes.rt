@@ -1,6 +1,6 @@
 //! What one turn of an end of a session did besides its step.
 
-use auc_edge::Stop;
+use auc_memory::Stop;
 
 /// What the centre made of the AUTS that a peer sent (TS 33.102 §6.3.5). The first three name the number that stood at
 /// the centre, then the SEQ that the USIM reported.

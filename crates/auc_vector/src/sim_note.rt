@@ -2,8 +2,8 @@
 
 use crate::turn::Step;
 use crate::why::SimWhy;
-use auc_edge::Octets;
 use auc_lines::End;
+use auc_memory::Octets;
 
 /// What became of a packet that was delivered to an end.
 #[derive(Drop)]

@@ -1,8 +1,8 @@
 //! What an end of a session does with what it received.
 
 use crate::notes::Notes;
-use auc_edge::Octets;
 use auc_hmac::KeySet;
+use auc_memory::Octets;
 
 /// Why what was received is ignored. The tests are made in the order of the variants, but for the last.
 #[derive(Clone, Copy, PartialEq, Eq)]

@@ -1,6 +1,6 @@
 //! Why an end of a session fails: a server and a peer of EAP-AKA and EAP-AKA', and an end of EAP-SIM.
 
-use auc_edge::Stop;
+use auc_memory::Stop;
 
 /// Why a server ends a session in Failure.
 #[derive(Clone, Copy)]

@@ -1,7 +1,7 @@
 -- What a caller of any centre gains by two calls.
 use Rattle.std.proofs.Common.{◌≡◌, ◌≢◌, ℕ, List, [], ◌++◌, Option, Result, subst}
 use Rattle.std.proofs.lemmas.List.{append-nil}
-use Rattle.auc_edge.specs.declared.stop.Stop.{Stop}
+use Rattle.auc_memory.specs.declared.stop.Stop.{Stop}
 use Rattle.auc_history.specs.declared.entry.Entry.{Entry}
 use Rattle.auc_vector.specs.Centre.{entries_of_next, withheld_of_next, kept_after_next, entries_of_resync}
 use Rattle.auc_vector.specs.declared.centre.Resynced.{Resynced}

@@ -1,6 +1,6 @@
 -- Inner facts: what a caller of any centre tells of its calls.
 use Rattle.std.specs.Prelude.{◌≢◌, ℕ, List, [], ◌++◌, Option, Result}
-use Rattle.auc_edge.specs.declared.stop.Stop.{Stop}
+use Rattle.auc_memory.specs.declared.stop.Stop.{Stop}
 use Rattle.auc_history.specs.declared.entry.Entry.{Entry}
 use Rattle.auc_vector.specs.Centre.{entries_of_next, withheld_of_next, kept_after_next, entries_of_resync}
 use Rattle.auc_vector.specs.declared.centre.Resynced.{Resynced}

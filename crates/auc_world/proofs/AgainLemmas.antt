@@ -8,13 +8,12 @@ use Rattle.auc_lines.specs.declared.part.End.TheVariants as end
 use Rattle.auc_lines.specs.declared.part.SessionLine.{SessionLine}
 use Rattle.auc_packet.specs.Messages.{is_missing}
 use Rattle.auc_packet.specs.declared.subtype.Subtype.TheVariants as subtype
-use Rattle.auc_peer.specs.Attributes.{attrs_in}
+use Rattle.auc_packet.specs.Received.{attrs_in}
 use Rattle.auc_peer.specs.Subscription.{Subscription}
 use Rattle.auc_peer.specs.Table.{gave_up as peer_gave_up, text_or_none}
 use Rattle.auc_peer.specs.Told.{ToldSession as PeerTold}
 use Rattle.auc_peer.specs.Turn.{IsInner}
 use Rattle.auc_peer.specs.declared.decrypted.Decrypted.TheVariants as decrypted
-use Rattle.auc_peer.specs.declared.peer.Challenge.{Challenge}
 use Rattle.auc_peer.specs.declared.peer.Peer.{Peer}
 use Rattle.auc_peer.specs.declared.peer.Source.{Source as KeySource}
 use Rattle.auc_peer.specs.declared.peer.Source.TheVariants as source

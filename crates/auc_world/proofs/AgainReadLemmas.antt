@@ -14,14 +14,13 @@ use Rattle.auc_hmac.specs.declared.method.Method.{Method}
 use Rattle.auc_packet.specs.Laws.{WrittenIsRead, has_values}
 use Rattle.auc_packet.specs.Messages.{is_missing}
 use Rattle.auc_packet.specs.Packet.{ReadsPacket}
-use Rattle.auc_packet.specs.Received.{IsReceived, OneReceived, Seen}
+use Rattle.auc_packet.specs.Received.{IsReceived, OneReceived, Seen, attrs_in}
 use Rattle.auc_packet.specs.Sealed.{SealedIsRead, draft_mac, sealed}
 use Rattle.auc_packet.specs.Spelling.{MayBeWritten, packet_text}
 use Rattle.auc_packet.specs.declared.packet.Packet.{Packet}
 use Rattle.auc_packet.specs.declared.received.Reading.{Reading}
 use Rattle.auc_packet.specs.declared.received.Reading.TheVariants as reading
 use Rattle.auc_packet.specs.declared.subtype.Subtype.TheVariants as subtype
-use Rattle.auc_peer.specs.Attributes.{attrs_in}
 use Rattle.auc_peer.specs.Turn.{IsInner}
 use Rattle.auc_peer.specs.declared.decrypted.Decrypted.TheVariants as decrypted
 use Rattle.auc_request.specs.Request.{block_in, number_in}

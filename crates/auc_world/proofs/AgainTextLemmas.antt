@@ -14,6 +14,7 @@ use Rattle.auc_packet.specs.Received.{Seen}
 use Rattle.auc_packet.specs.Spelling.{packet_text}
 use Rattle.auc_packet.specs.declared.packet.Packet.TheVariants as packet
 use Rattle.auc_packet.specs.declared.subtype.Subtype.TheVariants as subtype
+use Rattle.auc_random.specs.Random.{index_after}
 use Rattle.auc_reauth.specs.Server.{Contexts, if_named, unless_named}
 use Rattle.auc_reauth.specs.Store.{entry, with_entry}
 use Rattle.auc_reauth.specs.declared.context.Context.{Context}
@@ -28,7 +29,7 @@ use Rattle.auc_server.specs.Rows.{server_row, subscriber_in, text_in}
 use Rattle.auc_server.specs.Server.{ServerEnd, challenged_of, resumed_of}
 use Rattle.auc_subs.specs.Setting.{Setting}
 use Rattle.auc_server.specs.State.{last_of}
-use Rattle.auc_server.specs.Table.{asked, challenge_of, challenged, challenged_with, ended, failed, homes_after, homes_challenged, homes_done, identified, identity_asked, index_after, name_of, names_given, next_given, next_id, noted, notified, packets_after, random_at, requested, resumed_keys, resumed_with, resumption, resynchronised, resynchronising, server_does, server_step, silent, vector_at}
+use Rattle.auc_server.specs.Table.{asked, challenge_of, challenged, challenged_with, ended, failed, homes_after, homes_challenged, homes_done, identified, identity_asked, name_of, names_given, next_given, next_id, noted, notified, packets_after, random_at, requested, resumed_keys, resumed_with, resumption, resynchronised, resynchronising, server_does, server_step, silent, vector_at}
 use Rattle.auc_server.specs.declared.naming.GivenNames.{GivenNames}
 use Rattle.auc_server.specs.declared.options.ServerOptions.{ServerOptions}
 use Rattle.auc_server.specs.declared.reply.Reply.{Reply}

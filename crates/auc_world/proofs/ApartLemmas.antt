@@ -28,9 +28,10 @@ use Rattle.auc_record.specs.declared.further.Further.TheVariants as further
 use Rattle.auc_record.specs.declared.record.GiveVerdict.{GiveVerdict}
 use Rattle.auc_record.specs.declared.record.GiveVerdict.TheVariants as given
 use Rattle.auc_record.specs.declared.record.LineRecord.{LineRecord}
-use Rattle.auc_record.specs.declared.record.LineRecord.TheVariants.{Vector, Withheld, Exhausted, Sync, Give, Further, Event as Told}
-use Rattle.auc_record.specs.declared.record.SyncVerdict.{SyncVerdict}
-use Rattle.auc_record.specs.declared.record.SyncVerdict.TheVariants as verdict
+use Rattle.auc_record.specs.declared.record.LineRecord.TheVariants.{Number, Sync, Give, Further, Event as Told}
+use Rattle.auc_vector.specs.declared.notes.NumberNote.TheVariants as number
+use Rattle.auc_vector.specs.declared.notes.ResyncNote.{ResyncNote}
+use Rattle.auc_vector.specs.declared.notes.ResyncNote.TheVariants as resync
 use Rattle.std.specs.Prelude.{Option, Some, None}
 use Rattle.auc_world.specs.Came.{Presented, came, presented_by}
 use Rattle.auc_record.specs.Event.{device_in, sqn_accepted, usim_in}
@@ -60,20 +61,20 @@ accepted-append bits sub xs ys = flat_map-append (accepted_by bits sub) xs ys
 draw_quiet : (set : Setting) (who count bits sub : ℕ) (lines : List LineRecord) → DrawGives set who count lines → accepted bits sub lines ≡ []
 draw_quiet set who zero bits sub lines gives = ap (accepted bits sub) gives
 draw_quiet set who (suc count) bits sub [] gives = refl
-draw_quiet set who (suc count) bits sub (Vector s n ∷ lines) gives = draw_quiet set who count bits sub lines gives.2
-draw_quiet set who (suc count) bits sub (Withheld s n stop ∷ lines) gives = ap (accepted bits sub) gives.3
-draw_quiet set who (suc count) bits sub (Exhausted s word ∷ lines) gives = ap (accepted bits sub) gives.2
+draw_quiet set who (suc count) bits sub (Number s (number.Drew n) ∷ lines) gives = draw_quiet set who count bits sub lines gives.2
+draw_quiet set who (suc count) bits sub (Number s (number.Withheld n stop) ∷ lines) gives = ap (accepted bits sub) gives.3
+draw_quiet set who (suc count) bits sub (Number s (number.Exhausted word) ∷ lines) gives = ap (accepted bits sub) gives.2
 draw_quiet set who (suc count) bits sub (Sync s answer ∷ lines) gives = absurd gives
 draw_quiet set who (suc count) bits sub (Give s n answer ∷ lines) gives = absurd gives
 draw_quiet set who (suc count) bits sub (Further said ∷ lines) gives = absurd gives
 draw_quiet set who (suc count) bits sub (Told r ∷ lines) gives = absurd gives
 
--- nor after a verdict
-follows_quiet : (set : Setting) (who count bits sub : ℕ) (answer : SyncVerdict) (lines : List LineRecord) → VectorsFollow set who count answer lines → accepted bits sub lines ≡ []
-follows_quiet set who count bits sub (verdict.Moved seen seq_ms) lines follows = draw_quiet set who count bits sub lines follows
-follows_quiet set who count bits sub (verdict.InRange seen seq_ms) lines follows = draw_quiet set who count bits sub lines follows
-follows_quiet set who count bits sub (verdict.Beyond seen seq_ms) lines follows = ap (accepted bits sub) follows
-follows_quiet set who count bits sub verdict.WrongMac lines follows = ap (accepted bits sub) follows
+-- nor after a resynchronisation
+follows_quiet : (set : Setting) (who count bits sub : ℕ) (note : ResyncNote) (lines : List LineRecord) → VectorsFollow set who count note lines → accepted bits sub lines ≡ []
+follows_quiet set who count bits sub (resync.Moved seen seq_ms) lines follows = draw_quiet set who count bits sub lines follows
+follows_quiet set who count bits sub (resync.InRange seen seq_ms) lines follows = draw_quiet set who count bits sub lines follows
+follows_quiet set who count bits sub (resync.Beyond seen seq_ms) lines follows = ap (accepted bits sub) follows
+follows_quiet set who count bits sub resync.BadAuts lines follows = ap (accepted bits sub) follows
 
 -- nor by another subscriber's USIM
 give_quiet : (bits sub s n : ℕ) (answer : GiveVerdict) → (s == sub) ≡ false → accepted bits sub (Give s n answer ∷ []) ≡ []
@@ -83,9 +84,9 @@ give_quiet bits sub s n answer other = ap (λ b. (if b then taken bits n answer 
 one_quiet : (set : Setting) (who bits sub : ℕ) (Follows : ℕ → List LineRecord → Type 0) (lines : List LineRecord) → OneGives set who Follows lines
     → ((n : ℕ) (rest : List LineRecord) → Follows n rest → accepted bits sub rest ≡ []) → accepted bits sub lines ≡ []
 one_quiet set who bits sub Follows [] gives quiet = refl
-one_quiet set who bits sub Follows (Vector s n ∷ lines) gives quiet = quiet n lines gives.2
-one_quiet set who bits sub Follows (Withheld s n stop ∷ lines) gives quiet = ap (accepted bits sub) gives.3
-one_quiet set who bits sub Follows (Exhausted s word ∷ lines) gives quiet = ap (accepted bits sub) gives.2
+one_quiet set who bits sub Follows (Number s (number.Drew n) ∷ lines) gives quiet = quiet n lines gives.2
+one_quiet set who bits sub Follows (Number s (number.Withheld n stop) ∷ lines) gives quiet = ap (accepted bits sub) gives.3
+one_quiet set who bits sub Follows (Number s (number.Exhausted word) ∷ lines) gives quiet = ap (accepted bits sub) gives.2
 one_quiet set who bits sub Follows (Sync s answer ∷ lines) gives quiet = absurd gives
 one_quiet set who bits sub Follows (Give s n answer ∷ lines) gives quiet = absurd gives
 one_quiet set who bits sub Follows (Further said ∷ lines) gives quiet = absurd gives
@@ -184,7 +185,7 @@ line_quiet : (set : Setting) (before : Before) (net next : Net) (l : Line) (bits
     → (accepted bits sub lines ≡ []) × AreOthers sub next
 line_quiet set before net next (line.Draw who count) bits sub lines (gives, is) none others = (draw_quiet set who count bits sub lines gives, subst (AreOthers sub) (sym is) others)
 line_quiet set before net next (line.Sync who report count) bits sub lines (gives, is) none others =
-    (ap (accepted bits sub) gives.lines_are ∙ follows_quiet set who count bits sub gives.answer gives.more gives.follows, subst (AreOthers sub) (sym is) others)
+    (ap (accepted bits sub) gives.lines_are ∙ follows_quiet set who count bits sub gives.note gives.more gives.follows, subst (AreOthers sub) (sym is) others)
 line_quiet set before net next (line.Give who n) bits sub lines (gives, is) none others = (ap (accepted bits sub) gives.lines_are ∙ give_quiet bits sub who n gives.answer none, subst (AreOthers sub) (sym is) others)
 line_quiet set before net next (line.Eps who snid) bits sub lines (gives, is) none others = (
   one_quiet set who bits sub (λ n rest. rest ≡ map (kasme_line snid) (vector_at set who n)) lines gives
@@ -192,8 +193,8 @@ line_quiet set before net next (line.Eps who snid) bits sub lines (gives, is) no
   subst (AreOthers sub) (sym is) others,
 )
 line_quiet set before net next (line.Fiveg l) bits sub lines (gives, is) none others = (
-  one_quiet set l.sub bits sub (λ n rest. FivegFollows set (behind before (Vector l.sub n ∷ [])) l n rest) lines gives
-      (λ n rest f. fiveg_quiet set (behind before (Vector l.sub n ∷ [])) l n bits sub rest none f),
+  one_quiet set l.sub bits sub (λ n rest. FivegFollows set (behind before (Number l.sub (number.Drew n) ∷ [])) l n rest) lines gives
+      (λ n rest f. fiveg_quiet set (behind before (Number l.sub (number.Drew n) ∷ [])) l n bits sub rest none f),
   subst (AreOthers sub) (sym is) others,
 )
 line_quiet set before net next (line.Sites l) bits sub lines ((turns, go), is) none others =
@@ -313,9 +314,9 @@ give_beside set early own beside done who n lines still gives = record {
 one_beside : (set : Setting) (who : ℕ) (F G : ℕ → List LineRecord → Type 0) (lines : List LineRecord) → ((n : ℕ) (rest : List LineRecord) → F n rest → G n rest)
     → OneGives set who F lines → OneGives set who G lines
 one_beside set who F G [] f gives = absurd gives
-one_beside set who F G (Vector s n ∷ lines) f gives = (gives.0, gives.1, f n lines gives.2)
-one_beside set who F G (Withheld s n stop ∷ lines) f gives = gives
-one_beside set who F G (Exhausted s word ∷ lines) f gives = gives
+one_beside set who F G (Number s (number.Drew n) ∷ lines) f gives = (gives.0, gives.1, f n lines gives.2)
+one_beside set who F G (Number s (number.Withheld n stop) ∷ lines) f gives = gives
+one_beside set who F G (Number s (number.Exhausted word) ∷ lines) f gives = gives
 one_beside set who F G (Sync s answer ∷ lines) f gives = absurd gives
 one_beside set who F G (Give s n answer ∷ lines) f gives = absurd gives
 one_beside set who F G (Further said ∷ lines) f gives = absurd gives
@@ -348,8 +349,8 @@ line_beside set early own beside done net next (line.Give who n) lines held stil
 line_beside set early own beside done net next (line.Eps who snid) lines held still gives = (gives, subst (λ (w : Net). AreOf (IsStill own beside) w.sessions) (sym gives.1) still)
 line_beside set early own beside done net next (line.Fiveg l) lines held still (gives, is) = (
   (
-    one_beside set l.sub (λ n rest. FivegFollows set (place early own (done ++ Vector l.sub n ∷ [])) l n rest) (λ n rest. FivegFollows set (place early beside (done ++ Vector l.sub n ∷ [])) l n rest) lines
-        (λ n rest f. fiveg_beside set early own beside (done ++ Vector l.sub n ∷ []) l n rest (held l.sub (eq-eqb l.sub l.sub refl)) f) gives,
+    one_beside set l.sub (λ n rest. FivegFollows set (place early own (done ++ Number l.sub (number.Drew n) ∷ [])) l n rest) (λ n rest. FivegFollows set (place early beside (done ++ Number l.sub (number.Drew n) ∷ [])) l n rest) lines
+        (λ n rest f. fiveg_beside set early own beside (done ++ Number l.sub (number.Drew n) ∷ []) l n rest (held l.sub (eq-eqb l.sub l.sub refl)) f) gives,
     is,
   ),
   subst (λ (w : Net). AreOf (IsStill own beside) w.sessions) (sym is) still,

@@ -4,7 +4,7 @@ use Rattle.std.proofs.lemmas.List.Elements.{All-nil, All-cons, All-append, All-m
 use Rattle.auc_5g.specs.Keys.{home_of}
 use Rattle.auc_5g.specs.declared.device_keys.DeviceKeys.{DeviceKeys}
 use Rattle.auc_5g.specs.declared.home_keys.HomeKeys.{HomeKeys}
-use Rattle.auc_edge.specs.declared.stop.Stop.{Stop}
+use Rattle.auc_memory.specs.declared.stop.Stop.{Stop}
 use Rattle.auc_lines.specs.Sim.{SimValue}
 use Rattle.auc_lines.specs.declared.part.End.{End}
 use Rattle.auc_lines.specs.declared.part.End.TheVariants as end
@@ -49,10 +49,11 @@ use Rattle.auc_record.specs.declared.record.GiveVerdict.{GiveVerdict}
 use Rattle.auc_record.specs.declared.record.GiveVerdict.TheVariants as given
 use Rattle.auc_record.specs.declared.record.LineRecord.{LineRecord}
 use Rattle.auc_record.specs.declared.record.LineRecord.TheVariants as record_of
+use Rattle.auc_vector.specs.declared.notes.NumberNote.TheVariants as number
 use Rattle.auc_record.specs.declared.record.PartRecord.{PartRecord}
 use Rattle.auc_record.specs.declared.record.PartRecord.TheVariants as made
-use Rattle.auc_record.specs.declared.record.SyncVerdict.{SyncVerdict}
-use Rattle.auc_record.specs.declared.record.SyncVerdict.TheVariants as verdict
+use Rattle.auc_vector.specs.declared.notes.ResyncNote.{ResyncNote}
+use Rattle.auc_vector.specs.declared.notes.ResyncNote.TheVariants as resync
 use Rattle.auc_record.specs.Ends.{AreAtTheirEnds, CameAt, IsAtItsEnd, PartIsAtItsEnds, end_of}
 
 -- ---- an event
@@ -150,12 +151,12 @@ plain_at set before net session (first ∷ lines) next (mid, here, rest) =
 one_at : (set : Setting) (sub : ℕ) (Follows : ℕ → List LineRecord → Type 0) (lines : List LineRecord) → OneGives set sub Follows lines
     → ((n : ℕ) (rest : List LineRecord) → Follows n rest → AreAt rest) → AreAt lines
 one_at set sub Follows [] gives each = absurd gives
-one_at set sub Follows (record_of.Vector s n ∷ lines) gives each =
-    All-cons IsAtItsEnd (record_of.Vector s n) lines tt (each n lines gives.2)
-one_at set sub Follows (record_of.Withheld s n stop ∷ lines) gives each =
-    All-cons IsAtItsEnd (record_of.Withheld s n stop) lines tt (none_at lines gives.3)
-one_at set sub Follows (record_of.Exhausted s word ∷ lines) gives each =
-    All-cons IsAtItsEnd (record_of.Exhausted s word) lines tt (none_at lines gives.2)
+one_at set sub Follows (record_of.Number s (number.Drew n) ∷ lines) gives each =
+    All-cons IsAtItsEnd (record_of.Number s (number.Drew n)) lines tt (each n lines gives.2)
+one_at set sub Follows (record_of.Number s (number.Withheld n stop) ∷ lines) gives each =
+    All-cons IsAtItsEnd (record_of.Number s (number.Withheld n stop)) lines tt (none_at lines gives.3)
+one_at set sub Follows (record_of.Number s (number.Exhausted word) ∷ lines) gives each =
+    All-cons IsAtItsEnd (record_of.Number s (number.Exhausted word)) lines tt (none_at lines gives.2)
 one_at set sub Follows (record_of.Sync s answer ∷ lines) gives each = absurd gives
 one_at set sub Follows (record_of.Give s n answer ∷ lines) gives each = absurd gives
 one_at set sub Follows (record_of.Further said ∷ lines) gives each = absurd gives
@@ -166,11 +167,11 @@ draw_at set sub zero lines gives = none_at lines gives
 draw_at set sub (suc count) lines gives =
     one_at set sub (λ n rest. DrawGives set sub count rest) lines gives (λ n rest more. draw_at set sub count rest more)
 
-vectors_at : (set : Setting) (sub count : ℕ) (answer : SyncVerdict) (lines : List LineRecord) → VectorsFollow set sub count answer lines → AreAt lines
-vectors_at set sub count (verdict.Moved seen seq_ms) lines follow = draw_at set sub count lines follow
-vectors_at set sub count (verdict.InRange seen seq_ms) lines follow = draw_at set sub count lines follow
-vectors_at set sub count (verdict.Beyond seen seq_ms) lines follow = none_at lines follow
-vectors_at set sub count verdict.WrongMac lines follow = none_at lines follow
+vectors_at : (set : Setting) (sub count : ℕ) (note : ResyncNote) (lines : List LineRecord) → VectorsFollow set sub count note lines → AreAt lines
+vectors_at set sub count (resync.Moved seen seq_ms) lines follow = draw_at set sub count lines follow
+vectors_at set sub count (resync.InRange seen seq_ms) lines follow = draw_at set sub count lines follow
+vectors_at set sub count (resync.Beyond seen seq_ms) lines follow = none_at lines follow
+vectors_at set sub count resync.BadAuts lines follow = none_at lines follow
 
 give_at : (set : Setting) (before : Before) (sub n : ℕ) (lines : List LineRecord) → GiveGives set before sub n lines → AreAt lines
 give_at set before sub n lines gives =
@@ -252,14 +253,14 @@ line_at set before net (line.Draw sub count) lines next gives = draw_at set sub 
 line_at set before net (line.Sync sub report count) lines next gives =
     let did = gives.0 in
     subst AreAt (sym did.lines_are)
-    (All-cons IsAtItsEnd (record_of.Sync sub did.answer) did.more tt (vectors_at set sub count did.answer did.more did.follows))
+    (All-cons IsAtItsEnd (record_of.Sync sub did.note) did.more tt (vectors_at set sub count did.note did.more did.follows))
 line_at set before net (line.Give sub n) lines next gives = give_at set before sub n lines gives.0
 line_at set before net (line.Eps sub snid) lines next gives =
     one_at set sub (λ n rest. rest ≡ map (kasme_line snid) (vector_at set sub n)) lines gives.0
     (λ n rest is. subst AreAt (sym is) (keys_at snid (vector_at set sub n)))
 line_at set before net (line.Fiveg l) lines next gives =
-    one_at set l.sub (λ n rest. FivegFollows set (behind before (record_of.Vector l.sub n ∷ [])) l n rest) lines gives.0
-    (λ n rest f. fiveg_at set (behind before (record_of.Vector l.sub n ∷ [])) l n rest f)
+    one_at set l.sub (λ n rest. FivegFollows set (behind before (record_of.Number l.sub (number.Drew n) ∷ [])) l n rest) lines gives.0
+    (λ n rest f. fiveg_at set (behind before (record_of.Number l.sub (number.Drew n) ∷ [])) l n rest f)
 line_at set before net (line.Sites l) lines next gives =
     let run = gives.0 in sites_at set l.sub l.size (sites_start l) l.schedule lines run.0 run.1
 line_at set before net (line.Sim l) lines next gives = sim_at set l lines gives.0

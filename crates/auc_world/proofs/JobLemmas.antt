@@ -14,7 +14,7 @@ use Rattle.auc_vector.specs.Notes.{Asking}
 use Rattle.auc_vector.specs.declared.notes.Notes.{Notes}
 use Rattle.auc_vector.specs.declared.notes.NumberNote.{NumberNote}
 use Rattle.auc_vector.specs.declared.notes.NumberNote.TheVariants as number
-use Rattle.auc_record.specs.Event.{Came, event_number, number_released, number_with}
+use Rattle.auc_record.specs.Event.{Came, asked_in, number_in, number_released, number_with}
 use Rattle.auc_world.specs.Came.{asked_sub, asking_at, asking_in, asking_of, came, came_at_peer, came_at_server, came_delivered, came_given_up, came_in, came_opened, came_repeated, came_started, server_came_to_give_up, session_at, came_changed}
 use Rattle.auc_world.specs.Given.{IsCentreAsked}
 use Rattle.auc_world.specs.Happened.{Delivery, ToldEvent, at_place, delivered, delivery_at, delivery_of, give_up, in_session, moved, opened, drawn_in_turn, repeat, server_gives_up, server_turn, start, to_peer, to_server, changed_in, with_copy}
@@ -27,6 +27,10 @@ use Rattle.auc_world.specs.declared.net.Session.{Session}
 use Rattle.auc_world.proofs.CopyLemmas.{changed_is_silent}
 
 -- ---- the number of an event
+
+-- the number that an event releases, with the subscriber for whom it was drawn
+abbrev pub event_number : Came → Option Number
+event_number result = number_with (asked_in result) (number_in result)
 
 -- a number, if there is one
 abbrev pub numbers_in : Option Number → List Number
@@ -140,7 +144,9 @@ open_releases set w opening None None = stays set w w (came_opened None None) re
 open_releases set w opening None (Some place) = stays set w (opened w opening None (Some place)) (came_opened None (Some place)) refl refl
 
 copy_releases : (set : Setting) (w : Net) (sent : Option SentPacket) (copy : Option (List ℕ)) → Releases set w (with_copy w copy) (came_changed w.packets sent copy)
-copy_releases set w sent copy = stays set w (with_copy w copy) (came_changed w.packets sent copy) refl (changed_is_silent w.packets sent copy).released
+copy_releases set w sent copy =
+    let result = came_changed w.packets sent copy in
+    stays set w (with_copy w copy) result refl (ap (λ (asked : Option ℕ). number_with asked (number_in result)) (changed_is_silent w.packets sent copy).asked)
 
 pub moved_releases : (set : Setting) (w : Net) (e : Event) (told : ToldEvent) → IsCentreAsked set (asking_of set w e told) told.notes → Releases set w (moved set w e told) (came set w e told)
 moved_releases set w (event.Open opening) told is = open_releases set w opening (session_place w.sessions opening.session) (device_place set.rows w.devices opening.sub)

@@ -7,7 +7,7 @@ use Rattle.std.proofs.lemmas.List.Concat.{flat_map-append}
 use Rattle.std.proofs.lemmas.List.Elements.{All-append, All-head, All-nil, All-tail}
 use Rattle.std.proofs.lemmas.List.Quantifiers.{position-Some}
 use Rattle.std.proofs.lemmas.Option.{get_or_from_slice_get, slice_get_within}
-use Rattle.auc_edge.specs.Identity.{Identity}
+use Rattle.auc_memory.specs.Identity.{Identity}
 use Rattle.auc_history.proofs.Facts.{AllPairs-cons, times-append, times-cons}
 use Rattle.auc_history.specs.Split.{times}
 use Rattle.auc_lines.specs.Part.{held_subs}
@@ -21,7 +21,7 @@ use Rattle.auc_subs.specs.Subscriber.{AreSubscribers, same_identity}
 use Rattle.auc_subs.specs.declared.row.Row.{Row}
 use Rattle.auc_world.specs.Agreement.{AreReleasedOnce, AreSized, AreTold, DecryptsIn, Happening, HaveSecrets, IsRealm, Occurs, after, after_one}
 use Rattle.auc_world.specs.Came.{Presented, came, presented_by}
-use Rattle.auc_record.specs.Event.{asked_in, event_number, number_in}
+use Rattle.auc_record.specs.Event.{asked_in, number_in}
 use Rattle.auc_world.specs.Given.{Before, EventGives, IsUsimAsked, JobGives, LineGives, PlainGives, RelayGives, behind, packet_of}
 use Rattle.auc_world.specs.Happened.{ToldEvent}
 use Rattle.auc_record.specs.Lines.{numbers_of, released_by}
@@ -35,7 +35,7 @@ use Rattle.auc_record.specs.declared.record.LineRecord.TheVariants as record_of
 use Rattle.auc_world.proofs.AgainHomeLemmas.{run_is_sized}
 use Rattle.auc_world.proofs.AgainLemmas.{AgainOf, AllLaws}
 use Rattle.auc_world.proofs.AgreementLemmas.{HoldsOf}
-use Rattle.auc_world.proofs.JobLemmas.{moved_releases, number_of_line, numbers_in, of_sub, of_sub-append}
+use Rattle.auc_world.proofs.JobLemmas.{event_number, moved_releases, number_of_line, numbers_in, of_sub, of_sub-append}
 use Rattle.auc_world.proofs.RunLemmas.{unbroken_run_holds}
 
 -- ---- runs

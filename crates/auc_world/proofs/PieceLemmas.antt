@@ -1,6 +1,6 @@
 -- For Pieces: if the pieces split a history, so does the round.
 use Rattle.std.proofs.Common.{◌≡◌, ℕ, ◌+◌, ◌≤◌, ◌==◌, ◌||◌, ◌&&◌, nat_lt, nat_le, Bool, true, false, cond, if◌then◌else◌, List, [], ◌∷◌, ◌++◌, arith, refl, sym, ap, ◌∙◌, inr, ⊎_elim, eq-eqb}
-use Rattle.std.proofs.lemmas.Bool.{and_from, and_parts, cases_Bool, eqb-true, false≢true, or_cases, or_from, or_left, or_right}
+use Rattle.std.proofs.lemmas.Bool.{cases_Bool, eqb-true, false≢true, or_cases, or_from, or_left, or_right}
 use Rattle.std.proofs.lemmas.List.Concat.{flat_map-append}
 use Rattle.std.proofs.lemmas.List.Folds.{list_any-append}
 use Rattle.auc_history.specs.declared.entry.Entry.{Entry}
@@ -15,11 +15,9 @@ use Rattle.auc_vector.specs.declared.notes.NumberNote.{NumberNote}
 use Rattle.auc_vector.specs.declared.notes.NumberNote.TheVariants as number
 use Rattle.auc_vector.specs.declared.notes.ResyncNote.{ResyncNote}
 use Rattle.auc_vector.specs.declared.notes.ResyncNote.TheVariants as resync
-use Rattle.auc_record.specs.Event.{is_exhausted, number_for, resync_for}
-use Rattle.auc_record.specs.declared.record.LineRecord.TheVariants.{Vector, Withheld, Exhausted, Sync, Give, Further, Event}
-use Rattle.auc_record.specs.declared.record.SyncVerdict.{SyncVerdict}
-use Rattle.auc_record.specs.declared.record.SyncVerdict.TheVariants as verdict
-use Rattle.auc_record.specs.Entries.{reports, is_reported, entries_of_number, entries_of_resync, entries_of_verdict, entries_of_line, entries_of_lines, entries_of_jobs}
+use Rattle.auc_record.specs.Event.{is_exhausted}
+use Rattle.auc_record.specs.Entries.{reports, is_reported, entries_of_number, entries_of_resync, entries_of_line, entries_of_lines, entries_of_jobs}
+use Rattle.auc_record.specs.Lines.{number_by, resync_by}
 use Rattle.auc_world.specs.Pieces.{Piece, lines_of_pieces, entries_of_pieces, ReportsAreEarlier, PiecesSplitTheRound}
 
 -- ---- lines after a worker's earlier lines, and after those of all earlier jobs
@@ -65,30 +63,7 @@ look_left_out true false seen more = absurd (false≢true (more refl))
 look_left_out false true seen more = inr (tt, refl)
 look_left_out false false seen more = leaves_out_none (Look seen ∷ [])
 
--- the entries of the subscriber, or none for another
-of_subscriber : (b : Bool) (xs ys : List Entry) → LeavesOutLooks xs ys → LeavesOutLooks (if b then xs else []) (if b then ys else [])
-of_subscriber true xs ys out = out
-of_subscriber false xs ys out = refl
-
--- the entries of a resynchronisation
-verdict_leaves_out : (sub : ℕ) (own all : List LineRecord) (answer : SyncVerdict) → ((word : ℕ) → is_reported sub word own ≡ true → is_reported sub word all ≡ true)
-    → LeavesOutLooks (entries_of_verdict sub own answer) (entries_of_verdict sub all answer)
-verdict_leaves_out sub own all (verdict.Moved from to) more = leaves_out_none (Moved from to ∷ [])
-verdict_leaves_out sub own all (verdict.InRange seen seq_ms) more = look_left_out (is_reported sub seen own) (is_reported sub seen all) seen (more seen)
-verdict_leaves_out sub own all (verdict.Beyond seen seq_ms) more = look_left_out (is_reported sub seen own) (is_reported sub seen all) seen (more seen)
-verdict_leaves_out sub own all verdict.WrongMac more = refl
-
--- the entries of a refused draw, of the subscriber or of another
-exhausted_leaves_out : (same own all : Bool) (word : ℕ) → (own ≡ true → all ≡ true) → (same ≡ true → all ≡ true → own ≡ true)
-    → LeavesOutLooks (if same then (if own then [] else Drawn (word + 1) ∷ []) else []) (if same then (if all then [] else Drawn (word + 1) ∷ []) else [])
-exhausted_leaves_out true own all word more apart = mark_stays own all (Drawn (word + 1) ∷ []) more (apart refl)
-exhausted_leaves_out false own all word more apart = refl
-
--- a refused draw of the subscriber reports its word
-reports_itself : (sub s word : ℕ) (lines : List LineRecord) → (s == sub) ≡ true → is_reported sub word (Exhausted s word ∷ lines) ≡ true
-reports_itself sub s word lines same = or_left (s == sub && word == word) (is_reported sub word lines) (and_from (s == sub) (word == word) same (eq-eqb word word refl))
-
--- the entries of an event's resynchronisation, and of the number that it asked for
+-- the entries of a resynchronisation, and of a number that was asked for
 resync_leaves_out : (sub : ℕ) (own all : List LineRecord) (note : Option ResyncNote) → ((word : ℕ) → is_reported sub word own ≡ true → is_reported sub word all ≡ true)
     → LeavesOutLooks (entries_of_resync sub own note) (entries_of_resync sub all note)
 resync_leaves_out sub own all None more = refl
@@ -109,19 +84,12 @@ number_leaves_out sub own all (Some (number.Withheld n stop)) more apart = leave
 -- the entries of a line
 line_leaves_out : (sub : ℕ) (own all : List LineRecord) (line : LineRecord) (lines : List LineRecord) → IsAmong sub own all (line ∷ lines)
     → LeavesOutLooks (entries_of_line sub own line) (entries_of_line sub all line)
-line_leaves_out sub own all (Vector s n) lines among = leaves_out_none (entries_of_line sub own (Vector s n))
-line_leaves_out sub own all (Withheld s n stop) lines among = leaves_out_none (entries_of_line sub own (Withheld s n stop))
-line_leaves_out sub own all (Exhausted s word) lines among =
-    exhausted_leaves_out (s == sub) (is_reported sub word own) (is_reported sub word all) word (among.more word) (λ same is. among.apart word (reports_itself sub s word lines same) is)
-line_leaves_out sub own all (Sync s answer) lines among = of_subscriber (s == sub) (entries_of_verdict sub own answer) (entries_of_verdict sub all answer) (verdict_leaves_out sub own all answer among.more)
-line_leaves_out sub own all (Give s n answer) lines among = refl
-line_leaves_out sub own all (Further said) lines among = refl
-line_leaves_out sub own all (Event r) lines among =
-    leaves_out-append (entries_of_resync sub own (resync_for sub r)) (entries_of_resync sub all (resync_for sub r))
-    (entries_of_number sub own (number_for sub r)) (entries_of_number sub all (number_for sub r))
-    (resync_leaves_out sub own all (resync_for sub r) among.more)
-    (number_leaves_out sub own all (number_for sub r) among.more
-    (λ word says is. among.apart word (or_left (is_exhausted word (number_for sub r)) (is_reported sub word lines) says) is))
+line_leaves_out sub own all line lines among =
+    leaves_out-append (entries_of_resync sub own (resync_by sub line)) (entries_of_resync sub all (resync_by sub line))
+    (entries_of_number sub own (number_by sub line)) (entries_of_number sub all (number_by sub line))
+    (resync_leaves_out sub own all (resync_by sub line) among.more)
+    (number_leaves_out sub own all (number_by sub line) among.more
+    (λ word says is. among.apart word (or_left (reports sub word line) (is_reported sub word lines) says) is))
 
 -- the entries of some lines
 lines_leave_out : (sub : ℕ) (own all lines : List LineRecord) → IsAmong sub own all lines → LeavesOutLooks (entries_of_lines sub own lines) (entries_of_lines sub all lines)
@@ -161,20 +129,9 @@ number_marks sub word own (Some (number.Withheld n stop)) fresh says = absurd (f
 
 -- the first line that reports a word stands for the mark after it
 line_marks : (sub word : ℕ) (own : List LineRecord) (line : LineRecord) → is_reported sub word own ≡ false → reports sub word line ≡ true → 1 ≤ marks word (entries_of_line sub own line)
-line_marks sub word own (Vector s n) fresh says = absurd (false≢true says)
-line_marks sub word own (Withheld s n stop) fresh says = absurd (false≢true says)
-line_marks sub word own (Exhausted s read) fresh says =
-    let (same, is) = and_parts (s == sub) (read == word) says in
-    let here : entries_of_line sub own (Exhausted s read) ≡ Drawn (word + 1) ∷ [] =
-    ap (λ b. if b then (if is_reported sub read own then [] else Drawn (read + 1) ∷ []) else []) same
-    ∙ ap (λ k. if is_reported sub k own then [] else Drawn (k + 1) ∷ []) (eqb-true read word is) ∙ ap (λ b. if b then [] else Drawn (word + 1) ∷ []) fresh in
-    omega (arith, ap (marks word) here, mark_once word)
-line_marks sub word own (Sync s answer) fresh says = absurd (false≢true says)
-line_marks sub word own (Give s n answer) fresh says = absurd (false≢true says)
-line_marks sub word own (Further said) fresh says = absurd (false≢true says)
-line_marks sub word own (Event r) fresh says =
-    let mark = number_marks sub word own (number_for sub r) fresh says in
-    omega (arith, marks-append word (entries_of_resync sub own (resync_for sub r)) (entries_of_number sub own (number_for sub r)), mark)
+line_marks sub word own line fresh says =
+    let mark = number_marks sub word own (number_by sub line) fresh says in
+    omega (arith, marks-append word (entries_of_resync sub own (resync_by sub line)) (entries_of_number sub own (number_by sub line)), mark)
 
 -- lines that report a word first stand for the mark after it
 lines_mark : (sub word : ℕ) (own lines : List LineRecord) → is_reported sub word own ≡ false → is_reported sub word lines ≡ true → 1 ≤ marks word (entries_of_lines sub own lines)

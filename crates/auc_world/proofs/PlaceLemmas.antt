@@ -1,7 +1,7 @@
 -- For `places`: the first device with an identity, by the places from one on.
 use Rattle.std.proofs.Common.{◌≡◌, ℕ, suc, ◌+◌, ◌<◌, nat_lt, Bool, true, false, List, ◌∷◌, [], length, Option, Some, None, refl, sym, ap, ◌∙◌, map, drop, drop-cons, get_or, if◌then◌else◌, arith}
 use Rattle.std.specs.List.{position_or_len}
-use Rattle.auc_edge.specs.Identity.{Identity}
+use Rattle.auc_memory.specs.Identity.{Identity}
 use Rattle.auc_peer.specs.Subscription.{Subscription, subscription_of}
 use Rattle.auc_peer.specs.declared.device.Device.{Device}
 use Rattle.auc_subs.specs.Subscriber.{same_identity}

@@ -13,12 +13,12 @@ use Rattle.auc_lines.specs.declared.part.End.TheVariants as end
 use Rattle.auc_lines.specs.declared.part.SessionLine.{SessionLine}
 use Rattle.auc_aes.specs.Bytes.{IsBlock}
 use Rattle.auc_packet.specs.Messages.{is_missing}
-use Rattle.auc_packet.specs.Received.{Seen, is_sealed}
+use Rattle.auc_packet.specs.Received.{Seen, attrs_in, is_sealed}
 use Rattle.auc_packet.specs.Sealed.{MayBeSealed, draft_mac, sealed, with_mac}
 use Rattle.auc_packet.specs.Spelling.{MayBeWritten, packet_text}
 use Rattle.auc_packet.specs.declared.received.Reading.TheVariants as reading
 use Rattle.auc_packet.specs.declared.subtype.Subtype.TheVariants as subtype
-use Rattle.auc_peer.specs.Attributes.{attrs_in, checkcode as code_in, differs as differs_own, id_in, id_of}
+use Rattle.auc_peer.specs.Attributes.{checkcode as code_in, id_in, id_of}
 use Rattle.auc_peer.specs.Messages.{client_error}
 use Rattle.auc_peer.specs.Rows.{peer_row, waiting}
 use Rattle.auc_peer.specs.Subscription.{Subscription}
@@ -29,6 +29,7 @@ use Rattle.auc_peer.specs.declared.decrypted.Decrypted.TheVariants as decrypted
 use Rattle.auc_peer.specs.declared.peer.Peer.{Peer}
 use Rattle.auc_peer.specs.declared.rows.Row.{Row as PeerRow}
 use Rattle.auc_peer.specs.declared.rows.Row.TheVariants as peer_rows
+use Rattle.auc_seal.specs.Checkcode.{differs as differs_own}
 use Rattle.auc_vector.specs.declared.why.PeerWhy.{PeerWhy}
 use Rattle.auc_vector.specs.declared.why.PeerWhy.TheVariants as why
 use Rattle.auc_reauth.specs.Device.{Keeps, is_open}

@@ -8,13 +8,13 @@ use Rattle.auc_hmac.specs.declared.method.Method.{Method}
 use Rattle.auc_lines.specs.declared.part.SessionLine.{SessionLine}
 use Rattle.auc_milenage.specs.Milenage.{auts, f2, f3, f4}
 use Rattle.auc_packet.specs.Head.{head_as, head_at}
-use Rattle.auc_packet.specs.Received.{Seen, is_sealed}
+use Rattle.auc_packet.specs.Received.{Seen, attrs_in, is_sealed}
 use Rattle.auc_packet.specs.Sealed.{with_mac}
 use Rattle.auc_packet.specs.Spelling.{packet_text}
 use Rattle.auc_packet.specs.declared.packet.Packet.TheVariants as packet
 use Rattle.auc_packet.specs.Packet.{method_type}
 use Rattle.auc_packet.specs.declared.received.Reading.{Reading}
-use Rattle.auc_peer.specs.Attributes.{attrs_in, checkcode, differs, id_in, is_there}
+use Rattle.auc_peer.specs.Attributes.{checkcode, id_in, is_there}
 use Rattle.auc_peer.specs.Messages.{response_bytes, sync_failure}
 use Rattle.auc_peer.specs.Rows.{ended_by, is_last, peer_row, repeats, row_headed, row_in}
 use Rattle.auc_peer.specs.Subscription.{Subscription}
@@ -33,7 +33,7 @@ use Rattle.auc_vector.specs.declared.why.PeerWhy.TheVariants as why
 use Rattle.auc_reauth.specs.Device.{Keeps}
 use Rattle.auc_request.specs.Request.{checkcode_of, first_value}
 use Rattle.auc_request.specs.declared.enclosed.Enclosed.{Enclosed}
-use Rattle.auc_seal.specs.Checkcode.{checkcode_of as code_of, value_bytes}
+use Rattle.auc_seal.specs.Checkcode.{checkcode_of as code_of, differs, value_bytes}
 use Rattle.auc_server.specs.Messages.{attrs_given, challenge_draft}
 use Rattle.auc_server.specs.Rounds.{checkcode as server_code}
 use Rattle.auc_server.specs.declared.naming.GivenNames.{GivenNames}

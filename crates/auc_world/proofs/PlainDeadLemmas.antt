@@ -1,12 +1,13 @@
 -- For plain sessions: a server that has refused draws no number any more.
 use Rattle.std.proofs.Common.{◌≡◌, ◌⊎◌, ℕ, Bool, true, false, List, [], Option, Some, None, refl, sym, subst, ⊎_elim, inl, inr, if◌then◌else◌, not, ◌==◌, ◌||◌}
+use Rattle.auc_attr.specs.First.{first_value as first_of}
 use Rattle.auc_attr.specs.declared.attr.Attr.{Attr}
 use Rattle.auc_packet.specs.Head.{head_at}
 use Rattle.auc_hmac.specs.declared.keys.KeySet.{KeySet}
 use Rattle.auc_hmac.specs.declared.keys.Master.{Master}
 use Rattle.auc_hmac.specs.declared.method.Method.{Method}
 use Rattle.auc_packet.specs.Messages.{is_malformed, is_missing}
-use Rattle.auc_packet.specs.Received.{Seen, is_sealed}
+use Rattle.auc_packet.specs.Received.{Seen, attrs_in, is_sealed}
 use Rattle.auc_packet.specs.declared.packet.Head.{Head}
 use Rattle.auc_packet.specs.declared.packet.Packet.TheVariants as packet
 use Rattle.auc_packet.specs.declared.received.Reading.{Reading}
@@ -14,7 +15,7 @@ use Rattle.auc_packet.specs.declared.received.Reading.TheVariants as reading
 use Rattle.auc_packet.specs.declared.subtype.Subtype.{Subtype}
 use Rattle.auc_packet.specs.declared.subtype.Subtype.TheVariants as subtype
 use Rattle.auc_peer.specs.Asking.{answer_noted}
-use Rattle.auc_peer.specs.Attributes.{attrs_in, checkcode as code_in, differs as differs_own}
+use Rattle.auc_peer.specs.Attributes.{checkcode as code_in}
 use Rattle.auc_peer.specs.Subscription.{Subscription}
 use Rattle.auc_peer.specs.Table.{accepting, by_answer, by_counter, challenged, client, context_of, disclosed, keys_at, master_at, opened, own_code, peer_does, resumed_by, resuming, small, succeeded, taken, with_inner}
 use Rattle.auc_peer.specs.declared.decrypted.Decrypted.{Decrypted}
@@ -25,14 +26,16 @@ use Rattle.auc_peer.specs.declared.peer.PeerState.{PeerState}
 use Rattle.auc_peer.specs.declared.peer.PeerState.TheVariants as peer_state
 use Rattle.auc_peer.specs.declared.rows.Row.{Row as PeerRow}
 use Rattle.auc_peer.specs.declared.rows.Row.TheVariants as peer_row
+use Rattle.auc_request.specs.Request.{checkcode_of}
+use Rattle.auc_seal.specs.Checkcode.{differs, differs as differs_own}
 use Rattle.auc_vector.specs.declared.why.PeerWhy.{PeerWhy}
 use Rattle.auc_vector.specs.declared.why.PeerWhy.TheVariants as peer_why
 use Rattle.auc_reauth.specs.Device.{Keeps, is_open}
 use Rattle.auc_reauth.specs.Store.{entry}
 use Rattle.auc_reauth.specs.declared.context.Context.{Context}
-use Rattle.auc_server.specs.Attributes.{checkcode_of, error_code_of, first_of}
+use Rattle.auc_server.specs.Attributes.{error_code_of}
 use Rattle.auc_server.specs.Rounds.{checkcode}
-use Rattle.auc_server.specs.Rows.{differs, in_state, is_type, is_wrong, on_client_error, on_error_code, on_head, on_method, on_reading, on_reauth, on_resumed, says_small, server_row, text_in, type_awaited}
+use Rattle.auc_server.specs.Rows.{in_state, is_type, is_wrong, on_client_error, on_error_code, on_head, on_method, on_reading, on_reauth, on_resumed, says_small, server_row, text_in, type_awaited}
 use Rattle.auc_server.specs.Server.{ServerEnd}
 use Rattle.auc_subs.specs.Setting.{Setting}
 use Rattle.auc_server.specs.Table.{failed, ignored, notified, packets_after, reauthenticated, server_does, server_step, silent}

@@ -5,14 +5,14 @@ use Rattle.std.proofs.lemmas.List.{get_or_append_left, get_or_push, take_at}
 use Rattle.std.proofs.lemmas.List.Sums.{position_or_len_is}
 use Rattle.std.proofs.Math.Seq.{get_or-append_seam}
 use Rattle.std.proofs.lemmas.Option.{get_or_from_slice_get, slice_get_within}
-use Rattle.auc_edge.specs.Identity.{Identity as Imsi, IsIdentity, digits_of, last_digits}
+use Rattle.auc_memory.specs.Identity.{Identity as Imsi, IsIdentity, digits_of, last_digits}
 use Rattle.auc_hmac.specs.declared.method.Method.{Method}
 use Rattle.auc_hmac.specs.declared.method.Method.TheVariants as method
-use Rattle.auc_ident.specs.Permanent.{permanent_in, permanent_text, up_to, username}
+use Rattle.auc_ident.specs.Permanent.{permanent_in, permanent_text, up_to, username, with_realm}
 use Rattle.auc_lines.specs.declared.part.Identity.{Identity}
 use Rattle.auc_lines.specs.declared.part.Identity.TheVariants as identity
 use Rattle.auc_peer.specs.Identities.{asked_text, context_or, first_text, full_name, full_text, held_text, pseudonym_or}
-use Rattle.auc_peer.specs.Subscription.{Subscription, identity_text, with_realm}
+use Rattle.auc_peer.specs.Subscription.{Subscription, identity_text}
 use Rattle.auc_reauth.specs.Device.{Keeps}
 use Rattle.auc_reauth.specs.Store.{entry}
 use Rattle.auc_reauth.specs.declared.context.Context.{Context}

@@ -15,7 +15,7 @@ use Rattle.auc_ident.specs.Permanent.{EachPermanentIsReadBack}
 use Rattle.auc_packet.specs.Head.{head_as, head_at, head_from, head_of_frame}
 use Rattle.auc_packet.specs.Laws.{WrittenIsRead, has_values}
 use Rattle.auc_packet.specs.Packet.{ReadsPacket, method_type, subtype_number}
-use Rattle.auc_packet.specs.Received.{IsReading, IsReceived, OneReceived, Seen, is_sealed}
+use Rattle.auc_packet.specs.Received.{IsReading, IsReceived, OneReceived, Seen, is_sealed, packet_in}
 use Rattle.auc_packet.specs.Sealed.{MayBeSealed, SealedIsRead, SealedIsRight, draft_mac, sealed, with_mac}
 use Rattle.auc_packet.specs.Spelling.{MayBeWritten, packet_text, whole}
 use Rattle.auc_packet.specs.declared.packet.Head.{Head}
@@ -24,7 +24,6 @@ use Rattle.auc_packet.specs.declared.packet.Packet.TheVariants as packet
 use Rattle.auc_packet.specs.declared.received.Reading.{Reading}
 use Rattle.auc_packet.specs.declared.received.Reading.TheVariants as reading
 use Rattle.auc_packet.specs.declared.sealing.Draft.{Draft}
-use Rattle.auc_peer.specs.Attributes.{packet_in}
 use Rattle.auc_seal.specs.Laws.{EncryptedIsDecrypted, EncryptedIsWritable, OpensAsDecrypts}
 use Rattle.auc_vector.specs.Auts.{EachAutsIsReadBack}
 use Rattle.auc_vector.specs.Vector.{AutnHasTheMac}

@@ -1,6 +1,7 @@
 -- For resumed sessions: after an identity for full authentication was asked for, no context is taken up again, and one that was
 -- stays.
 use Rattle.std.proofs.Common.{◌≡◌, ℕ, Bool, true, false, not, if◌then◌else◌, List, [], Option, Some, None, slice_get, refl, sym, ◌==◌, ◌||◌}
+use Rattle.auc_attr.specs.First.{first_value as first_of}
 use Rattle.auc_attr.specs.declared.attr.Attr.{Attr}
 use Rattle.auc_hmac.specs.declared.method.Method.{Method}
 use Rattle.auc_packet.specs.Head.{head_at}
@@ -13,10 +14,12 @@ use Rattle.auc_packet.specs.declared.received.Reading.TheVariants as reading
 use Rattle.auc_packet.specs.declared.subtype.Subtype.{Subtype}
 use Rattle.auc_packet.specs.declared.subtype.Subtype.TheVariants as subtype
 use Rattle.auc_request.specs.declared.identities.IdentityRequest.TheVariants as request
+use Rattle.auc_request.specs.Request.{checkcode_of}
+use Rattle.auc_seal.specs.Checkcode.{differs}
 use Rattle.auc_server.proofs.Facts.{Says, none_resumed, says_row}
-use Rattle.auc_server.specs.Attributes.{auts_of, checkcode_of, error_code_of, first_of, identity_in, res_of}
+use Rattle.auc_server.specs.Attributes.{auts_of, error_code_of, identity_in, res_of}
 use Rattle.auc_server.specs.Rounds.{checkcode}
-use Rattle.auc_server.specs.Rows.{by_auts, challenge_or, differs, in_state, is_expected, is_type, is_wrong, on_auts, on_challenged, on_client_error, on_error_code, on_full, on_head, on_identity, on_message, on_method, on_permanent, on_reading, on_reauth, on_response, on_resumed, on_sync_failure, permanent_subscriber, read_by, says_small, server_row, subscriber_in, text_in, type_awaited}
+use Rattle.auc_server.specs.Rows.{by_auts, challenge_or, in_state, is_expected, is_type, is_wrong, on_auts, on_challenged, on_client_error, on_error_code, on_full, on_head, on_identity, on_message, on_method, on_permanent, on_reading, on_reauth, on_response, on_resumed, on_sync_failure, permanent_subscriber, read_by, says_small, server_row, subscriber_in, text_in, type_awaited}
 use Rattle.auc_server.specs.Server.{ServerEnd, resumed_of}
 use Rattle.auc_subs.specs.Setting.{Setting}
 use Rattle.auc_server.specs.Table.{challenged, challenged_with, first_challenge, identified, names_given, noted, packets_after, resynchronised, resynchronising, server_does, server_step, vector_at}

@@ -7,14 +7,14 @@ use Rattle.auc_hmac.specs.declared.method.Method.{Method}
 use Rattle.auc_hmac.specs.declared.method.Method.TheVariants as method
 use Rattle.auc_lines.specs.declared.part.SessionLine.{SessionLine}
 use Rattle.auc_packet.specs.Head.{head_as, head_at}
-use Rattle.auc_packet.specs.Received.{Seen}
+use Rattle.auc_packet.specs.Received.{Seen, packet_in}
 use Rattle.auc_packet.specs.Sealed.{with_mac}
 use Rattle.auc_packet.specs.Spelling.{MayBeWritten, packet_text}
 use Rattle.auc_packet.specs.declared.packet.Packet.TheVariants as packet
 use Rattle.auc_packet.specs.Packet.{method_type}
 use Rattle.auc_packet.specs.declared.received.Reading.TheVariants as reading
 use Rattle.auc_packet.specs.declared.subtype.Subtype.TheVariants as subtype
-use Rattle.auc_peer.specs.Attributes.{id_in, packet_in}
+use Rattle.auc_peer.specs.Attributes.{id_in}
 use Rattle.auc_peer.specs.Identities.{asked_text, first_text}
 use Rattle.auc_peer.specs.Messages.{identified as identity_answer, identity_response}
 use Rattle.auc_peer.specs.Rows.{of_kind, peer_row, repeats, row_headed, row_in, waiting}

@@ -2,7 +2,7 @@
 use Rattle.std.proofs.Common.{◌≡◌, ◌⊎◌, ℕ, ◌-◌, ◌≤◌, Bool, true, false, if◌then◌else◌, List, [], ◌∷◌, length, Option, Some, None, refl, sym, ap, ◌∙◌, subst, arith, ⊎_elim, inl, inr}
 use Rattle.std.specs.Prelude.{slice_index}
 use Rattle.auc_hmac.specs.declared.method.Method.{Method}
-use Rattle.auc_ident.specs.Permanent.{leading, permanent_text, username}
+use Rattle.auc_ident.specs.Permanent.{leading, permanent_text, username, with_realm}
 use Rattle.auc_lines.specs.Part.{IsShortIdentity}
 use Rattle.auc_lines.specs.declared.part.End.TheVariants as end
 use Rattle.auc_lines.specs.declared.part.Identity.{Identity}
@@ -11,7 +11,7 @@ use Rattle.auc_lines.specs.declared.part.SessionLine.{SessionLine}
 use Rattle.auc_packet.specs.Spelling.{packet_text}
 use Rattle.auc_peer.specs.Identities.{asked_text, context_or, first_text, full_name, held_text}
 use Rattle.auc_peer.specs.Messages.{identified as identity_answer, identity_response}
-use Rattle.auc_peer.specs.Subscription.{Subscription, identity_text, with_realm}
+use Rattle.auc_peer.specs.Subscription.{Subscription, identity_text}
 use Rattle.auc_peer.specs.Table.{kept_by, new_peer, noted}
 use Rattle.auc_peer.specs.declared.peer.Peer.{Peer}
 use Rattle.auc_peer.specs.declared.rows.Row.{Row as PeerRow}

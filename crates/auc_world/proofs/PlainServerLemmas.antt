@@ -15,7 +15,7 @@ use Rattle.auc_hmac.specs.declared.method.Method.TheVariants as method
 use Rattle.auc_milenage.specs.Milenage.{auts}
 use Rattle.auc_packet.specs.Messages.{is_malformed}
 use Rattle.auc_packet.specs.Packet.{method_type}
-use Rattle.auc_packet.specs.Received.{Seen, is_sealed}
+use Rattle.auc_packet.specs.Received.{Seen, is_sealed, packet_in}
 use Rattle.auc_packet.specs.Sealed.{with_mac}
 use Rattle.auc_packet.specs.Head.{head_at}
 use Rattle.auc_packet.specs.Spelling.{MayBeWritten, packet_text}
@@ -33,13 +33,13 @@ use Rattle.auc_server.specs.Contexts.{context_in, gives_next, homes_left}
 use Rattle.auc_server.specs.InnerMessages.{IsName}
 use Rattle.auc_server.specs.Messages.{aka_identity, challenge_bytes, reauth_bytes}
 use Rattle.auc_server.specs.Ordinals.{ordinal_given}
-use Rattle.auc_server.specs.Rounds.{checkcode, heard, packet_in}
+use Rattle.auc_server.specs.Rounds.{checkcode, heard}
 use Rattle.auc_server.specs.Rows.{by_auts, in_state, is_type, on_any, on_auts, on_challenged, on_first, on_full, on_head, on_method, on_permanent, on_reading, on_response, read_by, server_row, text_in, type_awaited}
 use Rattle.auc_server.specs.Server.{ServerEnd, resumed_of}
 use Rattle.auc_subs.specs.Setting.{Setting}
 use Rattle.auc_server.specs.State.{last_of}
 use Rattle.auc_server.specs.Steps.{asking}
-use Rattle.auc_server.specs.Table.{challenge_of, challenged, challenged_with, ended, first_challenge, identified, identity_asked, index_after, names_given, next_given, next_id, noted, packets_after, random_at, resumed, resumed_with, resuming, resumption, resynchronised, resynchronising, sent_with, server_does, server_step, silent, vector_of_row}
+use Rattle.auc_server.specs.Table.{challenge_of, challenged, challenged_with, ended, first_challenge, identified, identity_asked, names_given, next_given, next_id, noted, packets_after, random_at, resumed, resumed_with, resuming, resumption, resynchronised, resynchronising, sent_with, server_does, server_step, silent, vector_of_row}
 use Rattle.auc_server.specs.declared.naming.GivenNames.{GivenNames}
 use Rattle.auc_server.specs.declared.options.ServerOptions.{ServerOptions}
 use Rattle.auc_server.specs.declared.reply.Reply.{Reply}
@@ -56,7 +56,7 @@ use Rattle.auc_sqn.specs.Number.{seq_of, top_of}
 use Rattle.auc_subs.specs.declared.row.Row as rows
 use Rattle.auc_vector.specs.Auts.{read_auts_of}
 use Rattle.auc_vector.specs.Keys.{keys_of}
-use Rattle.auc_random.specs.Random.{rand_of}
+use Rattle.auc_random.specs.Random.{index_after, rand_of}
 use Rattle.auc_vector.specs.Vector.{vector_of}
 use Rattle.auc_vector.specs.declared.auts.Auts.{Auts}
 use Rattle.auc_vector.specs.declared.auts.Auts.TheVariants as read

@@ -11,11 +11,11 @@ use Rattle.auc_ident.specs.Permanent.{username}
 use Rattle.auc_lines.specs.declared.part.SessionLine.{SessionLine}
 use Rattle.auc_lines.specs.declared.part.End.TheVariants as end
 use Rattle.auc_packet.specs.Messages.{is_missing}
-use Rattle.auc_packet.specs.Received.{Seen, is_sealed}
+use Rattle.auc_packet.specs.Received.{Seen, attrs_in, is_sealed}
 use Rattle.auc_packet.specs.Sealed.{draft_mac, with_mac}
 use Rattle.auc_packet.specs.declared.received.Reading.{Reading}
 use Rattle.auc_packet.specs.declared.subtype.Subtype.TheVariants as subtype
-use Rattle.auc_peer.specs.Attributes.{attrs_in, checkcode as code_in, differs, id_in, id_of, is_there}
+use Rattle.auc_peer.specs.Attributes.{checkcode as code_in, id_in, id_of, is_there}
 use Rattle.auc_peer.specs.Messages.{reauth_bytes as reply_bytes}
 use Rattle.auc_peer.specs.Rows.{is_last, peer_row, repeats}
 use Rattle.auc_peer.specs.Subscription.{Subscription}
@@ -28,6 +28,7 @@ use Rattle.auc_peer.specs.declared.peer.Peer.{Peer}
 use Rattle.auc_peer.specs.declared.peer.PeerState.TheVariants as state
 use Rattle.auc_peer.specs.declared.rows.Row.{Row}
 use Rattle.auc_peer.specs.declared.rows.Row.TheVariants as row
+use Rattle.auc_seal.specs.Checkcode.{differs}
 use Rattle.auc_vector.specs.declared.why.PeerWhy.{PeerWhy}
 use Rattle.auc_vector.specs.declared.why.PeerWhy.TheVariants as why
 use Rattle.auc_random.specs.Random.{nonce_of}

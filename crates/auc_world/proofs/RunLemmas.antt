@@ -1,9 +1,7 @@
 -- For the crates that join the runs of several jobs: what an unbroken run keeps, and of which number a success is.
-use Rattle.std.proofs.Common.{◌≡◌, ℕ, ◌≤◌, List, Option, Some, None, All, Contains, sym, ap, ◌∙◌, subst}
+use Rattle.std.proofs.Common.{◌≡◌, ℕ, ◌≤◌, List, None, All, Contains, sym, ap, ◌∙◌, subst}
 use Rattle.auc_hmac.specs.declared.keys.KeySet.{KeySet}
 use Rattle.auc_ident.specs.Permanent.{username}
-use Rattle.auc_peer.specs.declared.peer.Challenge.{Challenge}
-use Rattle.auc_reauth.specs.declared.context.Context.{Context}
 use Rattle.auc_released.specs.declared.numbers.Number.{Number}
 use Rattle.auc_server.specs.Table.{vector_at}
 use Rattle.auc_server.specs.declared.server.Resumed.{Resumed}

@@ -1,38 +1,46 @@
 -- For the crates that serve lines for EAP-SIM, and for the laws of transcripts: what such a line draws, and that the records of a
 -- session release nothing and name the line's subscriber.
-use Rattle.std.proofs.Common.{◌≡◌, ℕ, ◌≤◌, ◌==◌, zero, suc, Bool, true, false, List, [], ◌∷◌, ◌++◌, flat_map, length, map, All, Some, refl, sym, ap, ◌∙◌, subst, arith, append-nil, eq-eqb}
+use Rattle.std.proofs.Common.{◌≡◌, ℕ, ◌≤◌, ◌==◌, zero, suc, Bool, true, false, List, [], ◌∷◌, ◌++◌, flat_map, length, map, All, Some, None, refl, sym, ap, ◌∙◌, subst, arith, append-nil, eq-eqb}
 use Rattle.std.specs.Prelude.{if◌then◌else◌}
 use Rattle.std.proofs.lemmas.List.Concat.{flat_map-append}
 use Rattle.std.proofs.lemmas.List.Elements.{All-append, All-cons, All-nil}
 use Rattle.auc_lines.specs.Sim.{SimValue}
 use Rattle.auc_vector.specs.declared.sim_note.SimNote.{SimNote}
 use Rattle.auc_record.specs.Draws.{DrawGives, IsReleasable}
+use Rattle.auc_record.specs.Event.{number_released}
 use Rattle.auc_record.specs.Lines.{numbers_of, released_by}
 use Rattle.auc_record.specs.Record.{subscriber_of}
 use Rattle.auc_subs.specs.Setting.{Setting}
 use Rattle.auc_world.specs.Sim.{SimFollowsIf, SimGives}
 use Rattle.auc_record.specs.declared.further.Further.TheVariants as further
 use Rattle.auc_record.specs.declared.record.LineRecord.{LineRecord}
-use Rattle.auc_record.specs.declared.record.LineRecord.TheVariants.{Vector, Withheld, Exhausted, Sync, Give, Further, Event as Told}
+use Rattle.auc_record.specs.declared.record.LineRecord.TheVariants.{Number, Sync, Give, Further, Event as Told}
+use Rattle.auc_vector.specs.declared.notes.NumberNote.{NumberNote}
+use Rattle.auc_vector.specs.declared.notes.NumberNote.TheVariants as number
 
 -- ---- what is drawn
 
--- the numbers of some lines, the first of which releases one
-number_first : (s sub n : ℕ) (lines : List LineRecord) → s ≡ sub → numbers_of sub (Vector s n ∷ lines) ≡ n ∷ numbers_of sub lines
-number_first s sub n lines same = ap (λ b. (if b then n ∷ [] else []) ++ numbers_of sub lines) (eq-eqb s sub same)
+-- the numbers of some lines, the first of which asked for one
+pub numbers_first : (s sub : ℕ) (note : NumberNote) (lines : List LineRecord) → s ≡ sub → numbers_of sub (Number s note ∷ lines) ≡ number_released (Some note) ++ numbers_of sub lines
+numbers_first s sub note lines same = ap (λ b. number_released (if b then Some note else None) ++ numbers_of sub lines) (eq-eqb s sub same)
+
+-- none, if it released none and is the last
+refused_first : (s sub : ℕ) (note : NumberNote) (lines : List LineRecord) → s ≡ sub → number_released (Some note) ≡ [] → lines ≡ [] → numbers_of sub (Number s note ∷ lines) ≡ []
+refused_first s sub note lines same refused last =
+    numbers_first s sub note lines same ∙ ap (λ (ns : List ℕ). ns ++ numbers_of sub lines) refused ∙ ap (numbers_of sub) last
 
 -- at most as many numbers are released as are asked for
 pub draw_few : (set : Setting) (sub count : ℕ) (lines : List LineRecord) → DrawGives set sub count lines → length (numbers_of sub lines) ≤ count
 draw_few set sub zero lines none = let same = ap (λ (ls : List LineRecord). length (numbers_of sub ls)) none in omega (arith, same)
 draw_few set sub (suc count) [] gives = absurd gives
-draw_few set sub (suc count) (Vector s n ∷ lines) (same, is, more) =
+draw_few set sub (suc count) (Number s (number.Drew n) ∷ lines) (same, is, more) =
     let rest = draw_few set sub count lines more in
-    let sizes : length (numbers_of sub (Vector s n ∷ lines)) ≡ suc (length (numbers_of sub lines)) = ap length (number_first s sub n lines same) in
+    let sizes : length (numbers_of sub (Number s (number.Drew n) ∷ lines)) ≡ suc (length (numbers_of sub lines)) = ap length (numbers_first s sub (number.Drew n) lines same) in
     omega (arith, rest, sizes)
-draw_few set sub (suc count) (Withheld s n stop ∷ lines) (same, first, last, none) =
-    let sizes = ap (λ (ls : List LineRecord). length (numbers_of sub ls)) none in omega (arith, sizes)
-draw_few set sub (suc count) (Exhausted s word ∷ lines) (same, spent, none) =
-    let sizes = ap (λ (ls : List LineRecord). length (numbers_of sub ls)) none in omega (arith, sizes)
+draw_few set sub (suc count) (Number s (number.Withheld n stop) ∷ lines) (same, first, last, none) =
+    let sizes : length (numbers_of sub (Number s (number.Withheld n stop) ∷ lines)) ≡ 0 = ap length (refused_first s sub (number.Withheld n stop) lines same refl none) in omega (arith, sizes)
+draw_few set sub (suc count) (Number s (number.Exhausted word) ∷ lines) (same, spent, none) =
+    let sizes : length (numbers_of sub (Number s (number.Exhausted word) ∷ lines)) ≡ 0 = ap length (refused_first s sub (number.Exhausted word) lines same refl none) in omega (arith, sizes)
 draw_few set sub (suc count) (Sync s answer ∷ lines) gives = absurd gives
 draw_few set sub (suc count) (Give s n answer ∷ lines) gives = absurd gives
 draw_few set sub (suc count) (Further said ∷ lines) gives = absurd gives
@@ -42,13 +50,13 @@ draw_few set sub (suc count) (Told r ∷ lines) gives = absurd gives
 pub draw_releasable : (set : Setting) (sub count : ℕ) (lines : List LineRecord) → DrawGives set sub count lines → All (IsReleasable set sub) (numbers_of sub lines)
 draw_releasable set sub zero lines none = subst (λ (ls : List LineRecord). All (IsReleasable set sub) (numbers_of sub ls)) (sym none) (All-nil (IsReleasable set sub))
 draw_releasable set sub (suc count) [] gives = absurd gives
-draw_releasable set sub (suc count) (Vector s n ∷ lines) (same, is, more) =
-    subst (All (IsReleasable set sub)) (sym (number_first s sub n lines same))
+draw_releasable set sub (suc count) (Number s (number.Drew n) ∷ lines) (same, is, more) =
+    subst (All (IsReleasable set sub)) (sym (numbers_first s sub (number.Drew n) lines same))
     (All-cons (IsReleasable set sub) n (numbers_of sub lines) is (draw_releasable set sub count lines more))
-draw_releasable set sub (suc count) (Withheld s n stop ∷ lines) (same, first, last, none) =
-    subst (λ (ls : List LineRecord). All (IsReleasable set sub) (numbers_of sub ls)) (sym none) (All-nil (IsReleasable set sub))
-draw_releasable set sub (suc count) (Exhausted s word ∷ lines) (same, spent, none) =
-    subst (λ (ls : List LineRecord). All (IsReleasable set sub) (numbers_of sub ls)) (sym none) (All-nil (IsReleasable set sub))
+draw_releasable set sub (suc count) (Number s (number.Withheld n stop) ∷ lines) (same, first, last, none) =
+    subst (All (IsReleasable set sub)) (sym (refused_first s sub (number.Withheld n stop) lines same refl none)) (All-nil (IsReleasable set sub))
+draw_releasable set sub (suc count) (Number s (number.Exhausted word) ∷ lines) (same, spent, none) =
+    subst (All (IsReleasable set sub)) (sym (refused_first s sub (number.Exhausted word) lines same refl none)) (All-nil (IsReleasable set sub))
 draw_releasable set sub (suc count) (Sync s answer ∷ lines) gives = absurd gives
 draw_releasable set sub (suc count) (Give s n answer ∷ lines) gives = absurd gives
 draw_releasable set sub (suc count) (Further said ∷ lines) gives = absurd gives
@@ -64,9 +72,9 @@ none_named sub lines none = subst (All (Names sub)) (sym none) (All-nil (Names s
 pub draw_names : (set : Setting) (sub count : ℕ) (lines : List LineRecord) → DrawGives set sub count lines → All (Names sub) lines
 draw_names set sub zero lines none = none_named sub lines none
 draw_names set sub (suc count) [] gives = absurd gives
-draw_names set sub (suc count) (Vector s n ∷ lines) (same, is, more) = All-cons (Names sub) (Vector s n) lines (ap Some same) (draw_names set sub count lines more)
-draw_names set sub (suc count) (Withheld s n stop ∷ lines) (same, first, last, none) = All-cons (Names sub) (Withheld s n stop) lines (ap Some same) (none_named sub lines none)
-draw_names set sub (suc count) (Exhausted s word ∷ lines) (same, spent, none) = All-cons (Names sub) (Exhausted s word) lines (ap Some same) (none_named sub lines none)
+draw_names set sub (suc count) (Number s (number.Drew n) ∷ lines) (same, is, more) = All-cons (Names sub) (Number s (number.Drew n)) lines (ap Some same) (draw_names set sub count lines more)
+draw_names set sub (suc count) (Number s (number.Withheld n stop) ∷ lines) (same, first, last, none) = All-cons (Names sub) (Number s (number.Withheld n stop)) lines (ap Some same) (none_named sub lines none)
+draw_names set sub (suc count) (Number s (number.Exhausted word) ∷ lines) (same, spent, none) = All-cons (Names sub) (Number s (number.Exhausted word)) lines (ap Some same) (none_named sub lines none)
 draw_names set sub (suc count) (Sync s answer ∷ lines) gives = absurd gives
 draw_names set sub (suc count) (Give s n answer ∷ lines) gives = absurd gives
 draw_names set sub (suc count) (Further said ∷ lines) gives = absurd gives

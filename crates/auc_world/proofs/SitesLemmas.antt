@@ -1,6 +1,5 @@
 -- For the crates that serve lines for sites: one event behind some, and a lease that ends before its first number.
-use Rattle.std.proofs.Common.{◌≡◌, ℕ, suc, List, [], ◌∷◌, ◌++◌, Some, refl, sym, ap, ◌∙◌, subst, append-nil, append_assoc, eq-eqb}
-use Rattle.std.specs.Prelude.{if◌then◌else◌}
+use Rattle.std.proofs.Common.{◌≡◌, ℕ, suc, List, [], ◌∷◌, ◌++◌, Some, refl, sym, ap, ◌∙◌, subst, append-nil, append_assoc}
 use Rattle.auc_lines.specs.declared.sites.SiteEvent.{SiteEvent}
 use Rattle.auc_sites.specs.Network.{Network, SitesTurn, after_event, after_turns}
 use Rattle.auc_vector.specs.declared.centre.CentreRefusal.{CentreRefusal}
@@ -10,7 +9,9 @@ use Rattle.auc_record.specs.Lines.{numbers_of}
 use Rattle.auc_subs.specs.Setting.{Setting}
 use Rattle.auc_world.specs.Sites.{SiteEventGives, SitesGo, refusal_in}
 use Rattle.auc_record.specs.declared.record.LineRecord.{LineRecord}
-use Rattle.auc_record.specs.declared.record.LineRecord.TheVariants.{Vector, Withheld, Exhausted, Sync, Give, Further, Event as Told}
+use Rattle.auc_record.specs.declared.record.LineRecord.TheVariants.{Number, Sync, Give, Further, Event as Told}
+use Rattle.auc_vector.specs.declared.notes.NumberNote.TheVariants as number
+use Rattle.auc_world.proofs.SimLemmas.{numbers_first}
 
 -- ---- one event more
 
@@ -44,10 +45,10 @@ sites_append set sub size w (first ∷ events) lines (t ∷ turns) e own turn (f
 -- if the first number is refused, there is a refusal
 pub lease_ends : (set : Setting) (sub count : ℕ) (lines : List LineRecord) → DrawGives set sub (suc count) lines → numbers_of sub lines ≡ [] → (why : CentreRefusal) × (refusal_in lines ≡ Some why)
 lease_ends set sub count [] gives none = absurd gives
-lease_ends set sub count (Vector s n ∷ lines) gives none =
-    absurd (cc (none, ap (λ b. (if b then n ∷ [] else []) ++ numbers_of sub lines) (eq-eqb s sub gives.0)))
-lease_ends set sub count (Withheld s n stop ∷ lines) gives none = (refusal.Withheld n stop, refl)
-lease_ends set sub count (Exhausted s word ∷ lines) gives none = (refusal.Exhausted word, refl)
+lease_ends set sub count (Number s (number.Drew n) ∷ lines) gives none =
+    absurd (cc (none, numbers_first s sub (number.Drew n) lines gives.0))
+lease_ends set sub count (Number s (number.Withheld n stop) ∷ lines) gives none = (refusal.Withheld n stop, refl)
+lease_ends set sub count (Number s (number.Exhausted word) ∷ lines) gives none = (refusal.Exhausted word, refl)
 lease_ends set sub count (Sync s answer ∷ lines) gives none = absurd gives
 lease_ends set sub count (Give s n answer ∷ lines) gives none = absurd gives
 lease_ends set sub count (Further said ∷ lines) gives none = absurd gives

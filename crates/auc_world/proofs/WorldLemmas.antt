@@ -29,7 +29,7 @@ use Rattle.auc_record.specs.declared.event.WorldRefusal.TheVariants as refused
 use Rattle.auc_record.specs.declared.record.Breach.{Breach}
 use Rattle.auc_world.specs.declared.net.SentPacket.{SentPacket}
 use Rattle.auc_world.specs.declared.net.Session.{Session}
-use Rattle.auc_edge.specs.declared.identity_key.IdentityKey.{IdentityKey}
+use Rattle.auc_memory.specs.declared.identity_key.IdentityKey.{IdentityKey}
 
 -- ---- lists
 

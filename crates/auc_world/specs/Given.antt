@@ -55,8 +55,6 @@ use Rattle.auc_record.specs.declared.record.LineRecord.{LineRecord}
 use Rattle.auc_record.specs.declared.record.LineRecord.TheVariants as record_of
 use Rattle.auc_record.specs.declared.record.GiveVerdict.{GiveVerdict}
 use Rattle.auc_record.specs.declared.record.GiveVerdict.TheVariants as given
-use Rattle.auc_record.specs.declared.record.SyncVerdict.{SyncVerdict}
-use Rattle.auc_record.specs.declared.record.SyncVerdict.TheVariants as verdict
 use Rattle.auc_record.specs.Lines.{accepted, is_in, numbers_of}
 use Rattle.auc_subs.specs.Setting.{Setting}
 use Rattle.auc_record.specs.VectorAt.{vector_at, vector_of_row}
@@ -98,33 +96,33 @@ abbrev pub said_by : Setting → Row → ℕ → Report → Auts
 said_by set row sub (report_of.Seq seq bit) = read_auts_of row.secret (rand_of set.key sub 0) (auts_for set row sub seq bit) row.bits
 said_by set row sub (report_of.Auts auts rand) = read_auts_of row.secret rand auts row.bits
 
--- the line's verdict, as the resynchronisation found it
-abbrev pub verdict_for : Resynchronisation → SyncVerdict
-verdict_for (found.Moved seen seq_ms) = verdict.Moved seen seq_ms
-verdict_for (found.InRange seen seq_ms) = verdict.InRange seen seq_ms
-verdict_for (found.Beyond seen seq_ms) = verdict.Beyond seen seq_ms
+-- the note of a resynchronisation
+abbrev pub resync_note : Resynchronisation → ResyncNote
+resync_note (found.Moved seen seq_ms) = resync.Moved seen seq_ms
+resync_note (found.InRange seen seq_ms) = resync.InRange seen seq_ms
+resync_note (found.Beyond seen seq_ms) = resync.Beyond seen seq_ms
 
--- the verdict on an AUTS that was read: its MAC-S is wrong, or the found number and SEQ_MS decide
-abbrev pub IsVerdict : Auts → SyncVerdict → Type 0
-IsVerdict read.WrongMac answer = answer ≡ verdict.WrongMac
-IsVerdict (read.SeqMs seq_ms) answer = (seen : ℕ) × (answer ≡ verdict_for (resynchronise_of seen seq_ms))
+-- what the centre makes of an AUTS that was read: its MAC-S is wrong, or the found number and SEQ_MS decide
+abbrev pub IsResynced : Auts → ResyncNote → Type 0
+IsResynced read.WrongMac note = note ≡ resync.BadAuts
+IsResynced (read.SeqMs seq_ms) note = (seen : ℕ) × (note ≡ resync_note (resynchronise_of seen seq_ms))
 
--- what follows a verdict: vectors, if the number moved or is in range
-abbrev pub VectorsFollow : Setting → ℕ → ℕ → SyncVerdict → List LineRecord → Type 0
-VectorsFollow set sub count (verdict.Moved seen seq_ms) lines = DrawGives set sub count lines
-VectorsFollow set sub count (verdict.InRange seen seq_ms) lines = DrawGives set sub count lines
-VectorsFollow set sub count (verdict.Beyond seen seq_ms) lines = lines ≡ []
-VectorsFollow set sub count verdict.WrongMac lines = lines ≡ []
+-- what follows it: vectors, if the number moved or is in range
+abbrev pub VectorsFollow : Setting → ℕ → ℕ → ResyncNote → List LineRecord → Type 0
+VectorsFollow set sub count (resync.Moved seen seq_ms) lines = DrawGives set sub count lines
+VectorsFollow set sub count (resync.InRange seen seq_ms) lines = DrawGives set sub count lines
+VectorsFollow set sub count (resync.Beyond seen seq_ms) lines = lines ≡ []
+VectorsFollow set sub count resync.BadAuts lines = lines ≡ []
 
--- what the AUTS of a report gives: the verdict, and what follows it
+-- what the AUTS of a report gives: what the centre makes of it, and what follows
 pub record SyncGives (set : Setting) (sub : ℕ) (report : Report) (count : ℕ) (lines : List LineRecord) : Type 0 where
   pub row : Row
   pub there : slice_get set.rows sub ≡ Some row
-  pub answer : SyncVerdict
+  pub note : ResyncNote
   pub more : List LineRecord
-  pub lines_are : lines ≡ record_of.Sync sub answer ∷ more
-  pub verdict : IsVerdict (said_by set row sub report) answer
-  pub follows : VectorsFollow set sub count answer more
+  pub lines_are : lines ≡ record_of.Sync sub note ∷ more
+  pub resynced : IsResynced (said_by set row sub report) note
+  pub follows : VectorsFollow set sub count note more
 
 -- ---- give
 
@@ -231,7 +229,7 @@ pub record FivegFollows (set : Setting) (before : Before) (line : FivegLine) (n 
 -- what a line for 5G gives: a vector, which is released for the USIM's answer, and what follows it
 abbrev pub FivegGives : Setting → Before → FivegLine → List LineRecord → Type 0
 FivegGives set before line lines =
-    OneGives set line.sub (λ n rest. FivegFollows set (behind before (record_of.Vector line.sub n ∷ [])) line n rest) lines
+    OneGives set line.sub (λ n rest. FivegFollows set (behind before (record_of.Number line.sub (number.Drew n) ∷ [])) line n rest) lines
 
 -- ---- events of sessions
 
@@ -245,13 +243,7 @@ abbrev pub IsNumberAnswer : Setting → ℕ → Option NumberNote → Type 0
 IsNumberAnswer set sub None = ⊥
 IsNumberAnswer set sub (Some note) = IsNumberNote set sub note
 
--- the note of a resynchronisation
-abbrev pub resync_note : Resynchronisation → ResyncNote
-resync_note (found.Moved seen seq_ms) = resync.Moved seen seq_ms
-resync_note (found.InRange seen seq_ms) = resync.InRange seen seq_ms
-resync_note (found.Beyond seen seq_ms) = resync.Beyond seen seq_ms
-
--- what follows it: a number is asked for, if the centre's number moved or is in range
+-- what follows a resynchronisation: a number is asked for, if the centre's number moved or is in range
 abbrev pub NumberFollows : Setting → ℕ → Resynchronisation → Option NumberNote → Type 0
 NumberFollows set sub (found.Moved seen seq_ms) answer = IsNumberAnswer set sub answer
 NumberFollows set sub (found.InRange seen seq_ms) answer = IsNumberAnswer set sub answer
@@ -308,9 +300,7 @@ packet_in (Ok note) = note.packet
 packet_in (Err why) = None
 
 abbrev pub packet_of : LineRecord → Option ℕ
-packet_of (record_of.Vector s n) = None
-packet_of (record_of.Withheld s n stop) = None
-packet_of (record_of.Exhausted s word) = None
+packet_of (record_of.Number s note) = None
 packet_of (record_of.Sync s answer) = None
 packet_of (record_of.Give s n answer) = None
 packet_of (record_of.Further said) = None

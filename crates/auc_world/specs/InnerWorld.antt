@@ -2,10 +2,10 @@
 use Rattle.std.specs.Prelude.{ℕ, ◌≡◌, ◌<◌, ◌≤◌, ◌+◌, ◌-◌, ◌^◌, List, [], ◌∷◌, map, length, position, Option, Some, None, slice_get, slice_set, take}
 use Rattle.std.specs.Global.{Vec}
 use Rattle.std.specs.Vec.{vec_len, vec_capacity}
-use Rattle.auc_edge.specs.Identity.{Identity}
-pub use Rattle.auc_edge.specs.IdentityKey.{is_key, key_of}
-use Rattle.auc_edge.specs.declared.identity_key.IdentityKey.{IdentityKey}
-use Rattle.auc_edge.specs.declared.stop.Stop.{Stop}
+use Rattle.auc_memory.specs.Identity.{Identity}
+pub use Rattle.auc_memory.specs.IdentityKey.{is_key, key_of}
+use Rattle.auc_memory.specs.declared.identity_key.IdentityKey.{IdentityKey}
+use Rattle.auc_memory.specs.declared.stop.Stop.{Stop}
 use Rattle.auc_history.specs.declared.entry.Entry.{Entry}
 use Rattle.auc_peer.specs.Subscription.{Subscription, subscription_of}
 use Rattle.auc_peer.specs.declared.device.Device.{Device}

@@ -39,7 +39,7 @@ use Rattle.auc_world.specs.Start.{subscription_at}
 use Rattle.auc_world.specs.World.{IsName}
 use Rattle.auc_world.specs.declared.net.Session.{Session}
 use Rattle.auc_record.specs.declared.record.LineRecord.{LineRecord}
-use Rattle.auc_record.specs.declared.record.LineRecord.TheVariants.{Vector, Withheld, Exhausted, Sync, Give, Further, Event}
+use Rattle.auc_record.specs.declared.record.LineRecord.TheVariants.{Number, Sync, Give, Further, Event}
 
 -- ---- the options of a session
 
@@ -155,9 +155,7 @@ pub record Succeeds (net : Net) (session : ℕ) : Type 0 where
 
 -- what came of the events of some lines
 abbrev pub came_of : LineRecord → List Came
-came_of (Vector sub n) = []
-came_of (Withheld sub n stop) = []
-came_of (Exhausted sub word) = []
+came_of (Number sub note) = []
 came_of (Sync sub answer) = []
 came_of (Give sub n answer) = []
 came_of (Further said) = []

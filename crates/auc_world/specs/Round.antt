@@ -1,21 +1,19 @@
 -- A lawful round: what its jobs ask of its records, and what the records say of each subscriber's history.
 -- Nothing here speaks of an order between the steps of different jobs.
 use Rattle.std.specs.Prelude.{◌≡◌, ℕ, ◌+◌, ◌^◌, ◌<◌, ◌==◌, Option, Some, None, List, [], ◌∷◌, ◌++◌, All, length, map, slice_index, if◌then◌else◌}
-use Rattle.auc_edge.specs.declared.stop.Stop.{Stop}
+use Rattle.auc_memory.specs.declared.stop.Stop.{Stop}
 use Rattle.auc_history.specs.History.{drawn, skipped}
 use Rattle.auc_history.specs.Split.{Splits, all_entries}
 use Rattle.auc_lines.specs.declared.part.Line.{Line}
 use Rattle.auc_subs.specs.Subscriber.{top_at}
 use Rattle.auc_record.specs.declared.record.Closing.{Closing}
 use Rattle.auc_record.specs.declared.record.LineRecord.{LineRecord}
-use Rattle.auc_record.specs.declared.record.LineRecord.TheVariants.{Vector, Withheld, Exhausted, Sync, Give, Further, Event}
-use Rattle.auc_record.specs.Event.{number_in}
 use Rattle.auc_vector.specs.declared.notes.NumberNote.{NumberNote}
 use Rattle.auc_vector.specs.declared.notes.NumberNote.TheVariants as number
 use Rattle.auc_record.specs.declared.record.RoundRecord.{RoundRecord}
 use Rattle.auc_record.specs.Entries.{entries_of_jobs}
 use Rattle.auc_world.specs.Given.{JobsGive}
-use Rattle.auc_record.specs.Lines.{numbers_of, withheld_of, all_lines}
+use Rattle.auc_record.specs.Lines.{number_said, numbers_of, withheld_of, all_lines}
 use Rattle.auc_world.specs.Net.{Net}
 use Rattle.auc_world.specs.Sessions.{AreVerdicts, job_sessions, premise_from}
 use Rattle.auc_subs.specs.Setting.{Setting}
@@ -51,13 +49,7 @@ NotesStop stop (Some (number.Withheld n cause)) = cause ≡ stop
 
 -- a line that withholds a number names this cause
 abbrev pub NamesStop : Stop → LineRecord → Type 0
-NamesStop stop (Vector s n) = Unit {0}
-NamesStop stop (Withheld s n cause) = cause ≡ stop
-NamesStop stop (Exhausted s word) = Unit {0}
-NamesStop stop (Sync s answer) = Unit {0}
-NamesStop stop (Give s n answer) = Unit {0}
-NamesStop stop (Further said) = Unit {0}
-NamesStop stop (Event r) = NotesStop stop (number_in r.result)
+NamesStop stop line = NotesStop stop (number_said line)
 
 -- what is withheld in a round in which the reservation of numbers stopped: each line names the cause of the stop, and each
 -- withheld number is above each number that the round releases for its subscriber

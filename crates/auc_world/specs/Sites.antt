@@ -26,6 +26,7 @@ use Rattle.auc_subs.specs.Setting.{Setting}
 use Rattle.auc_record.specs.declared.further.Further.TheVariants as further
 use Rattle.auc_record.specs.declared.record.LineRecord.{LineRecord}
 use Rattle.auc_record.specs.declared.record.LineRecord.TheVariants as record_of
+use Rattle.auc_vector.specs.declared.notes.NumberNote.TheVariants as number
 use Rattle.auc_record.specs.declared.sites.SitesNote.{SitesNote}
 use Rattle.auc_record.specs.declared.sites.SitesNote.TheVariants as note
 use Rattle.auc_record.specs.declared.sites.SitesOutcome.{SitesOutcome}
@@ -51,9 +52,9 @@ event_of w asked.MasterRestart = MasterRestart
 -- the refusal that ended some draws, if one did
 abbrev pub refusal_in : List LineRecord → Option CentreRefusal
 refusal_in [] = None
-refusal_in (record_of.Vector s n ∷ lines) = refusal_in lines
-refusal_in (record_of.Withheld s n stop ∷ lines) = Some (refusal.Withheld n stop)
-refusal_in (record_of.Exhausted s word ∷ lines) = Some (refusal.Exhausted word)
+refusal_in (record_of.Number s (number.Drew n) ∷ lines) = refusal_in lines
+refusal_in (record_of.Number s (number.Withheld n stop) ∷ lines) = Some (refusal.Withheld n stop)
+refusal_in (record_of.Number s (number.Exhausted word) ∷ lines) = Some (refusal.Exhausted word)
 refusal_in (record_of.Sync s verdict ∷ lines) = refusal_in lines
 refusal_in (record_of.Give s n verdict ∷ lines) = refusal_in lines
 refusal_in (record_of.Further said ∷ lines) = refusal_in lines

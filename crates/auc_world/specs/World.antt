@@ -1,6 +1,6 @@
 -- A job's network with the devices of its subscribers, and what applying an event does to them.
 use Rattle.std.specs.Prelude.{◌≡◌, ◌≢◌, ℕ, ◌<◌, ◌≤◌, List, length, map, All, Option, Some, None, slice_get}
-use Rattle.auc_edge.specs.declared.stop.Stop.{Stop}
+use Rattle.auc_memory.specs.declared.stop.Stop.{Stop}
 use Rattle.auc_history.specs.declared.entry.Entry.{Entry}
 use Rattle.auc_lines.specs.Part.{IsShortIdentity}
 use Rattle.auc_peer.specs.Subscription.{subscription_of}

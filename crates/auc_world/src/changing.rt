@@ -9,7 +9,7 @@ ghost use Rattle.auc_world.specs.Net.{copies, packet_at};
 use crate::acting::{Came, note};
 use crate::net::SentPacket;
 use crate::posting::{make_place, post_made};
-use auc_edge::{NoMemory, Octets, Room};
+use auc_memory::{NoMemory, Octets, Room};
 use auc_record::{NoteStep, WorldRefusal, copy_of};
 use std::alloc::Global;
 

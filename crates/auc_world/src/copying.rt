@@ -3,8 +3,8 @@
 ghost use Rattle.std.specs.Prelude.{◌≡◌, IfOk};
 ghost use Rattle.auc_world.specs.Happened.{first_of};
 
-use auc_edge::NoMemory;
 use auc_lines::Identity;
+use auc_memory::NoMemory;
 use auc_peer::FirstIdentity;
 use auc_record::copy_of;
 use std::alloc::Global;

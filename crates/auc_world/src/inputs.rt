@@ -6,9 +6,9 @@ ghost use Rattle.std.specs.Str.{bytes_eq};
 ghost use Rattle.auc_world.specs.Net.{inputs_of_context, inputs_of_peer, inputs_of_server, inputs_sent, is_sender, judged, other, same_challenge, same_end, same_fast, same_full, same_inputs, same_fast_keys, same_master, same_method, share_inputs, was_sent};
 
 use crate::net::{FastInputs, FullInputs, Inputs, SentPacket};
-use auc_edge::{NoMemory, Octets, Room};
 use auc_hmac::{Master, Method};
 use auc_lines::End;
+use auc_memory::{NoMemory, Octets, Room};
 use auc_peer::{Challenge, Peer, Source};
 use auc_reauth::Context;
 use auc_record::{Breach, copy_of};

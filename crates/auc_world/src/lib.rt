@@ -47,8 +47,7 @@ pub use auc_record::{
     BoxedEvent, BoxedFurther, Breach, Closing, Count, End, Event, EventRecord, FivegOutcome,
     Further, GiveVerdict, JobRecord, JobSessions, JobVectors, LineRecord, Note, NoteStep,
     PartRecord, Premise, RoundRecord, SessionVerdict, Setting, SitesNote, SitesOutcome,
-    SyncVerdict, WorldRefusal, closings, counts, note, note_all, printed_vectors, reopened,
-    vector_at,
+    WorldRefusal, closings, counts, note, note_all, printed_vectors, reopened, vector_at,
 };
 pub use bits::{auts_of, turned};
 pub use law::{

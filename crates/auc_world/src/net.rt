@@ -1,8 +1,8 @@
 //! The network of a job's sessions: packets and sessions.
 
-use auc_edge::Octets;
 use auc_hmac::{KeySet, Master, Method};
 use auc_lines::End;
+use auc_memory::Octets;
 use auc_peer::Peer;
 use auc_server::{Server, ServerOptions};
 

@@ -7,8 +7,8 @@ ghost use Rattle.auc_world.specs.Happened.{new_session};
 
 use crate::copying::first_of;
 use crate::net::Session;
-use auc_edge::NoMemory;
 use auc_lines::SessionLine;
+use auc_memory::NoMemory;
 use auc_peer::{Peer, PeerOptions};
 use auc_record::{copy_if_any, copy_of};
 use auc_server::ServerOptions;

@@ -2,11 +2,11 @@
 
 ghost use Rattle.std.specs.Prelude.{map, IfOk};
 ghost use Rattle.indexmap.specs.IndexMap.{get};
-ghost use Rattle.auc_edge.specs.IdentityKey.{is_key};
+ghost use Rattle.auc_memory.specs.IdentityKey.{is_key};
 ghost use Rattle.auc_peer.specs.Subscription.{subscription_of};
 ghost use Rattle.auc_world.specs.InnerWorld.{ArePlaced};
 
-use auc_edge::{IdentityKey, NoMemory};
+use auc_memory::{IdentityKey, NoMemory};
 use auc_peer::Device;
 use indexmap::IndexMap;
 use std::alloc::Global;

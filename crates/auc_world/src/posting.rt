@@ -8,8 +8,8 @@ ghost use Rattle.auc_world.specs.InnerWorld.{HasPlace, number_after};
 ghost use Rattle.auc_world.specs.Net.{copies, posted};
 
 use crate::net::{Inputs, SentPacket};
-use auc_edge::{NoMemory, Octets, Room};
 use auc_lines::End;
+use auc_memory::{NoMemory, Octets, Room};
 use auc_server::ServerWhy;
 use auc_vector::Step;
 use std::alloc::Global;

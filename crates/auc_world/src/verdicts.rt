@@ -5,8 +5,8 @@ ghost use Rattle.indexmap.specs.IndexMap.{values};
 ghost use Rattle.auc_world.specs.Sessions.{AreVerdicts, joined, premise_from, premise_with, same_keys, verdict_on};
 
 use crate::net::Session;
-use auc_edge::{Items, NoMemory};
 use auc_hmac::KeySet;
+use auc_memory::{Items, NoMemory};
 use auc_record::{JobSessions, Premise, SessionVerdict};
 use auc_server::ServerState;
 use auc_vector::Outcome;

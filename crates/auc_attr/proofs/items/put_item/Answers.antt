@@ -3,7 +3,7 @@ use Rattle.auc_attr.specs.Item.{item}
 use Rattle.auc_attr.specs.Spelling.{fits_row, row_text}
 use Rattle.auc_attr.proofs.ItemLemmas.{fits_item-is}
 use Rattle.auc_attr.proofs.SpellingLemmas.{item_text-is}
-use Rattle.auc_edge.specs.Reserved.{wrote}
+use Rattle.auc_memory.specs.Reserved.{wrote}
 use Rattle.auc_attr.proofs.items.put_item.Goals as goal
 
 pub layout_of-requires : goal.layout_of-requires

@@ -1,5 +1,5 @@
 use Rattle.std.proofs.Common.{drop}
-use Rattle.auc_edge.specs.Reserved.{wrote}
+use Rattle.auc_memory.specs.Reserved.{wrote}
 use Rattle.auc_attr.specs.Spelling.{spelling}
 use Rattle.auc_attr.proofs.WritingLemmas.{IsPut}
 use Rattle.auc_attr.proofs.writing.put_attrs.Given as goal

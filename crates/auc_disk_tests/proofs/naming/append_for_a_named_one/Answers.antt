@@ -1,5 +1,5 @@
 use Rattle.std.proofs.Common.{All, Contains, List, subst, sym}
-use Rattle.auc_edge.specs.Identity.{Identity}
+use Rattle.auc_memory.specs.Identity.{Identity}
 use Rattle.auc_disk_tests.proofs.naming.append_for_a_named_one.Goals as goal
 
 pub name_some-requires : goal.name_some-requires

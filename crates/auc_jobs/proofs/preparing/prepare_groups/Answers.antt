@@ -1,5 +1,5 @@
 use Rattle.std.proofs.Common.{◌≢◌, ℕ, List, All, length, sym, ◌∙◌, ap, subst}
-use Rattle.auc_edge.specs.Identity.{Identity}
+use Rattle.auc_memory.specs.Identity.{Identity}
 use Rattle.auc_jobs.specs.InnerPreparing.{AreReservable}
 use Rattle.auc_jobs.proofs.PreparingLemmas.{rest_reservable}
 use Rattle.auc_jobs.proofs.preparing.prepare_groups.Goals as goal

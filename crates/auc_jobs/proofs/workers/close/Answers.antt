@@ -1,6 +1,6 @@
 use Rattle.std.proofs.Common.{List, Option, ap, map, refl, subst, sym, ◌∙◌}
 use Rattle.auc_draw.specs.Values.{ClosedValue}
-use Rattle.auc_edge.specs.declared.stop.Stop.{Stop}
+use Rattle.auc_memory.specs.declared.stop.Stop.{Stop}
 use Rattle.auc_record.specs.declared.record.LineRecord.{LineRecord}
 use Rattle.auc_jobs.specs.InnerKeeping.{told_stop}
 use Rattle.auc_jobs.specs.InnerRound.{GoesByLimits}

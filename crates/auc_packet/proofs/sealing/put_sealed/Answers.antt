@@ -1,5 +1,5 @@
 use Rattle.std.proofs.Common.{ℕ, ◌++◌, length, ap, arith}
-use Rattle.auc_edge.specs.Reserved.{Reserved}
+use Rattle.auc_memory.specs.Reserved.{Reserved}
 use Rattle.auc_hmac.specs.Mac.{no_mac}
 use Rattle.auc_hmac.proofs.Facts.{length-mac_of}
 use Rattle.auc_packet.proofs.SealedLemmas.{front_writable, front_small, front_fits, put_done}

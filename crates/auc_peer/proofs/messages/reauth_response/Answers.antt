@@ -1,6 +1,6 @@
 use Rattle.std.proofs.Common.{◌≡◌, ◌≤◌, ℕ, List, ◌++◌, length, sym, ap, ◌∙◌, subst}
 use Rattle.std.proofs.Math.Nat.{le_trans}
-use Rattle.auc_edge.specs.Reserved.{Reserved}
+use Rattle.auc_memory.specs.Reserved.{Reserved}
 use Rattle.auc_hmac.specs.Mac.{no_mac}
 use Rattle.auc_packet.specs.Sealed.{MayBeSealed, sealed, with_mac}
 use Rattle.auc_packet.specs.Spelling.{packet_text}

@@ -1,6 +1,6 @@
 -- The IMSI is that of the subscriber's row.
 use Rattle.std.proofs.Common.{codes}
-use Rattle.auc_edge.specs.Identity.{digits_of}
+use Rattle.auc_memory.specs.Identity.{digits_of}
 use Rattle.auc_print.proofs.PieceLemmas.{imsi_at, prints_after, prints_from}
 use Rattle.auc_print.proofs.writer.print_subject.Goals as goal
 

@@ -1,4 +1,4 @@
-use Rattle.std.proofs.Common.{◌≡◌, ◌||◌, ℕ, subst, sym}
+use Rattle.std.proofs.Common.{◌≡◌, ◌||◌, ℕ, subst, sym, get_or}
 use Rattle.std.proofs.lemmas.List.{take_more}
 use Rattle.auc_record.specs.Lines.{is_in, released_by}
 use Rattle.auc_record.specs.InnerRoom.{HasRoomForLine}
@@ -19,4 +19,4 @@ loop-line-preserved c = record {
 pub note_line-requires : goal.note_line-requires
 note_line-requires c =
     subst (HasRoomForLine c.loop-line.released) (sym c.line-item.is)
-    (line_room_stays c.args.released.now c.loop-line.released c.loop-line.invariant.room _ (c.requires c.loop-line.line-index c.line-item.result c.loop-line-test.true))
+    (line_room_stays c.args.released.now c.loop-line.released c.loop-line.invariant.room (get_or c.args.lines.now c.loop-line.line-index c.line-item.result) (c.requires c.loop-line.line-index c.line-item.result c.loop-line-test.true))

@@ -1,5 +1,5 @@
 use Rattle.std.proofs.Common.{◌∷◌, ◌++◌, [], Option, inr, refl}
-use Rattle.auc_edge.specs.declared.stop.Stop.{Stop}
+use Rattle.auc_memory.specs.declared.stop.Stop.{Stop}
 use Rattle.auc_run.specs.Inner.{MakesRound}
 use Rattle.auc_run.specs.InnerFaults.{RoseInRound}
 use Rattle.auc_run.specs.Output.{setting_of}

@@ -1,5 +1,5 @@
 use Rattle.std.proofs.Common.{List, Option, subst, sym}
-use Rattle.auc_edge.specs.declared.stop.Stop.{Stop}
+use Rattle.auc_memory.specs.declared.stop.Stop.{Stop}
 use Rattle.auc_jobs.specs.Round.{ServesRound}
 use Rattle.auc_lines.specs.declared.part.Line.{Line}
 use Rattle.auc_world.specs.Round.{IsLawfulRound}
@@ -15,7 +15,7 @@ use Rattle.auc_run.proofs.rounds.make_round.Goals as goal
 pub serve_start-journal-requires-clause-may : goal.serve_start-journal-requires-clause-may
 serve_start-journal-requires-clause-may g c = λ κs within.
     let on = c.requires.stands.4 in
-    subst (λ (jobs : List (List Line)). MayServe c.args.settings.now.set c.args.settings.now.workers jobs c.args.stand.state c.args.stand.journal) (sym c.as_slice.ensures)
+    subst (λ (jobs : List (List Line)). MayServe c.args.options.now.set c.args.options.now.workers jobs c.args.stand.state c.args.stand.journal) (sym c.as_slice.ensures)
     (record {
       stands = (c.requires.stands.3, on.stands);
       known = c.requires.known.known;
@@ -23,7 +23,6 @@ serve_start-journal-requires-clause-may g c = λ κs within.
       apart = c.requires.known.apart;
       workers = c.requires.workers;
       subscribers = c.requires.subscribers;
-      realm = c.requires.realm;
       journal = record { subscribers = on.reserves.subscribers; ready = on.ready };
       all = on.reserves.all;
       limits = on.reserves.raises.within;
@@ -31,11 +30,11 @@ serve_start-journal-requires-clause-may g c = λ κs within.
 
 pub returns-in-Err-clause-ends : goal.returns-in-Err-clause-ends
 returns-in-Err-clause-ends g c = λ from reserved at known on enough.
-    covers_more g.D.Disk.seen g.D.Disk.may_leave g.D.Disk.moment g.D.Disk.left_since c.args.settings.now.set.rows from reserved at c.args.stand.journal c.serve_start-journal.result.journal on.reserves c.serve_start-journal.ensures.subscribers c.serve_start-journal.ensures.leaves
+    covers_more g.D.Disk.seen g.D.Disk.may_leave g.D.Disk.moment g.D.Disk.left_since c.args.options.now.set.rows from reserved at c.args.stand.journal c.serve_start-journal.result.journal on.reserves c.serve_start-journal.ensures.subscribers c.serve_start-journal.ensures.leaves
 
 pub append_round-result-requires-clause-named : goal.append_round-result-requires-clause-named
 append_round-result-requires-clause-named g c =
-    let set = c.args.settings.now.set in
+    let set = c.args.options.now.set in
     let round = c.in-Ok.ran.round in
     let known = c.requires.stands.3 in
     let on = c.requires.stands.4 in
@@ -46,7 +45,7 @@ append_round-result-requires-clause-named g c =
 
 pub returns-in-Ok-clause-made : goal.returns-in-Ok-clause-made
 returns-in-Ok-clause-made g c =
-    let set = c.args.settings.now.set in
+    let set = c.args.options.now.set in
     let round = c.in-Ok.ran.round in
     let stop = c.in-Ok.ran.stop in
     let state = c.args.stand.state in
@@ -58,13 +57,13 @@ returns-in-Ok-clause-made g c =
     (IfOk-ok c.serve_start-journal.result.result c.in-Ok.ran _ (cc c.in-Ok.is) c.serve_start-journal.ensures.number) c.serve_start-journal.ensures.subscribers c.serve_start-journal.ensures.all c.requires.subscribers
     (subst (λ (jobs : List (List Line)). ServesRound g.D.Disk.seen g.D.Disk.may_leave g.D.Disk.moment g.D.Disk.left_since set known state jobs round stop journal next after) c.as_slice.ensures
     (IfOk-ok c.serve_start-journal.result.result c.in-Ok.ran _ (cc c.in-Ok.is) c.serve_start-journal.ensures.served known on.stands)) in
-    made_round g.D.Disk.seen g.D.Disk.may_leave g.D.Disk.moment g.D.Disk.left_since set c.args.settings.now.full c.args.stand.number state next journal after c.args.jobs.now stop round c.append_round-result.result c.args.stand.text c.append_round-result.new.text
+    made_round g.D.Disk.seen g.D.Disk.may_leave g.D.Disk.moment g.D.Disk.left_since set c.args.options.now.full c.args.stand.number state next journal after c.args.jobs.now stop round c.append_round-result.result c.args.stand.text c.append_round-result.new.text
     each (IfOk-ok c.serve_start-journal.result.result c.in-Ok.ran _ (cc c.in-Ok.is) c.serve_start-journal.ensures.next) (IfOk-ok c.serve_start-journal.result.result c.in-Ok.ran _ (cc c.in-Ok.is) c.serve_start-journal.ensures.ready)
     (IfOk-ok c.serve_start-journal.result.result c.in-Ok.ran _ (cc c.in-Ok.is) c.serve_start-journal.ensures.full) c.append_round-result.ensures.stop c.append_round-result.ensures.appended c.append_round-result.ensures.fits
 
 pub returns-in-Ok-clause-ends : goal.returns-in-Ok-clause-ends
 returns-in-Ok-clause-ends g c =
-    let set = c.args.settings.now.set in
+    let set = c.args.options.now.set in
     let round = c.in-Ok.ran.round in
     let stop = c.in-Ok.ran.stop in
     let state = c.args.stand.state in

@@ -13,7 +13,7 @@ loop-part-init g c = record {
   quiet = refl;
   quiet_store = refl;
   serving = λ from reserved at on.
-      Serving-none g.D.Disk.seen g.D.Disk.may_leave g.D.Disk.moment g.D.Disk.left_since c.args.settings.now.set c.args.settings.now.full from reserved at c.args.stand.number c.args.stand.state c.args.stand.journal c.args.stand.text
+      Serving-none g.D.Disk.seen g.D.Disk.may_leave g.D.Disk.moment g.D.Disk.left_since c.args.options.now.set c.args.options.now.full from reserved at c.args.stand.number c.args.stand.state c.args.stand.journal c.args.stand.text
       c.args.parts.now (g.K.Sink.written c.args.out.now) on c.requires.text;
 }
 
@@ -33,7 +33,7 @@ loop-part-preserved g c =
       quiet_store = c.serve_part-next.ensures.store.same (rw c.in-Ok.is tt) ∙ before.quiet_store;
       serving = λ from reserved at on.
           let serving = before.serving from reserved at on in
-          Serving-part g.D.Disk.seen g.D.Disk.may_leave g.D.Disk.moment g.D.Disk.left_since c.args.settings.now.set c.args.settings.now.full from reserved at c.loop-part.stand.number c.serve_part-next.result.stand.number
+          Serving-part g.D.Disk.seen g.D.Disk.may_leave g.D.Disk.moment g.D.Disk.left_since c.args.options.now.set c.args.options.now.full from reserved at c.loop-part.stand.number c.serve_part-next.result.stand.number
           c.loop-part.stand.state c.serve_part-next.result.stand.state c.loop-part.stand.journal c.serve_part-next.result.stand.journal c.loop-part.stand.text c.serve_part-next.result.stand.text
           c.part-item.result (drop c.loop-part.part-index c.args.parts.now) (drop (c.loop-part.part-index + 1) c.args.parts.now) c.args.parts.now
           (g.K.Sink.written c.args.out.now) (g.K.Sink.written c.loop-part.out) (g.K.Sink.written c.serve_part-next.new.out)
@@ -44,7 +44,7 @@ loop-part-preserved g c =
 pub returns-in-Err-clause-ran : goal.returns-in-Err-clause-ran
 returns-in-Err-clause-ran g c = λ from reserved at on.
     let serving = c.loop-part.invariant.serving from reserved at on in
-    Serving-stops g.D.Disk.seen g.D.Disk.may_leave g.D.Disk.moment g.D.Disk.left_since c.args.settings.now.set c.args.settings.now.full from reserved at c.loop-part.stand.number c.loop-part.stand.state c.loop-part.stand.journal
+    Serving-stops g.D.Disk.seen g.D.Disk.may_leave g.D.Disk.moment g.D.Disk.left_since c.args.options.now.set c.args.options.now.full from reserved at c.loop-part.stand.number c.loop-part.stand.state c.loop-part.stand.journal
     c.serve_part-next.result.stand.journal c.loop-part.stand.text c.part-item.result (drop c.loop-part.part-index c.args.parts.now) (drop (c.loop-part.part-index + 1) c.args.parts.now) c.args.parts.now
     (status_of c.in-Err.refusal) c.into_disk.result (g.K.Sink.written c.args.out.now) (g.K.Sink.written c.loop-part.out) (g.K.Sink.written c.serve_part-next.new.out)
     (drop_more _ _ c.part-item.result c.loop-part-test.true ∙ ap (λ (part : Part). part ∷ drop (c.loop-part.part-index + 1) c.args.parts.now) (sym c.part-item.is)) serving (not_done c.in-Err.refusal)
@@ -53,7 +53,7 @@ returns-in-Err-clause-ran g c = λ from reserved at on.
 pub returns-in-Ok-result-clause-ran : goal.returns-in-Ok-result-clause-ran
 returns-in-Ok-result-clause-ran g c = λ from reserved at on.
     let serving = c.loop-part.invariant.serving from reserved at on in
-    Serving-all g.D.Disk.seen g.D.Disk.may_leave g.D.Disk.moment g.D.Disk.left_since c.args.settings.now.set c.args.settings.now.full from reserved at c.loop-part.stand.number c.loop-part.stand.state c.loop-part.stand.journal c.loop-part.stand.text
+    Serving-all g.D.Disk.seen g.D.Disk.may_leave g.D.Disk.moment g.D.Disk.left_since c.args.options.now.set c.args.options.now.full from reserved at c.loop-part.stand.number c.loop-part.stand.state c.loop-part.stand.journal c.loop-part.stand.text
     (drop c.loop-part.part-index c.args.parts.now) c.args.parts.now status.Done c.into_disk-disk.result (g.K.Sink.written c.args.out.now) (g.K.Sink.written c.loop-part.out) (g.K.Sink.written c.write_whole-result.new.out)
     (drop_all _ _ c.loop-part-test.false) serving
     (subst (Appends (g.K.Sink.written c.loop-part.out) (g.K.Sink.written c.write_whole-result.new.out)) c.as_slice.ensures (OnOk-at c.write_whole-result.result _ _ c.in-Ok-result.is c.write_whole-result.ensures.written))
@@ -62,7 +62,7 @@ returns-in-Ok-result-clause-ran g c = λ from reserved at on.
 pub returns-in-Err-result-clause-ran : goal.returns-in-Err-result-clause-ran
 returns-in-Err-result-clause-ran g c = λ from reserved at on.
     let serving = c.loop-part.invariant.serving from reserved at on in
-    Serving-all g.D.Disk.seen g.D.Disk.may_leave g.D.Disk.moment g.D.Disk.left_since c.args.settings.now.set c.args.settings.now.full from reserved at c.loop-part.stand.number c.loop-part.stand.state c.loop-part.stand.journal c.loop-part.stand.text
+    Serving-all g.D.Disk.seen g.D.Disk.may_leave g.D.Disk.moment g.D.Disk.left_since c.args.options.now.set c.args.options.now.full from reserved at c.loop-part.stand.number c.loop-part.stand.state c.loop-part.stand.journal c.loop-part.stand.text
     (drop c.loop-part.part-index c.args.parts.now) c.args.parts.now status.WriteFault c.into_disk-disk.result (g.K.Sink.written c.args.out.now) (g.K.Sink.written c.loop-part.out) (g.K.Sink.written c.write_whole-result.new.out)
     (drop_all _ _ c.loop-part-test.false) serving
     (subst (AppendsFront (g.K.Sink.written c.loop-part.out) (g.K.Sink.written c.write_whole-result.new.out)) c.as_slice.ensures (OnErr-at c.write_whole-result.result _ _ c.in-Err-result.is c.write_whole-result.ensures.front))

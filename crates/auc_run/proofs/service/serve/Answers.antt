@@ -1,6 +1,6 @@
 use Rattle.std.proofs.Common.{◌≡◌, ◌⊎◌, ℕ, List, Option, None, refl, sym, subst}
 use Rattle.std.specs.Option.{option_copied}
-use Rattle.auc_edge.specs.Faults.{Rose}
+use Rattle.auc_memory.specs.Faults.{Rose}
 use Rattle.auc_run.specs.Crash.{MayHaveLeft, MayLeave}
 use Rattle.auc_run.specs.Service.{EndsUnserved, ServesBlocks}
 use Rattle.auc_input.specs.Words.{service_named}

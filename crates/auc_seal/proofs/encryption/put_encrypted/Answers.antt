@@ -1,7 +1,7 @@
 use Rattle.std.proofs.Common.{◌≡◌, ℕ, List, [], ◌∷◌, ◌++◌, Ok, sym, ap, ◌∙◌, subst}
 use Rattle.auc_attr.specs.declared.attr.Attr.{Attr}
 use Rattle.auc_attr.specs.declared.attr.Attr.TheVariants as attr
-use Rattle.auc_edge.specs.Reserved.{Reserved}
+use Rattle.auc_memory.specs.Reserved.{Reserved}
 use Rattle.auc_seal.specs.Encrypted.{encrypted, Decrypts}
 use Rattle.auc_seal.proofs.EncryptionLemmas.{put_twice}
 use Rattle.auc_seal.proofs.encryption.put_encrypted.Goals as goal

@@ -1,5 +1,5 @@
 use Rattle.std.proofs.Common.{◌≡◌, ◌≤◌, ℕ, List, [], ◌++◌, length, sym, ap, ◌∙◌, subst}
-use Rattle.auc_edge.specs.Reserved.{Reserved}
+use Rattle.auc_memory.specs.Reserved.{Reserved}
 use Rattle.auc_hmac.specs.Mac.{no_mac}
 use Rattle.auc_packet.specs.declared.sealing.Draft.{Draft}
 use Rattle.auc_packet.specs.Sealed.{MayBeSealed, sealed, with_mac}

@@ -1,5 +1,5 @@
 use Rattle.std.proofs.Common.{◌≡◌, ℕ, List, [], ◌++◌, ap, sym, ◌∙◌, arith}
-use Rattle.auc_edge.specs.Reserved.{Reserved}
+use Rattle.auc_memory.specs.Reserved.{Reserved}
 use Rattle.auc_sim_packet.specs.InnerSealed.{front_of}
 use Rattle.auc_sim_packet.proofs.SealedLemmas.{front_writable, front_small, sealed_is}
 use Rattle.auc_sim_packet.proofs.sealing.sealed_sim.Goals as goal

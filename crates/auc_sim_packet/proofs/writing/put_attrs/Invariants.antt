@@ -1,5 +1,5 @@
 use Rattle.std.proofs.Common.{drop}
-use Rattle.auc_edge.specs.Reserved.{wrote}
+use Rattle.auc_memory.specs.Reserved.{wrote}
 use Rattle.auc_sim_packet.specs.Spelling.{spelling}
 use Rattle.auc_sim_packet.proofs.WrittenLemmas.{IsPut}
 use Rattle.auc_sim_packet.proofs.writing.put_attrs.Given as goal

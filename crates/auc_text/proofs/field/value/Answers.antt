@@ -1,5 +1,5 @@
 use Rattle.std.proofs.Common.{arith, refl, ◌<◌, ◌^◌}
-use Rattle.auc_edge.proofs.Facts.{below_more, digit_most, number_of_more}
+use Rattle.auc_memory.proofs.Facts.{below_more, digit_most, number_of_more}
 use Rattle.auc_text.proofs.NumberLemmas.{below_power}
 use Rattle.auc_text.proofs.field.value.Goals as goal
 

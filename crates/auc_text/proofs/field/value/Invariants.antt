@@ -1,5 +1,5 @@
 use Rattle.std.proofs.Common.{◌≡◌, ◌<◌, ◌^◌, take}
-use Rattle.auc_edge.specs.Identity.{number_of}
+use Rattle.auc_memory.specs.Identity.{number_of}
 use Rattle.auc_text.proofs.field.value.Given as goal
 
 abbrev pub invariant-loop-byte : goal.invariant-loop-byte

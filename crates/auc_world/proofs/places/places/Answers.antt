@@ -1,10 +1,10 @@
 use Rattle.std.proofs.Common.{◌≡◌, ℕ, suc, ◌-◌, ◌∙◌, sym, ap, arith, map, drop, Some, Option, if◌then◌else◌}
 use Rattle.indexmap.specs.IndexMap.{get}
-use Rattle.auc_edge.specs.declared.identity_key.IdentityKey.{IdentityKey}
+use Rattle.auc_memory.specs.declared.identity_key.IdentityKey.{IdentityKey}
 use Rattle.auc_peer.specs.Subscription.{subscription_of}
 use Rattle.auc_peer.specs.declared.device.Device.{Device}
 use Rattle.auc_subs.specs.Subscriber.{same_identity}
-use Rattle.auc_edge.specs.IdentityKey.{is_key, key_of}
+use Rattle.auc_memory.specs.IdentityKey.{is_key, key_of}
 use Rattle.auc_world.proofs.PlaceLemmas.{first_from, first_is, one_before}
 use Rattle.auc_world.proofs.places.places.Goals as goal
 

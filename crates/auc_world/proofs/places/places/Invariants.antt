@@ -1,7 +1,7 @@
 use Rattle.std.proofs.Common.{◌≡◌, ◌≤◌, ◌<◌, drop, length}
 use Rattle.std.specs.Prelude.{map}
 use Rattle.indexmap.specs.IndexMap.{get}
-use Rattle.auc_edge.specs.Identity.{Identity}
+use Rattle.auc_memory.specs.Identity.{Identity}
 use Rattle.auc_peer.specs.Subscription.{subscription_of}
 use Rattle.auc_world.specs.InnerWorld.{is_key, key_of}
 use Rattle.auc_world.proofs.PlaceLemmas.{first_from}

@@ -5,7 +5,7 @@ use Rattle.auc_sites.specs.SiteNet.{NetState, site_at}
 use Rattle.auc_world.specs.Sites.{note_of_draw, note_of_number}
 use Rattle.auc_record.specs.declared.sites.SitesNote.TheVariants as note
 use Rattle.auc_jobs.specs.InnerSites.{EventDoes}
-use Rattle.auc_jobs.proofs.SiteLemmas.{draws_delivered, draws_none, event_quiet, number_said}
+use Rattle.auc_jobs.proofs.SiteLemmas.{draws_delivered, draws_none, event_quiet, site_number_said}
 use Rattle.auc_jobs.proofs.worker.Worker.site_event.Goals as goal
 
 pub returns-in_ok-ask-in-Ask-clause-served : goal.returns-in_ok-ask-in-Ask-clause-served
@@ -27,7 +27,7 @@ returns-in-Draw-clause-served g c =
     (EventDoes c.args.self.now.set c.args.line.now (asked.Draw c.in-Draw.site) c.number_note.result) (λ i. g.met.C.Centre.stays c.args.self.now.centre i)
     (λ v same.
     event_quiet c.args.self.now.set c.args.line.now (asked.Draw c.in-Draw.site) c.number_note.result v c.args.net.now c.draw.new.self same c.draw.ensures.after refl
-    (c.number_note.ensures ∙ ap (λ (o : Option ℕ). note_of_number c.in-Draw.site o) c.draw.ensures.value ∙ number_said c.in-Draw.site (site_at c.args.net.now c.in-Draw.site)
+    (c.number_note.ensures ∙ ap (λ (o : Option ℕ). note_of_number c.in-Draw.site o) c.draw.ensures.value ∙ site_number_said c.in-Draw.site (site_at c.args.net.now c.in-Draw.site)
     ∙ ap (λ (n : NetState). note_of_draw c.in-Draw.site (site_at n c.in-Draw.site)) same)))
 
 pub returns-in-Restart-clause-served : goal.returns-in-Restart-clause-served

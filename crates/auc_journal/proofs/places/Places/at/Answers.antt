@@ -1,5 +1,5 @@
 use Rattle.std.proofs.Common.{List, get_or, ◌∙◌, ap}
-use Rattle.auc_edge.specs.Identity.{Identity}
+use Rattle.auc_memory.specs.Identity.{Identity}
 use Rattle.auc_journal.proofs.RoomLemmas.{among_all, at_place}
 use Rattle.auc_journal.proofs.places.Places.at.Goals as goal
 

@@ -1,7 +1,7 @@
 use Rattle.std.proofs.Common.{◌≡◌, ◌≢◌, ◌<◌, ℕ, List, All, get_or, length, sym, ◌∙◌, ap, subst, arith}
 use Rattle.std.specs.Prelude.{AllPairs, Err, None, slice_index}
 use Rattle.std.proofs.lemmas.Grind.{common_steps}
-use Rattle.auc_edge.specs.Identity.{Identity}
+use Rattle.auc_memory.specs.Identity.{Identity}
 use Rattle.auc_draw.specs.Values.{KeeperValue}
 use Rattle.auc_keeper.specs.Keeper.{MayRise, Since}
 use Rattle.auc_keeper.proofs.GroupLemmas.{set_other}

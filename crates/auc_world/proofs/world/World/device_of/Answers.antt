@@ -1,6 +1,6 @@
 use Rattle.std.proofs.Common.{◌≡◌, ◌∙◌, ap, subst}
 use Rattle.indexmap.specs.IndexMap.{get}
-use Rattle.auc_edge.specs.declared.identity_key.IdentityKey.{IdentityKey}
+use Rattle.auc_memory.specs.declared.identity_key.IdentityKey.{IdentityKey}
 use Rattle.std.specs.Prelude.{slice_get, Some}
 use Rattle.auc_subs.specs.Setting.{Setting}
 use Rattle.auc_world.proofs.WorldLemmas.{row_place}

@@ -1,6 +1,6 @@
 //! What no single call shows.
 
-ghost use Rattle.auc_edge.specs.Identity.{EachIdentityIsReadBack, EachTextIsWrittenBack};
+ghost use Rattle.auc_memory.specs.Identity.{EachIdentityIsReadBack, EachTextIsWrittenBack};
 
 /// Each identity is read back from its text, so different identities have different texts.
 pub fn each_identity_is_read_back()

@@ -1,7 +1,7 @@
 //! Strings of bytes.
 
 ghost use Rattle.std.specs.Prelude.{◌≡◌, ◌++◌, length, take, IfOk, OnOk, OnErr, IsTrue, ◌↔◌, []};
-ghost use Rattle.auc_edge.specs.Reserved.{Reserved};
+ghost use Rattle.auc_memory.specs.Reserved.{Reserved};
 ghost use Rattle.std.specs.Fmt.{decimal};
 
 use crate::no_memory::NoMemory;

@@ -6,7 +6,7 @@ use Rattle.std.proofs.lemmas.Bool.{leb-true, le-leb}
 use Rattle.std.proofs.lemmas.List.Folds.{list_all-append}
 use Rattle.std.proofs.Math.Seq.{take-suc, take-length}
 use Rattle.std.proofs.Math.Nat.{pow-le-pow_right, pow-suc, mul_assoc}
-use Rattle.auc_edge.specs.Identity.{Identity, IsIdentity, is_identity, number_of, identity_of, last_digits, digits_of}
+use Rattle.auc_memory.specs.Identity.{Identity, IsIdentity, is_identity, number_of, identity_of, last_digits, digits_of}
 
 -- ten times a product with a power is the product with the next power
 ten_times : (digit power number last : ℕ) → digit * (power * 10) + (10 * number + last) ≡ 10 * (digit * power + number) + last

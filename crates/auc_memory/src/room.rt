@@ -1,7 +1,7 @@
 //! Memory that is taken before it is written.
 
 ghost use Rattle.std.specs.Prelude.{◌≡◌, ◌≤◌, ◌-◌, ◌++◌, [], ◌∷◌, length, IfOk};
-ghost use Rattle.auc_edge.specs.Reserved.{Reserved, wrote};
+ghost use Rattle.auc_memory.specs.Reserved.{Reserved, wrote};
 
 use crate::no_memory::NoMemory;
 use crate::octets::Octets;
@@ -19,7 +19,7 @@ pub struct Room {
 impl Model for Room {
     ghost use Rattle.std.specs.Prelude.{ℕ, ◌≤◌, ◌+◌};
     ghost use Rattle.std.specs.Vec.{vec_len, vec_capacity};
-    ghost use Rattle.auc_edge.specs.Reserved.{Reserved};
+    ghost use Rattle.auc_memory.specs.Reserved.{Reserved};
 
     ghost Value = { Reserved ℕ };
 

@@ -1,7 +1,7 @@
 -- Identities as keys of maps.
 use Rattle.std.specs.Prelude.{◌==◌, ◌&&◌, Bool}
-use Rattle.auc_edge.specs.Identity.{Identity}
-use Rattle.auc_edge.specs.declared.identity_key.IdentityKey.{IdentityKey}
+use Rattle.auc_memory.specs.Identity.{Identity}
+use Rattle.auc_memory.specs.declared.identity_key.IdentityKey.{IdentityKey}
 
 -- the key of an identity
 abbrev pub key_of : Identity → IdentityKey

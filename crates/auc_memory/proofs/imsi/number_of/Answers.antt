@@ -1,6 +1,6 @@
 use Rattle.std.proofs.Common.{arith}
-use Rattle.auc_edge.proofs.IdentityLemmas.{digit_at, below_limit, below_more, number_of_more}
-use Rattle.auc_edge.proofs.imsi.number_of.Goals as goal
+use Rattle.auc_memory.proofs.IdentityLemmas.{digit_at, below_limit, below_more, number_of_more}
+use Rattle.auc_memory.proofs.imsi.number_of.Goals as goal
 
 pub loop-digit-preserved : goal.loop-digit-preserved
 loop-digit-preserved c =

@@ -1,7 +1,7 @@
 //! Failure of a call of the outside.
 
 ghost use Rattle.std.specs.Prelude.{◌≡◌, IsErr, MatchResult};
-ghost use Rattle.auc_edge.specs.Faults.{raised};
+ghost use Rattle.auc_memory.specs.Faults.{raised};
 
 use std::io;
 
@@ -9,14 +9,14 @@ use std::io;
 #[derive(Clone, Copy, PartialEq, Eq)]
 pub struct Failed;
 
-// The answer of a real call. If the call failed, a fault is counted.
-pub(crate) fn counted(faults: &mut u64, answer: io::Result<usize>) -> Result<usize, Failed>
+/// The answer of a real call. If the call failed, a fault is counted.
+pub fn counted<T>(faults: &mut u64, answer: io::Result<T>) -> Result<T, Failed>
     ensures { MatchResult answer
-        (λ count. (result ≡ Ok count) × (faults.new ≡ faults.old))
+        (λ value. (result ≡ Ok value) × (faults.new ≡ faults.old))
         (λ _. IsErr result × (faults.new ≡ raised faults.old)) }
 {
     match answer {
-        Ok(count) => Ok(count),
+        Ok(value) => Ok(value),
         Err(_) => {
             *faults = faults.saturating_add(1);
             Err(Failed)

@@ -4,8 +4,8 @@ ghost use Rattle.std.specs.Prelude.{◌≡◌, ◌≤◌, ◌<◌, ◌^◌, ◌+
 ghost use Rattle.std.specs.List.{list_all};
 ghost use Rattle.std.specs.Option.{is_some};
 ghost use Rattle.std.specs.Char.{is_ascii_digit};
-ghost use Rattle.auc_edge.specs.Identity.{identity_of, is_identity, is_imsi, number_of, digits_of};
-ghost use Rattle.auc_edge.specs.IdentityKey.{key_of};
+ghost use Rattle.auc_memory.specs.Identity.{identity_of, is_identity, is_imsi, number_of, digits_of};
+ghost use Rattle.auc_memory.specs.IdentityKey.{key_of};
 
 use crate::identity_key::IdentityKey;
 use crate::no_memory::NoMemory;
@@ -24,7 +24,7 @@ pub struct Imsi {
 }
 
 impl Model for Imsi {
-    ghost use Rattle.auc_edge.specs.Identity.{Identity, IsIdentity};
+    ghost use Rattle.auc_memory.specs.Identity.{Identity, IsIdentity};
 
     ghost Value = { Identity };
 

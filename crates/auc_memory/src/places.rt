@@ -1,7 +1,7 @@
 //! Places of a list that are taken before they are filled.
 
 ghost use Rattle.std.specs.Prelude.{◌≡◌, ◌<◌, ◌-◌, ◌++◌, [], ◌∷◌, length, IfOk};
-ghost use Rattle.auc_edge.specs.Reserved.{Reserved, wrote};
+ghost use Rattle.auc_memory.specs.Reserved.{Reserved, wrote};
 
 use crate::items::Items;
 use crate::no_memory::NoMemory;
@@ -19,7 +19,7 @@ pub struct Places<T> {
 impl<T> Model for Places<T> {
     ghost use Rattle.std.specs.Prelude.{ℕ, ◌≤◌, ◌+◌};
     ghost use Rattle.std.specs.Vec.{vec_len, vec_capacity};
-    ghost use Rattle.auc_edge.specs.Reserved.{Reserved};
+    ghost use Rattle.auc_memory.specs.Reserved.{Reserved};
 
     ghost Value = { Reserved T };
 

@@ -1,5 +1,0 @@
-use Rattle.auc_edge.proofs.IdentityLemmas.{digits_of-identity_of}
-use Rattle.auc_edge.proofs.law.each_text_is_written_back.Goals as goal
-
-pub returns : goal.returns
-returns c = digits_of-identity_of

@@ -1,0 +1,5 @@
+pub mod Buffer
+pub mod Faults
+pub mod Identity
+pub mod IdentityKey
+pub mod Reserved
