@@ -41,6 +41,11 @@ ABOVE = "\nAbove the limits, with the reason:\n\n"
 DEAR = {
     "auc_run": "the two calls that `main` makes stand in it. It is proved a second time as the seed of its five must-fail edits, "
     "which stay in the gate since each of them turns what a call of `main` says",
+    "auc_server": "an end of a session is one layer. Its must-fail edit, a server that gives every session up, stays in the gate "
+    "and costs a second proof",
+    "auc_peer": "an end of a session is one layer. Its two must-fail edits, a MAC that isn't compared and a Success that comes too "
+    "early, stay in the gate and cost a second proof",
+    "auc_jobs": "serving a round is one layer. It has no tests and no edit in the gate, so this is its proof alone",
 }
 
 

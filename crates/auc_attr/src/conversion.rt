@@ -1,6 +1,7 @@
 //! Attributes from their types and values, and back.
 
-ghost use Rattle.std.specs.Prelude.{◌≡◌, true, IfOk};
+ghost use Rattle.std.specs.Prelude.{◌≡◌, length, true, IfOk};
+ghost use Rattle.std.specs.Int.{w16, to_be_bytes};
 ghost use Rattle.auc_attr.specs.Item.{item, item_of, is_named, is_skipped_row};
 ghost use Rattle.auc_attr.specs.Laws.{is_value};
 ghost use Rattle.auc_attr.specs.Spelling.{fits_item};
@@ -8,7 +9,6 @@ ghost use Rattle.auc_attr.specs.InnerParts.{value_bytes};
 
 use crate::attr::Attr;
 use crate::table::{Row, Shape, Table, row_in};
-use crate::values::{array_of, number_of};
 use auc_memory::{NoMemory, Octets};
 use std::alloc::Global;
 
@@ -47,6 +47,24 @@ pub fn attr_of(alloc: Global, kind: u8, value: &[u8]) -> Result<Attr, NoMemory>
         136 => Ok(Attr::Bidding(value[0] == 1)),
         _ => Ok(Attr::Skipped(kind, Octets::copied_from(alloc, value)?)),
     }
+}
+
+/// A value of so many bytes.
+fn array_of<const N: usize>(value: &[u8]) -> [u8; N]
+    requires { length value.now ≡ N }
+    ensures { result ≡ value.now }
+{
+    let mut array = [0; N];
+    array.copy_from_slice(value);
+    array
+}
+
+/// The number that a value of two bytes is.
+fn number_of(value: &[u8]) -> u16
+    requires { length value.now ≡ 2 }
+    ensures { to_be_bytes w16 result ≡ value.now }
+{
+    u16::from_be_bytes([value[0], value[1]])
 }
 
 /// The value of an attribute, as the list keeps it.

@@ -25,11 +25,9 @@ mod items;
 mod law;
 mod layout;
 mod mac;
-mod reading;
 mod refusal;
 mod seen;
 mod table;
-mod values;
 mod walking;
 mod writing;
 
@@ -47,9 +45,8 @@ pub use law::{
     written_attributes_are_read, written_items_are_read,
 };
 pub use mac::{mac_place, mac_place_in};
-pub use reading::read_attrs;
 pub use refusal::AttrRefusal;
 pub use seen::Seen;
 pub use table::Table;
-pub use walking::{first_fault, value_in};
+pub use walking::{first_fault, read_attrs, value_in};
 pub use writing::{put_attrs, write_attrs};

@@ -1,17 +1,42 @@
-//! Bytes as attributes, without memory for the attributes.
+//! Attributes from bytes.
 
-ghost use Rattle.std.specs.Prelude.{◌≡◌, ◌≢◌, List, IfSome, IfNone};
+ghost use Rattle.std.specs.Prelude.{◌≡◌, ◌≢◌, List, true, IfOk, IfErr, IfSome, IfNone};
+ghost use Rattle.std.specs.List.{list_all};
 ghost use Rattle.std.specs.Option.{option_copied};
 ghost use Rattle.auc_attr.specs.declared.refusal.AttrRefusal.TheVariants as refusal;
-ghost use Rattle.auc_attr.specs.Grammar.{FirstFault, Reads};
+ghost use Rattle.auc_attr.specs.Grammar.{FirstFault, Reads, ReadsAttrs};
 ghost use Rattle.auc_attr.specs.Item.{Item};
 ghost use Rattle.auc_attr.specs.InnerValue.{value_or};
+ghost use Rattle.auc_attr.specs.Laws.{is_value};
 ghost use Rattle.auc_attr.specs.Value.{IsValueIn};
 
+use crate::attr_list::AttrList;
+use crate::conversion::attr_of;
 use crate::front::item_at;
 use crate::refusal::AttrRefusal;
 use crate::seen::Seen;
 use crate::table::Table;
+use std::alloc::Global;
+
+/// The attributes that bytes are, or their first fault (RFC 4187 §8.1). Reserved bytes and fill are passed
+/// over, and an unknown type from 128 on is `Skipped`.
+pub fn read_attrs(alloc: Global, bytes: &[u8]) -> Result<AttrList, AttrRefusal>
+    ensures read { IfOk result (λ list. ReadsAttrs bytes.now list) }
+    ensures values { IfOk result (λ list. list_all is_value list ≡ true) }
+    ensures fault { IfErr result (λ fault. FirstFault bytes.now fault) }
+{
+    let mut list = AttrList::new(alloc);
+    let mut seen = Seen::new();
+    let mut rest = bytes;
+    while !rest.is_empty() {
+        let found = item_at(Table::Aka, seen.is_marked(rest[0]), rest)?;
+        let attr = attr_of(alloc, found.kind, found.value)?;
+        list.push(attr)?;
+        seen.mark(found.kind);
+        rest = found.rest;
+    }
+    Ok(list)
+}
 
 /// The first fault of bytes as attributes, or `None` if the bytes are attributes: the fault that
 /// [`crate::read_attrs`] reports. Takes no memory.

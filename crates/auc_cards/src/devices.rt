@@ -1,6 +1,6 @@
 //! A job's own devices.
 
-ghost use Rattle.std.specs.Prelude.{◌≡◌, ◌<◌, ◌≤◌, ◌++◌, [], ◌∷◌, length, IfOk, OnOk};
+ghost use Rattle.std.specs.Prelude.{◌≡◌, ◌<◌, ◌++◌, [], ◌∷◌, length, IfOk, OnOk};
 ghost use Rattle.auc_lines.specs.Part.{held_by, held_subs, with_held};
 ghost use Rattle.auc_cards.specs.Devices.{device_of, home_of, job_devices};
 ghost use Rattle.auc_cards.specs.Known.{AreKnown};
@@ -47,7 +47,6 @@ impl JobDevices {
     ) -> Result<JobDevices, NoMemory>
         requires cards { length cards.now.usims ≡ length set.now.rows }
         requires known { AreKnown set.now.rows job.now }
-        requires realm { length set.now.realm ≤ 255 }
         ensures { IfOk result (λ own. own ≡ job_devices set.now cards.now.usims cards.now.kept job.now) }
     {
         let subs = held(alloc, job)?;
@@ -62,7 +61,6 @@ impl JobDevices {
     fn add(&mut self, alloc: Global, set: &Setting, cards: &Cards, sub: u32) -> Result<(), NoMemory>
         requires cards { length cards.now.usims ≡ length set.now.rows }
         requires known { sub < length set.now.rows }
-        requires realm { length set.now.realm ≤ 255 }
         ensures { OnOk result (self.new ≡ record {
           homes = self.old.homes ++ home_of cards.now.kept sub ∷ [];
           devices = self.old.devices ++ device_of set.now cards.now.usims cards.now.kept sub;

@@ -29,7 +29,6 @@ use Rattle.auc_jobs.specs.State.{Standing}
 -- and the setting is one of subscribers
 pub record IsRound (set : Setting) (jobs : List (List Line)) (workers : ℕ) : Type 0 where
   pub subscribers : AreSubscribers set.rows
-  pub realm : length set.realm ≤ 255
   pub known : AreAllKnown set.rows jobs
   pub few : length jobs ≤ 200000
   pub apart : AllPairs AreApart jobs

@@ -1,6 +1,6 @@
 //! Serving a job, and what the jobs of a round gave.
 
-ghost use Rattle.std.specs.Prelude.{◌≡◌, ◌≤◌, ◌++◌, ◌∷◌, [], true, All, ℕ, length, map, OnOk, IfOk, if◌then◌else◌};
+ghost use Rattle.std.specs.Prelude.{◌≡◌, ◌++◌, ◌∷◌, [], true, All, ℕ, map, OnOk, IfOk, if◌then◌else◌};
 ghost use Rattle.auc_lines.specs.Part.{holds, is_held_by};
 ghost use Rattle.auc_world.specs.Given.{LineGives};
 ghost use Rattle.auc_world.specs.Sessions.{job_sessions};
@@ -176,7 +176,6 @@ pub(crate) fn job_world(
 ) -> Result<World, NoMemory>
     requires rows { AreOfRows set.now.rows cards.now.usims }
     requires known { AreKnown set.now.rows job.now }
-    requires realm { length set.now.realm ≤ 255 }
     ensures { IfOk result (λ world. world ≡ start_world set.now cards.now.usims cards.now.kept job.now) }
 {
     let (homes, devices) = JobDevices::of_job(alloc, set, cards, job)?.into_parts();

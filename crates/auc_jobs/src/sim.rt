@@ -44,7 +44,6 @@ fn session_notes(
 ) -> Result<Items<SimNote>, NoMemory>
     requires subscribers { AreSubscribers set.now.rows }
     requires known { line.now.sub < length set.now.rows }
-    requires realm { length set.now.realm ≤ 255 }
     requires least { 2 ≤ length numbers.now }
     requires most { length numbers.now ≤ 3 }
     requires numbers { All (IsNumber set.now.rows line.now.sub) numbers.now }

@@ -1,6 +1,6 @@
 //! What serves a job.
 
-ghost use Rattle.std.specs.Prelude.{◌≡◌, ◌≤◌, [], length, IfOk, IsOk, OnOk};
+ghost use Rattle.std.specs.Prelude.{◌≡◌, [], IfOk, IsOk, OnOk};
 ghost use Rattle.auc_jobs.specs.InnerUsims.{usim_of};
 ghost use Rattle.auc_jobs.specs.InnerWorker.{WorkerState, AreForRows};
 ghost use Rattle.auc_jobs.specs.Usims.{HaveSecrets};
@@ -28,7 +28,6 @@ pub(crate) struct Worker<'a, C: Centre> {
 }
 
 impl<'a, C: Centre> Model for Worker<'a, C> {
-    ghost use Rattle.std.specs.Prelude.{◌≤◌, length};
     ghost use Rattle.auc_jobs.specs.InnerWorker.{WorkerState, AreForRows};
 
     ghost Value = { WorkerState C };
@@ -42,8 +41,7 @@ impl<'a, C: Centre> Model for Worker<'a, C> {
       lines = w.lines;
     } };
 
-    ghost invariant = { λ w. AreForRows w.set.now.rows (C.subs w.centre.now) (C.top w.centre.now) w.world
-        × (length w.set.now.realm ≤ 255) };
+    ghost invariant = { λ w. AreForRows w.set.now.rows (C.subs w.centre.now) (C.top w.centre.now) w.world };
 }
 
 impl<'a, C: Centre> Worker<'a, C> {
@@ -55,8 +53,7 @@ impl<'a, C: Centre> Worker<'a, C> {
         released: &'a Numbers,
         world: World,
     ) -> Worker<'a, C>
-        requires rows { AreForRows set.now.rows (C.subs centre.old) (C.top centre.old) world }
-        requires realm { length set.now.realm ≤ 255 }
+        requires { AreForRows set.now.rows (C.subs centre.old) (C.top centre.old) world }
         ensures { result ≡ record {
           centre = centre.old;
           lent = centre.entry.ghost_name;

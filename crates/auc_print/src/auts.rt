@@ -1,12 +1,13 @@
 //! The line of AUTS that a full print adds after a synchronisation failure.
 
-ghost use Rattle.std.specs.Prelude.{◌≡◌, ◌++◌, OnOk, Some, drop, length, slice_get};
+ghost use Rattle.std.specs.Prelude.{◌≡◌, ◌++◌, OnOk, Some, drop, slice_get};
 ghost use Rattle.auc_print.specs.AutsText.{auts_after, auts_lines, event_auts, packet_among, rand_among, rand_delivered, rand_in};
 ghost use Rattle.auc_print.specs.Inner.{Prints, lines_text};
 
 use crate::added::bytes_of_step;
 use crate::word::Word;
 use crate::writer::print_line;
+use auc_hmac::piece_of;
 use auc_memory::{NoMemory, Octets};
 use auc_milenage::make_auts;
 use auc_record::{Event, EventRecord, GiveVerdict, LineRecord, Setting};
@@ -120,7 +121,7 @@ fn rand_among(most: usize, attrs: &[u8]) -> Option<[u8; 16]>
     let mut rest = attrs;
     while left > 0 && rest.len() >= 20 {
         if rest[0] == 1 {
-            return Some(block_of(&rest[4..20]));
+            return Some(piece_of(rest, 4));
         }
         rest = behind(rest, 4 * usize::from(rest[1]));
         left -= 1;
@@ -137,14 +138,4 @@ fn behind(bytes: &[u8], count: usize) -> &[u8]
     } else {
         &[]
     }
-}
-
-/// A value of 16 bytes.
-fn block_of(value: &[u8]) -> [u8; 16]
-    requires { length value.now ≡ 16 }
-    ensures { result ≡ value.now }
-{
-    let mut block = [0; 16];
-    block.copy_from_slice(value);
-    block
 }

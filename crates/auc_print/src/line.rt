@@ -57,9 +57,7 @@ fn print_asked(
 {
     match note {
         NumberNote::Drew(n) => print_named(b"vector", sub, &[Word::Number(n)], subs, out),
-        NumberNote::Exhausted(word) => {
-            print_named(b"exhausted", sub, &[Word::Number(word)], subs, out)
-        }
+        NumberNote::Exhausted(n) => print_named(b"exhausted", sub, &[Word::Number(n)], subs, out),
         NumberNote::Withheld(n, stop) => {
             let words = [Word::Number(n), Word::Text(word_of(stop))];
             print_named(b"withheld", sub, &words, subs, out)

@@ -79,14 +79,10 @@ fn words_of_why(why: SimWhy) -> [Word<'static>; 2]
 }
 
 /// Two words before two others.
-fn four(
-    first: &'static [u8],
-    second: &'static [u8],
-    others: [Word<'static>; 2],
-) -> [Word<'static>; 4]
-    ensures { group_texts result ≡ first.now ∷ second.now ∷ group_texts others.entry }
+fn four(first: &'static [u8], second: &'static [u8], more: [Word<'static>; 2]) -> [Word<'static>; 4]
+    ensures { group_texts result ≡ first.now ∷ second.now ∷ group_texts more.entry }
 {
-    let [third, fourth] = others;
+    let [third, fourth] = more;
     [Text(first), Text(second), third, fourth]
 }
 

@@ -69,15 +69,10 @@ fn worded(first: &'static [u8], count: u32, second: &'static [u8]) -> [Word<'sta
 }
 
 /// Two words, each with a number.
-fn counted(
-    first: &'static [u8],
-    count: u32,
-    second: &'static [u8],
-    other: u64,
-) -> [Word<'static>; 4]
-    ensures { group_texts result ≡ first.now ∷ numeral count ∷ second.now ∷ numeral other ∷ [] }
+fn counted(first: &'static [u8], count: u32, second: &'static [u8], last: u64) -> [Word<'static>; 4]
+    ensures { group_texts result ≡ first.now ∷ numeral count ∷ second.now ∷ numeral last ∷ [] }
 {
-    [Text(first), decimal(count), Text(second), Number(other)]
+    [Text(first), decimal(count), Text(second), Number(last)]
 }
 
 /// A word, a number and the packet that is sent.

@@ -100,8 +100,6 @@ fn serve_all<R: Threads + Wait + Sync, D: Disk + Drop + Send, G: Gate + Sync>(
         state,
         journal,
     } = start;
-    // (the setting says how long its realm may be)
-    let _ = &options.set.realm;
     let round = Round {
         number,
         jobs,

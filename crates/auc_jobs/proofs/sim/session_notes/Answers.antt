@@ -31,7 +31,7 @@ run_session-requires-clause-short c =
     let is : c.as_slice.result.now ≡ sim_identity c.row-row.result.now.imsi c.args.set.now.realm =
     c.as_slice.ensures ∙ c.in_ok-identity.ensures ∙ ap (λ (s : Setting). sim_identity c.row-row.result.now.imsi s.realm) c.set.view_is in
     subst (λ (text : List ℕ). length text ≤ 1016) (sym is)
-    (identity_size c.args.set.now.rows c.sub.result c.row-row.result.now c.args.set.now.realm c.requires.subscribers there c.requires.realm)
+    (identity_size c.args.set.now.rows c.sub.result c.row-row.result.now c.args.set.now.realm c.requires.subscribers there (subst (λ (s : Setting). length s.realm ≤ 255) c.set.view_is c.set.invariant))
 
 pub returns : goal.returns
 returns c =

@@ -1,4 +1,4 @@
-use Rattle.std.proofs.Common.{◌≡◌, ◌≤◌, List, [], ◌∙◌, ap, length, map, rules, subst, sym}
+use Rattle.std.proofs.Common.{◌≡◌, List, [], ◌∙◌, ap, map, rules, subst, sym}
 use Rattle.std.proofs.lemmas.Result.{IfOk-weaker}
 use Rattle.auc_subs.specs.Subscriber.{AreSubscribers}
 use Rattle.auc_subs.specs.declared.row.Row.{Row}
@@ -12,7 +12,6 @@ serve-requires-clause-state g c = λ κs within. ([], c.in_ok-state.ensures.stan
 pub serve-requires-clause-round : goal.serve-requires-clause-round
 serve-requires-clause-round g c = λ κs within. record {
   subscribers = subst AreSubscribers (ap (λ (set : Setting). set.rows) c.set.view_is) c.in_ok-journal.ensures.subscribers;
-  realm = subst (λ (set : Setting). length set.realm ≤ 255) c.set.view_is c.set.invariant;
   known = c.requires.known;
   few = c.requires.few;
   apart = c.requires.apart;

@@ -34,7 +34,6 @@ serve-journal-requires-clause-round g c = λ lifetimes within.
     ap (λ (js : List (List Line)). length js) c.jobs.ensures ∙ sym (length-map own (λ (job : List Line). map (line_of places) job)) ∙ ap (λ (js : List (List Line)). length js) named.are in
     record {
       subscribers = search rules;
-      realm = search rules;
       known = search rules;
       few = omega (arith, count, may.few);
       apart = subst (λ (js : List (List Line)). AllPairs AreApart js) (sym c.jobs.ensures) (plain_apart own named.plain);

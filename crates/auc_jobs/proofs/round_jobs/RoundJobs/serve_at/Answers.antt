@@ -20,13 +20,6 @@ job_world-requires-clause-rows g c =
     let servable : IsServable inside = subst IsServable (sym c.self.view_is) c.requires.servable in
     subst (λ (cards : AllCards). AreOfRows inside.set.rows cards.usims) (sym c.cards.ensures) servable.begins.1.subscribers.secrets
 
-pub job_world-requires-clause-realm : goal.job_world-requires-clause-realm
-job_world-requires-clause-realm g c =
-    let asked = c.self.inside.round.now in
-    let inside : Shared = record { set = asked.set.now; jobs = asked.jobs.now; full = asked.full; workers = asked.workers; state = c.self.inside.state.now } in
-    let servable : IsServable inside = subst IsServable (sym c.self.view_is) c.requires.servable in
-    servable.round.realm
-
 pub job_world-requires-clause-known : goal.job_world-requires-clause-known
 job_world-requires-clause-known g c =
     let asked = c.self.inside.round.now in
@@ -36,8 +29,8 @@ job_world-requires-clause-known g c =
     let known = known_at inside c.args.self.now c.args.job c.as_slice-asked.result.now c.self.view_is c.requires.servable there in
     known
 
-pub new-worker-requires-clause-rows : goal.new-worker-requires-clause-rows
-new-worker-requires-clause-rows g c =
+pub new-worker-requires : goal.new-worker-requires
+new-worker-requires g c =
     let asked = c.self.inside.round.now in
     let inside : Shared = record { set = asked.set.now; jobs = asked.jobs.now; full = asked.full; workers = asked.workers; state = c.self.inside.state.now } in
     let servable : IsServable inside = subst IsServable (sym c.self.view_is) c.requires.servable in
@@ -48,13 +41,6 @@ new-worker-requires-clause-rows g c =
     subst (AreForRows inside.set.rows (g.C.Centre.subs c.args.centre.now) (g.C.Centre.top c.args.centre.now)) (sym world_is)
     (starts_for_rows inside.set inside.state.usims inside.state.kept c.as_slice-asked.result.now (g.C.Centre.subs c.args.centre.now) (g.C.Centre.top c.args.centre.now) servable.round.subscribers servable.begins.1.subscribers.secrets known
     (subst (λ (s : Shared). IsCentreOf s.set.rows (g.C.Centre.subs c.args.centre.now) (g.C.Centre.top c.args.centre.now)) (sym c.self.view_is) c.requires.centre))
-
-pub new-worker-requires-clause-realm : goal.new-worker-requires-clause-realm
-new-worker-requires-clause-realm g c =
-    let asked = c.self.inside.round.now in
-    let inside : Shared = record { set = asked.set.now; jobs = asked.jobs.now; full = asked.full; workers = asked.workers; state = c.self.inside.state.now } in
-    let servable : IsServable inside = subst IsServable (sym c.self.view_is) c.requires.servable in
-    servable.round.realm
 
 pub serve_lines-served-requires-clause-known : goal.serve_lines-served-requires-clause-known
 serve_lines-served-requires-clause-known g c =

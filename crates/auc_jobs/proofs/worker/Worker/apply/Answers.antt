@@ -11,22 +11,20 @@ use Rattle.auc_jobs.proofs.worker.Worker.apply.Goals as goal
 
 pub apply-requires-clause-homes : goal.apply-requires-clause-homes
 apply-requires-clause-homes g c =
-    homes_of c.self.inside.set.now.rows (g.C.Centre.subs c.self.inside.centre.now) (g.C.Centre.top c.self.inside.centre.now) c.self.inside.world c.self.invariant.0
+    homes_of c.self.inside.set.now.rows (g.C.Centre.subs c.self.inside.centre.now) (g.C.Centre.top c.self.inside.centre.now) c.self.inside.world c.self.invariant
 
 pub invariant_of-self : goal.invariant_of-self
-invariant_of-self g c = (
-  rows_after g.C.Centre.goes g.C.Centre.kept g.C.Centre.top c.self.inside.set.now c.self.inside.world c.apply.new.self c.args.event.now c.self.inside.centre.now c.apply.new.centre
-      (g.C.Centre.subs c.self.inside.centre.now) (g.C.Centre.subs c.apply.new.centre) c.apply.result (record {
-        rows = c.self.invariant.0;
-        applied = c.apply.ensures.applied;
-        failed = c.apply.ensures.world;
-        homes = c.apply.ensures.homes;
-        devices = c.apply.ensures.devices;
-        same_subs = c.apply.ensures.subs;
-        same_top = c.apply.ensures.top;
-      }),
-  c.self.invariant.1,
-)
+invariant_of-self g c =
+    rows_after g.C.Centre.goes g.C.Centre.kept g.C.Centre.top c.self.inside.set.now c.self.inside.world c.apply.new.self c.args.event.now c.self.inside.centre.now c.apply.new.centre
+    (g.C.Centre.subs c.self.inside.centre.now) (g.C.Centre.subs c.apply.new.centre) c.apply.result (record {
+      rows = c.self.invariant;
+      applied = c.apply.ensures.applied;
+      failed = c.apply.ensures.world;
+      homes = c.apply.ensures.homes;
+      devices = c.apply.ensures.devices;
+      same_subs = c.apply.ensures.subs;
+      same_top = c.apply.ensures.top;
+    })
 
 pub returns-clause-applied : goal.returns-clause-applied
 returns-clause-applied g c =
@@ -38,7 +36,7 @@ returns-clause-applied g c =
 
 pub returns-clause-rows : goal.returns-clause-rows
 returns-clause-rows g c =
-    subst (λ (w : WorkerState g.row.C.Denot). AreForRows w.set.rows (g.C.Centre.subs w.centre) (g.C.Centre.top w.centre) w.world) c.self.view_is c.self.invariant.0
+    subst (λ (w : WorkerState g.row.C.Denot). AreForRows w.set.rows (g.C.Centre.subs w.centre) (g.C.Centre.top w.centre) w.world) c.self.view_is c.self.invariant
 
 pub returns-clause-same : goal.returns-clause-same
 returns-clause-same g c = record {
@@ -51,7 +49,7 @@ returns-clause-same g c = record {
   keyed = λ sub.
       keys_kept g.C.Centre.goes g.C.Centre.kept g.C.Centre.top c.self.inside.set.now c.self.inside.world c.apply.new.self c.args.event.now c.self.inside.centre.now c.apply.new.centre
       (g.C.Centre.subs c.self.inside.centre.now) (g.C.Centre.subs c.apply.new.centre) c.apply.result (record {
-        rows = c.self.invariant.0;
+        rows = c.self.invariant;
         applied = c.apply.ensures.applied;
         failed = c.apply.ensures.world;
         homes = c.apply.ensures.homes;

@@ -29,5 +29,5 @@ returns-clause-drawn g c =
     serves_adds (λ i es ws. g.C.Centre.goes old i es ws new.centre) new.set.rows early beside c.self.inside.lines c.push.new.self
     (g.C.Centre.kept old) (g.C.Centre.kept new.centre) new.released (usim_of new.set.rows new.world) (IsNext new.set c.args.sub (number_drawn note)) stands
     (next_adds (λ i es ws. g.C.Centre.goes old i es ws new.centre) (g.C.Centre.kept new.centre) new.set c.args.sub beside c.self.inside.lines c.push.new.self note c.in_ok-push.ensures known
-    (is_number_note new.set c.args.sub (g.C.Centre.top old c.args.sub) (g.C.Centre.kept old c.args.sub) note (c.self.invariant.0.is_centre.greatest c.args.sub) e.answer)
+    (is_number_note new.set c.args.sub (g.C.Centre.top old c.args.sub) (g.C.Centre.kept old c.args.sub) note (c.self.invariant.is_centre.greatest c.args.sub) e.answer)
     (says_number g.C.Centre.goes g.C.Centre.kept g.C.Centre.top old new.centre c.args.sub note _ e.answer e.goes e.others e.kept e.still stands.told))))

@@ -10,7 +10,7 @@ use Rattle.auc_jobs.proofs.worker.Worker.sync.Goals as goal
 
 pub resynchronised-note-requires-clause-number : goal.resynchronised-note-requires-clause-number
 resynchronised-note-requires-clause-number g c =
-    subst (λ (top : ℕ). IsSeqWithin top c.reported-auts.result) (sym (c.self.invariant.0.is_centre.greatest c.args.sub)) c.reported-auts.ensures.bound
+    subst (λ (top : ℕ). IsSeqWithin top c.reported-auts.result) (sym (c.self.invariant.is_centre.greatest c.args.sub)) c.reported-auts.ensures.bound
 
 pub returns-then-not-is_accepted_next-clause-synced : goal.returns-then-not-is_accepted_next-clause-synced
 returns-then-not-is_accepted_next-clause-synced g c =

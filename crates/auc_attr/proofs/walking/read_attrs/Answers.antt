@@ -2,7 +2,7 @@ use Rattle.std.proofs.Common.{◌≡◌, length, arith}
 use Rattle.std.proofs.lemmas.Bool.Decides.{nat_tests}
 use Rattle.std.proofs.lemmas.Result.{err_from_is_err_and}
 use Rattle.auc_attr.proofs.WalkLemmas.{list_begins, list_goes_on, first_fault, ended}
-use Rattle.auc_attr.proofs.reading.read_attrs.Goals as goal
+use Rattle.auc_attr.proofs.walking.read_attrs.Goals as goal
 
 pub loop-rest-init : goal.loop-rest-init
 loop-rest-init c = list_begins c.args.bytes.now _ _ c.new-list.ensures c.new-seen.ensures
