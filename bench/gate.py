@@ -46,6 +46,12 @@ DEAR = {
     "auc_peer": "an end of a session is one layer. Its two must-fail edits, a MAC that isn't compared and a Success that comes too "
     "early, stay in the gate and cost a second proof",
     "auc_jobs": "serving a round is one layer. It has no tests and no edit in the gate, so this is its proof alone",
+    "auc_cli::main": "it makes both calls of the program, each with all its clauses, and lends them what owns memory",
+    "auc_run::serve_next": "it hears a block and answers it, in five arms, each with the nine clauses of its step",
+    "auc_sim::run_session": "the network of a session, which owns memory, is alive at each of its early returns",
+    "auc_subs::read_row": "it returns early for each of nine fields, and its one clause tells the first fault of all",
+    "auc_tables::encrypted": "a program of tests makes attributes in both ways here, and they own memory at each early return",
+    "auc_server::Server::plan_row": "it has an arm for each of the table's 18 rows, and five clauses in each",
 }
 
 
