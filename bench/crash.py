@@ -197,7 +197,7 @@ def syncs_of(folder, opening, rounds, gate=16):
 
 def syncs(folder):
     if not shutil.which("strace"):
-        raise Missing("strace", "strace")
+        raise Missing("strace", "apt-get install strace")
     # By hand: 70 draws need the limits of their 1st and their 65th number, the next draw needs none, and 60 more need one.
     write_scenario(folder, [subscriber(0), *[line for count in (70, 1, 60) for line in ("round", "job", f"draw {imsi(0)} {count}")]])
     rounds = [[FRAME, FRAME], [], [FRAME]]

@@ -31,7 +31,7 @@ from pathlib import Path
 
 import hostapd
 from journal import imsi
-from measure import HEADER, KEYS, TOP
+from measure import BUILT, HEADER, KEYS, TOP, runnable
 from peers import gateway_version
 from repository import version_of, write_part
 from rivals import Sqlite, TextFile
@@ -49,7 +49,7 @@ MOST_ANSWERS, LONGEST_WAIT = 100, 3
 
 def options():
     parser = argparse.ArgumentParser(description=__doc__, formatter_class=argparse.RawDescriptionHelpFormatter)
-    parser.add_argument("--program", type=Path, default=TOP / "crates/auc_cli/out/auc_cli")
+    parser.add_argument("--program", type=Path, default=BUILT)
     parser.add_argument("--hlr-auc-gw", type=Path, help="the program that was built from hostapd's sources")
     parser.add_argument("--kills", type=int, default=200, help="of each one (default 200)")
     parser.add_argument("--seconds", type=int, default=300, help="the kills end after this time, however many there were")
@@ -308,7 +308,7 @@ def table(found, sessions, given):
 
 def main():
     given = options()
-    given.program = given.program.resolve()
+    given.program = runnable(given.program)
     good, sessions = True, ""
     if hostapd.are_there():
         good = all_sessions(given)

@@ -6,7 +6,10 @@ from pathlib import Path
 
 TOP = Path(__file__).resolve().parent.parent
 sys.path.append(str(TOP / "tools"))
+from ends import Missing
 from trial import HEADER, KEYS, folder_with
+
+BUILT = TOP / "crates/auc_cli/out/auc_cli"
 
 
 def subscriber_line(imsi):
@@ -14,9 +17,16 @@ def subscriber_line(imsi):
     return " ".join(["subscriber", imsi, *KEYS])
 
 
+def runnable(path):
+    """The program at a path, as a word of a command. It has to be there."""
+    if not os.access(path, os.X_OK):
+        raise Missing(path, "./auc prove builds the program")
+    return str(Path(path).resolve())
+
+
 def program():
     """The program that the command line names, or the one that was built here."""
-    return str(Path(sys.argv[1]).resolve()) if len(sys.argv) > 1 else str(TOP / "crates/auc_cli/out/auc_cli")
+    return runnable(sys.argv[1] if len(sys.argv) > 1 else BUILT)
 
 
 def followed(words, read):

@@ -32,7 +32,7 @@ from concurrent.futures import ThreadPoolExecutor
 from pathlib import Path
 
 from journal import NAME, run, write_scenario
-from measure import KEYS, TOP, subscriber_line
+from measure import BUILT, KEYS, TOP, runnable, subscriber_line
 from rivals import IMSI, LAST, Library, OsmoHlr, Sqlite, TextFile, auts_of, sqns_of
 
 sys.path.append(str(TOP / "tools"))
@@ -58,7 +58,7 @@ HEADS = {
 
 def options():
     parser = argparse.ArgumentParser(description=__doc__, formatter_class=argparse.RawDescriptionHelpFormatter)
-    parser.add_argument("--program", type=Path, default=TOP / "crates/auc_cli/out/auc_cli")
+    parser.add_argument("--program", type=Path, default=BUILT)
     parser.add_argument("--hlr-auc-gw", type=Path, help="the program that was built from hostapd's sources")
     parser.add_argument("--write", action="store_true", help="put the table into README.md")
     return parser.parse_args()
@@ -85,7 +85,7 @@ class Auc:
     keeps = True
 
     def __init__(self, program, folder):
-        self.program, self.folder = str(program.resolve()), folder
+        self.program, self.folder = runnable(program), folder
 
     def lines(self, scenario, seq=0):
         keys = [*KEYS[:4], str(seq), "0"]

@@ -33,7 +33,7 @@ from statistics import median
 import live
 from hostapd import wait_until
 from journal import imsi
-from measure import TOP
+from measure import BUILT, TOP, runnable
 from peers import gateway_version
 from repository import version_of, write_part
 from rivals import LONGEST_WAIT, Sqlite, TextFile
@@ -56,7 +56,7 @@ def numbers(text):
 def options():
     parser = argparse.ArgumentParser(description=__doc__, formatter_class=argparse.RawDescriptionHelpFormatter)
     parser.add_argument("--hlr-auc-gw", type=Path, required=True, help="the program that was built from hostapd's sources")
-    parser.add_argument("--program", type=Path, default=TOP / "crates/auc_cli/out/auc_cli")
+    parser.add_argument("--program", type=Path, default=BUILT)
     parser.add_argument("--disk", type=Path, default=Path("/var/tmp"), help="a folder on a disk (default /var/tmp)")
     parser.add_argument("--memory", type=Path, default=Path("/dev/shm"), help="a folder in memory (default /dev/shm)")
     parser.add_argument("--turns", type=int, default=5, help="how many seconds each rate is measured (default 5)")
@@ -64,7 +64,7 @@ def options():
     parser.add_argument("--clients", type=numbers, default=[1, 16], help="how many there are (default 1,16)")
     parser.add_argument("--write", action="store_true", help="put the table into docs/HOSTAPD.md")
     given = parser.parse_args()
-    given.program, given.patience = given.program.resolve(), LONGEST_WAIT
+    given.program, given.patience = runnable(given.program), LONGEST_WAIT
     return given
 
 

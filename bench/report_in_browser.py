@@ -76,7 +76,7 @@ class Browser:
 
     def __init__(self, folder):
         if shutil.which("chromium") is None:
-            raise Missing("chromium", "chromium")
+            raise Missing("chromium", "apt-get install chromium")
         words = ["chromium", "--headless=new", "--no-sandbox", "--disable-gpu", "--disable-dev-shm-usage", "--hide-scrollbars",
                  "--remote-debugging-pipe", f"--user-data-dir={folder}/profile", "about:blank"]
         begin = ["sh", "-c", 'exec 3<&0 4>&1 </dev/null >/dev/null 2>&1; exec "$@"', "sh", *words]

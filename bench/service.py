@@ -27,7 +27,7 @@ import time
 from pathlib import Path
 
 from journal import imsi
-from measure import TOP, folder_with, subscriber_line
+from measure import BUILT, TOP, folder_with, runnable, subscriber_line
 from repository import write_part
 
 sys.path.append(str(TOP / "tools"))
@@ -39,7 +39,7 @@ SIZES, TURNS, COLUMNS = (1, 1000, 65_536), 2001, "imsi,k,kind,op,amf,seq,usim"
 
 def options():
     parser = argparse.ArgumentParser(description=__doc__, formatter_class=argparse.RawDescriptionHelpFormatter)
-    parser.add_argument("--program", type=Path, default=TOP / "crates/auc_cli/out/auc_cli", help="the program to try")
+    parser.add_argument("--program", type=Path, default=BUILT, help="the program to try")
     parser.add_argument("--blocks", type=int, default=1_000_000, help="the blocks of the long service")
     parser.add_argument("--kills", type=int, default=500, help="how many services are killed")
     parser.add_argument("--seed", type=int, default=1, help="of what is drawn by chance")
@@ -192,7 +192,7 @@ def rivals(program):
 
 def main():
     given = options()
-    program = str(given.program.resolve())
+    program = runnable(given.program)
     rows = [life(program, given.blocks), ("then a line of 100 MB", "`refused scenario 0 limit`"), sizes(program), kills(program, given.kills, given.seed), *rivals(program)]
     text = "".join(["| Tried | What it gave |\n|---|---|\n", *(f"| {what} | {gave} |\n" for what, gave in rows)])
     print(text, end="")

@@ -38,7 +38,7 @@ from pathlib import Path
 
 import live
 from journal import imsi
-from measure import KEYS, TOP
+from measure import BUILT, KEYS, TOP, runnable
 from postgres import PASSWORD, USER, Server, children_of, programs
 
 sys.path.append(str(TOP / "tools"))
@@ -61,7 +61,7 @@ LONGEST_WAIT = 120
 
 def options():
     parser = argparse.ArgumentParser(description=__doc__, formatter_class=argparse.RawDescriptionHelpFormatter)
-    parser.add_argument("--program", type=Path, default=TOP / "crates/auc_cli/out/auc_cli")
+    parser.add_argument("--program", type=Path, default=BUILT)
     parser.add_argument("--subscribers", type=int, default=1000)
     parser.add_argument("--seconds", type=int, default=60, help="how long the kills go on (default 60)")
     parser.add_argument("--seed", type=int, default=1)
@@ -386,7 +386,7 @@ def write(text):
 
 def main():
     given = options()
-    given.program = given.program.resolve()
+    given.program = runnable(given.program)
     if programs() is None:
         print("PostgreSQL isn't there: apt-get install postgresql", file=sys.stderr)
         return 1

@@ -4,7 +4,7 @@
 fault of the script itself:
 
 - status 5 if its output can't be written: standard output is closed, its reader has gone, or the disk is full;
-- status 3 if something is missing that it needs, such as a module of Python;
+- status 3 if something is missing that it needs, such as a module of Python or the built program;
 - status 130 if it is interrupted.
 
 Each of them comes with a sentence on standard error. A help whose reader has gone is no fault: the status is 0. If one of
@@ -29,10 +29,10 @@ class OutputFailed(Exception):
 
 
 class Missing(Exception):
-    """What a script needs and isn't there, and the Debian package that has it."""
+    """What a script needs and isn't there, and the command that brings it."""
 
-    def __init__(self, what, package):
-        super().__init__(f"{what} is missing: apt-get install {package}")
+    def __init__(self, what, command):
+        super().__init__(f"{what} is missing: {command}")
 
 
 class Output(io.FileIO):
@@ -137,7 +137,7 @@ def run_main(main, text=None):
 
 def missing(module):
     """What to raise if a module of Python is missing: Debian's package has its name."""
-    return Missing(f"Python's module {module}", f"python3-{module}")
+    return Missing(f"Python's module {module}", f"apt-get install python3-{module}")
 
 
 def needs(module, text):

@@ -183,6 +183,16 @@ class Outputs(unittest.TestCase):
             self.assertEqual(done.stdout, path.read_bytes())
 
 
+class WithoutProgram(unittest.TestCase):
+    def test_script_that_runs_it_says_what_builds_it(self):
+        named = ["crash", "durable", "groups", "load", "longest", "reading", "sessions", "soak", "vectors"]
+        asked = [["service", "--program"], ["sites", "--program"], ["peers", "--program"]]
+        for name, *words in [[it] for it in named] + asked:
+            with self.subTest(script=name):
+                reason = f"{name}.py: /none is missing: ./auc prove builds the program\n"
+                self.assertEqual(ran([TOP / "bench" / f"{name}.py", *words, "/none"], stdout=subprocess.DEVNULL), (MISSING, reason))
+
+
 class WithoutCryptography(unittest.TestCase):
     def test_script_that_needs_it_says_how_to_install_it(self):
         need = ["tools/eap_rows.py", "bench/random_sessions.py", "bench/foreign_keys.py", "bench/foreign_ends.py"]
