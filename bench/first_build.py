@@ -2,6 +2,7 @@
 """Measures what the first build of the program takes, in minutes of processor time and by the clock.
 
     bench/first_build.py [--write] [--log FILE]
+    bench/first_build.py --beside REVISION [--log FILE]
     bench/first_build.py --reckon N
 
 In a temporary clone of the last commit `./auc prove --anew --portable` proves every crate that the program stands on,
@@ -9,13 +10,17 @@ whatever an earlier run on this machine passed, and builds the program for the k
 on the machine meanwhile. --write puts the figures into README.md and CONTRIBUTING.md, each between its marks; the script `auc`
 reads them there. --log says where the build's output goes; otherwise it goes to standard error.
 
+Machines differ, and so do the hours of one. So --beside tells what changed since an earlier revision: it builds that one and
+the last commit at the same time, each with half of the processors, and prints how the processor times compare. Each proof
+then has one job.
+
 --reckon builds nothing. It reckons from the minutes of each crate in CONTRIBUTING.md what a build takes on N processors with
 memory enough, and prints when which crate is proved. The order is that of rt: of the crates whose libraries are proved, first the
 one that begins the longest chain of crates. rt measures a chain in lines of sources, and --reckon in minutes. rt divides the idle
 processors by the proofs and tests that are ready, and gives a proof as many jobs, at least one and at most four. So a crate that is
 ready alone gets half of the idle processors, since its tests are ready too. A second job takes two fifths off a proof's time.
 
-The exit status is 0 if the program was built.
+The exit status is 0 if the program was built, with --beside both of them, and 2 if there is no such revision.
 """
 import argparse
 import heapq
@@ -24,6 +29,7 @@ import subprocess
 import sys
 import tempfile
 import time
+from concurrent.futures import ThreadPoolExecutor
 from pathlib import Path
 
 from repository import TOP, uses_of, version_of, write_part
@@ -37,22 +43,48 @@ def options():
     parser = argparse.ArgumentParser(description=__doc__, formatter_class=argparse.RawDescriptionHelpFormatter)
     parser.add_argument("--write", action="store_true", help="put the figures into their pages")
     parser.add_argument("--log", type=Path, help="where the build's output goes")
+    parser.add_argument("--beside", metavar="REVISION", help="build that revision, too, at the same time")
     parser.add_argument("--reckon", type=int, metavar="N", help="build nothing, and reckon for N processors")
     given = parser.parse_args()
     if given.reckon is not None and given.reckon < 1:
         parser.error("--reckon takes a number of processors, from 1 on")
+    if given.beside and not commit_of(given.beside):
+        parser.error(f"there is no revision {given.beside}")
     return given
 
 
-def measured(log):
-    """Builds the program in a clone: the exit status, and the minutes of processor time and by the clock."""
+def git(*words):
+    """What git prints of this repository; nothing if it refuses."""
+    return subprocess.run(["git", "-C", TOP, *words], stdout=subprocess.PIPE, check=False, text=True).stdout.strip()
+
+
+def commit_of(revision):
+    return git("rev-parse", "--verify", "--quiet", f"{revision}^{{commit}}")
+
+
+def measured(log, revision="HEAD", jobs=()):
+    """Builds the program of a revision in a clone: the exit status, and the minutes of processor time and by the clock."""
     with tempfile.TemporaryDirectory(prefix="auc-first-build-") as room:
         subprocess.run(["git", "clone", "-q", TOP, f"{room}/clone"], check=True)
+        subprocess.run(["git", "-C", f"{room}/clone", "checkout", "-q", commit_of(revision)], check=True)
         began = time.monotonic()
-        child = subprocess.Popen(["./auc", "prove", "--anew", "--portable"], cwd=f"{room}/clone", stdout=log, stderr=log)
+        words = ["./auc", "prove", "--anew", "--portable", *jobs]
+        child = subprocess.Popen(words, cwd=f"{room}/clone", stdout=log, stderr=log)
         _, status, usage = os.wait4(child.pid, 0)
         child.returncode = os.waitstatus_to_exitcode(status)
         return child.returncode, (usage.ru_utime + usage.ru_stime) / 60, (time.monotonic() - began) / 60
+
+
+def compare(revision, log):
+    """Builds that revision and this one side by side, and prints how they compare: the exit status."""
+    both, jobs = (revision, "HEAD"), ("--jobs", str(max(1, os.cpu_count() // 2)))
+    with ThreadPoolExecutor(len(both)) as pool:
+        builds = [*pool.map(lambda it: measured(log, it, jobs), both)]
+    for name, (status, work, _) in zip(both, builds):
+        print(f"{git('log', '-1', '--format=%h %s', name)}: {work:.1f} minutes of processor time{' and not built' if status else ''}")
+    (_, before, _), (_, now, _) = builds
+    print(f"{now / before:.2f} times as much")
+    return int(any(status for status, _, _ in builds))
 
 
 def chains(uses, minutes):
@@ -114,7 +146,10 @@ def main():
     given = options()
     if given.reckon:
         return reckon(given.reckon)
-    status, work, wall = measured(given.log.open("w") if given.log else sys.stderr)
+    log = given.log.open("w") if given.log else sys.stderr
+    if given.beside:
+        sys.exit(compare(given.beside, log))
+    status, work, wall = measured(log)
     text = (
         f"The first build proves every crate that the program stands on. At version {version_of(TOP)} it took {work:.0f} minutes of\n"
         f"processor time and, as it was measured, {wall:.0f} minutes on {os.cpu_count()} free processors.\n"

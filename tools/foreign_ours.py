@@ -11,6 +11,7 @@ from pathlib import Path
 from eap import ciphers
 from eap.lines import Ends
 from ends import missing
+from launcher.places import IS_INSTALLED
 from transcript import NOTES
 
 PROGRAM = Path(__file__).resolve().parent.parent / "crates/auc_ends_cli/out/auc_ends_cli"
@@ -113,7 +114,8 @@ class Program:
     def __init__(self, program=PROGRAM):
         self.title = f"that of the program {Path(program).name}"
         if not Path(program).is_file():
-            raise NotThere(f"{program} isn't there: `rt run` in crates/auc_ends_cli proves and builds it; or take --ends python")
+            advice = "" if IS_INSTALLED else "`rt run` in crates/auc_ends_cli proves and builds it; or "
+            raise NotThere(f"{program} isn't there: {advice}take --ends python")
         self.child = subprocess.Popen([program], stdin=subprocess.PIPE, stdout=subprocess.PIPE, text=True)
 
     def tell(self, line):

@@ -16,7 +16,7 @@ import sys
 import tempfile
 import time
 import unittest
-from contextlib import contextmanager
+from contextlib import contextmanager, nullcontext, suppress
 from pathlib import Path
 
 from eap.session import Subscriber
@@ -161,10 +161,10 @@ class Gateways(unittest.TestCase):
         self.path, self.log = self.folder / "socket", self.folder / "log"
         self.clients = 0
 
-    def begin(self, *options, folder=None, path=None, program=None):
+    def begin(self, *options, folder=None, path=None, program=None, log=None):
         words = [TOOLS / "gateway", self.file, "--socket", path or self.path, "--folder", folder or self.folder, "--program",
                  program or PROGRAM, "--patience", str(SOON), *self.ahead, *options]
-        with self.log.open("a") as log:
+        with nullcontext(log) if log else self.log.open("a") as log:
             child = subprocess.Popen([str(word) for word in words], stderr=log)
         self.addCleanup(self.kill, child)
         return child
@@ -1058,6 +1058,10 @@ class Starts(Gateways):
         self.assertIn("refused journal 0", self.refusal())
         self.assertIn("No such file", self.refusal(folder=self.folder / "missing"))
         self.assertIn("No such file", self.refusal(program="/missing"))
+        (self.folder / "auc.journal").unlink()
+        self.assertIn("AF_UNIX path too long", self.refusal(path=self.folder / ("s" * 120)))
+        self.assertEqual(self.begin("--leases", "", "--site", "1/3").wait(SOON), 2)
+        self.assertIn("argument --leases: a command is wanted", self.log.read_text())
 
 
 class Clients(Gateways):
@@ -1085,8 +1089,33 @@ class Clients(Gateways):
         time.sleep(1.2)
         self.assertIsNotNone(client.vector())
         log = self.log.read_text()
-        self.assertIn("client2 doesn't read its answers: one is dropped", log)
-        self.assertIn("client3 is dropped", log)
+        self.assertIn("client2' doesn't read its answers: one is dropped", log)
+        self.assertIn("client3' is dropped", log)
+
+    def test_name_of_a_client_is_one_line_of_the_log(self):
+        _, client = self.start()
+        gone = Client(f"{self.folder}/gone\ngateway: numbers of x came again")
+        gone.socket.connect(str(self.path))
+        gone.say(f"AKA-REQ-AUTH {A}")
+        gone.end()
+        self.wait_until(lambda: "is dropped" in self.log.read_text())
+        self.assertNotIn("\ngateway: numbers", self.log.read_text())
+
+    def test_standard_error_that_nobody_reads_stops_nobody(self):
+        read, write = os.pipe()
+        self.addCleanup(os.close, read)
+        self.addCleanup(os.close, write)
+        child = self.begin(log=write)
+        self.assertIn(b"gateway: serves ", os.read(read, 4096))
+        os.set_blocking(write, False)
+        with suppress(BlockingIOError):
+            while os.write(write, bytes(2**16)):
+                pass
+        os.set_blocking(write, True)
+        client = self.client()
+        client.say("hello")
+        self.assertEqual([seq_in(client.vector()) for _ in range(3)], [1, 2, 3])
+        self.assertEqual(self.end(child), 0)
 
     def test_request_without_an_address_takes_no_number(self):
         _, client = self.start()

@@ -17,6 +17,7 @@ from ends import run_main
 from launcher import help as texts
 from launcher import install, processor
 from small_checkout import PIPES, SECONDS, TOP, Checkout
+from trial import HEADER, K, OPC
 
 # The stand-in for a program that runs while it is replaced.
 SLOW = "#!/bin/sh\necho $$ >{0}/pid\nwhile [ ! -e {0}/gate ]; do sleep 0.05; done\necho old\n"
@@ -69,6 +70,21 @@ class Prefix(Checkout):
 
 
 class Installs(Prefix):
+    def test_tools_that_ask_the_program_find_it_by_themselves(self):
+        self.install()
+        (self.here / "subscribers.csv").write_text(f"{HEADER}\n001010000000001,{K},opc,{OPC},8000,0,0\n")
+        (self.here / "auc.journal").touch()
+        calls = {
+            "seqs": (["subscribers.csv", "--margin", 1], {"SAYS": "reserved 001010000000001 64"}, "reserved"),
+            "gateway": (["subscribers.csv", "--socket", "s", "--patience", "0.1"], {"STATUS": 7}, "serve"),
+        }
+        for tool, (words, how, form) in calls.items():
+            with self.subTest(tool=tool):
+                for ran in (self.auc(*words, script=f"tools/{tool}", **how), self.installed(*words, name=f"auc-{tool}", **how)):
+                    self.assertNotIn("Traceback", ran.stderr)
+                self.assertEqual([it.split()[1] for it in self.noted()], [form, form])
+                self.calls.unlink()
+
     def test_all_is_in_place(self):
         done = self.install(preexec_fn=lambda: os.umask(0o077))
         said = f"auc: version 1.2.3 is installed in {self.prefix}; its command is {self.prefix}/bin/auc\n"

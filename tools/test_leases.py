@@ -248,8 +248,8 @@ class Stores(unittest.TestCase):
             (f"lease 0 32 {A}:{MAX_SEQ - 31}:0\n", f"leased {A}:{MAX_SEQ + 1}:{MAX_SEQ}:7\n"),
             (f"lease 0 32 {A}:0:0\n", f"leased {A}:{MAX_SEQ + 33}:{MAX_SEQ}:7\n"),
             *((wrong, "away the request can't be read\n") for wrong in (
-                "\n", "lease\n", "lease 32 1\n", "lease 0 8 \n", f"lease 0 8 {A}\n", f"lease 0 8 {A}:0:0 {A}:0:0\n",
-                f"lease 0 8 {A}:0:0'; DROP TABLE auc_numbers\n", f"lease 0 8 {A}:-1:0\n", f"lease 0 8 12345:0:0\n")),
+                "\n", "lease\n", "lease 32 1\n", "lease 0 0\n", "lease 0 33\n", "lease 0 8 \n", f"lease 0 8 {A}\n",
+                f"lease 0 8 {A}:0:0 {A}:0:0\n", f"lease 0 8 {A}:0:0'; DROP TABLE auc_numbers\n", f"lease 0 8 {A}:-1:0\n", f"lease 0 8 12345:0:0\n")),
         ]
         for store in self.made():
             done = self.master(store, input="".join(asked for asked, _ in cases))

@@ -50,7 +50,7 @@ CAUSES_OF_LINES = {
     "unknownsubscriber": "no subscriber has this IMSI",
     "unknownsession": "no earlier line of this job opens this session",
     "twice": "an earlier line, session, start or subscriber is the same",
-    "usimbusy": "an earlier job of this round gives to this USIM or has a session of it",
+    "usimbusy": "an earlier job of this round gives to this USIM, has a `fiveg` line of it or a session of it",
     "limit": "a limit is exceeded",
     "notlive": "the line may not stand in a block of a service",
     "unfinished": "the input ended before the line `end`",
