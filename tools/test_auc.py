@@ -333,6 +333,17 @@ class Explanations(Checkout):
         assert_told("Is a directory")
         self.assertEqual(len(list(self.here.iterdir())), 1, "a trial leaves no file")
 
+    def test_a_journal_that_is_no_file_is_told(self):
+        journal = self.here / "auc.journal"
+        absent = self.room / "absent/auc.journal"
+        links = {"/dev/full": "it is no file", absent: "No such file or directory", journal: "Too many levels of symbolic links"}
+        for target, reason in links.items():
+            journal.symlink_to(target)
+            self.assertEqual(self.said(6, words=("run", "x")), f"{target}: {reason} (status 6)")
+            journal.unlink()
+        os.mkfifo(journal)
+        self.assertEqual(self.said(6, words=("run", "x")), f"{journal}: it is no file (status 6)")
+
     def test_each_other_status_has_its_sentence(self):
         sentences = {
             1: "these words are no command line", 5: "the output could not be written", 8: "the journal is full",

@@ -169,6 +169,21 @@ class Compactions(Checkout):
         ran = self.auc("compact")
         self.assertEqual((ran.returncode, ran.stderr), (6, f"{self.journal}: Is a directory (status 6)\n"))
 
+    def test_journal_that_links_to_itself_is_refused(self):
+        self.journal.unlink()
+        self.journal.symlink_to("auc.journal")
+        ran = self.auc("compact")
+        self.assertEqual((ran.returncode, ran.stderr), (6, f"{self.journal}: Too many levels of symbolic links (status 6)\n"))
+
+    def test_what_stands_in_the_place_of_its_folder_is_refused_and_stays(self):
+        place = self.here / compacting.ROOM
+        self.others = sorted([*self.others, place.name])
+        makers = (place.touch, lambda: os.mkfifo(place), lambda: place.symlink_to(self.room), lambda: place.symlink_to("absent"))
+        for make in makers:
+            make()
+            self.refused(6, f"{place}: it is no folder \\(status 6\\)")
+            place.unlink()
+
     def test_program_that_fails_changes_nothing(self):
         self.stand_in(FAILS)
         self.refused(5, f"{self.journal}: a new one could not be written beside it \\(status 5\\)")
@@ -179,7 +194,7 @@ class Compactions(Checkout):
     def test_folder_that_cannot_be_written_changes_nothing(self):
         self.here.chmod(0o555)
         self.addCleanup(self.here.chmod, 0o755)
-        self.refused(6, f"{self.journal}: Permission denied \\(status 6\\)", preexec_fn=as_a_user)
+        self.refused(6, f"({self.journal}|{self.here / compacting.ROOM}): Permission denied \\(status 6\\)", preexec_fn=as_a_user)
 
     def test_signal_ends_it_and_changes_nothing(self):
         before = self.journal.read_bytes()

@@ -1044,6 +1044,15 @@ class Starts(Gateways):
         self.assertIn("is no socket", self.refusal())
         self.assertEqual(self.path.read_text(), "a file")
 
+    def test_nothing_is_made_beside_what_is_no_socket(self):
+        self.path.write_text("a file")
+        self.assertIn("is no socket", self.refusal())
+        self.assertFalse(Path(f"{self.path}.lock").exists())
+        self.assertIn("Not a directory", self.refusal(path=self.path / "socket"))
+
+    def test_program_that_ends_without_a_reply_is_refused(self):
+        self.assertEqual(self.refusal(program="/bin/true"), "gateway: the program ended (status 0)")
+
     def test_socket_has_its_mode(self):
         for options, wanted in (((), 0o660), (("--mode", "600"), 0o600)):
             child, _ = self.start(*options)

@@ -7,6 +7,7 @@ import hashlib
 import json
 import os
 import re
+import resource
 import shutil
 import subprocess
 import tarfile
@@ -130,6 +131,11 @@ class Installs(Prefix):
         (self.here / "own").rename(self.prefix)
         self.assertEqual(self.installed("run", "x", SAYS="hello").stdout, "hello\n")
 
+    def test_a_file_that_the_disk_has_no_room_for_is_named(self):
+        done = self.install(preexec_fn=lambda: resource.setrlimit(resource.RLIMIT_FSIZE, (1000, 1000)))
+        self.assertEqual((done.returncode, done.stdout), (70, ""))
+        self.assertEqual(done.stderr, f"auc: {self.prefix}/lib/auc/.installed.json.auc-new: File too large\n")
+
     def test_other_words_get_the_help(self):
         for words in ([], [""], ["a", "b"], ["--remove"], ["--remove", "a", "b"], ["--force", "a"], ["-x"]):
             done = self.auc("install", *words)
@@ -237,6 +243,21 @@ class Removals(Prefix):
             path.write_text(json.dumps({**known, "files": {name: hashlib.sha256(b"mine").hexdigest()}}))
             self.assertEqual(self.install("--remove", self.prefix).returncode, 70, name)
         self.assertTrue((self.room / "other").exists())
+
+    def test_a_manifest_of_another_form_is_refused(self):
+        self.install()
+        path = self.prefix / "lib/auc/installed.json"
+        before, known = path.read_text(), json.loads(path.read_text())
+        others = {"files": [], "links": {"bin/auc": 1}, "folders": [1], "verdict": [], "earlier": [], "version": None}
+        contents = [before[:50], "[]", "{}", *(json.dumps({**known, **{name: it}}) for name, it in others.items())]
+        for content in contents:
+            path.write_text(content)
+            calls = [self.install(), self.install("--remove", self.prefix), self.installed("--version"), self.installed("prove")]
+            for done in calls:
+                self.assertEqual((done.returncode, done.stdout), (70, ""), content)
+                self.assertIn(f"auc: {path} can't be read: ", done.stderr, content)
+        path.write_text(before)
+        self.assertEqual(self.install("--remove", self.prefix).returncode, 0)
 
 
 class Copies(Prefix):

@@ -23,10 +23,9 @@ import os
 import shutil
 import stat
 import sys
-from pathlib import Path
 
 from . import running
-from .explain import Call, explain, fault_of
+from .explain import Call, explain, fault_of, journal, refuse_no_file
 from .places import JOURNAL, Stopped, put, say, tell
 
 # The folder for the copy and the new file. One that is left there is that of a call that was killed.
@@ -46,13 +45,19 @@ def is_at(file, path):
 def locked(path):
     """The journal, opened and locked as the program does it."""
     with open(path, "r+b", buffering=0) as file:
-        if not stat.S_ISREG(os.fstat(file.fileno()).st_mode):
-            raise OSError(errno.EINVAL, "it is no file")
+        refuse_no_file(file)
         fcntl.flock(file, fcntl.LOCK_EX | fcntl.LOCK_NB)
         if not is_at(file, path):
             # Another call replaced it after it was opened here.
             raise BlockingIOError
         yield file
+
+
+def refuse_no_folder(room):
+    """Refuses what stands at the place of the room and isn't the folder of an earlier call."""
+    with contextlib.suppress(FileNotFoundError):
+        if not stat.S_ISDIR(os.lstat(room).st_mode):
+            raise NotADirectoryError(errno.ENOTDIR, "it is no folder", room)
 
 
 def remove(room):
@@ -64,6 +69,7 @@ def remove(room):
 def room_beside(path):
     """A folder of its own beside the journal, until the end of the block."""
     room = path.with_name(ROOM)
+    refuse_no_folder(room)
     remove(room)
     room.mkdir(mode=0o700)
     try:
@@ -134,11 +140,11 @@ def replaced(program, path):
 
 def compact(program):
     """Compacts the journal of this folder, which has one: the exit status."""
-    path = Path(JOURNAL).resolve()
+    path = journal()
     try:
         status, told = replaced(program, path) if sys.stdout else (running.WRITE_FAULT, None)
     except OSError as error:
-        tell(f"{path}: {fault_of(error)} (status {FAILED})")
+        tell(f"{error.filename or path}: {fault_of(error)} (status {FAILED})")
         return FAILED
     explain(Call(program, ["compact"], ["compact"]), status)
     if status == 0:

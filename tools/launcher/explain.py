@@ -87,8 +87,8 @@ class Call:
 
 
 def journal():
-    """The whole path of the journal, to be told."""
-    return Path(JOURNAL).absolute()
+    """The whole path of the journal, or where a link in its place leads."""
+    return Path(os.path.realpath(JOURNAL))
 
 
 # ---- a line of a file
@@ -204,11 +204,18 @@ def fault_of(error):
     return "another process has it open: one run at a time" if isinstance(error, BlockingIOError) else error.strerror
 
 
+def refuse_no_file(file):
+    """Refuses an opened journal that is a device or a pipe."""
+    if not stat.S_ISREG(os.fstat(file.fileno()).st_mode):
+        raise OSError(errno.EINVAL, "it is no file")
+
+
 def fault_of_journal(path):
     """Why a journal can't be opened, locked or written, by the system; nothing if it can. The journal stays as it is."""
     try:
-        if path.exists():
-            with open(path, "r+b", opener=lambda it, flags: os.open(it, flags | os.O_NONBLOCK)) as file:
+        if os.path.lexists(path):
+            with open(path, "r+b", buffering=0, opener=lambda it, flags: os.open(it, flags | os.O_NONBLOCK)) as file:
+                refuse_no_file(file)
                 fcntl.flock(file, fcntl.LOCK_EX | fcntl.LOCK_NB)
         with tempfile.TemporaryFile(dir=path.parent, buffering=0) as file:
             file.write(bytes(4096))
@@ -219,7 +226,7 @@ def fault_of_journal(path):
 
 
 def journal_failed(_, status):
-    fault = fault_of_journal(Path(JOURNAL))
+    fault = fault_of_journal(journal())
     return f"{journal()}: {fault or 'it could not be opened, locked, read or written'} (status {status})"
 
 
@@ -228,7 +235,7 @@ def journal_failed(_, status):
 
 def unwritten(call, status):
     if call.is_compaction() and sys.stdout:
-        fault = fault_of_journal(Path(JOURNAL))
+        fault = fault_of_journal(journal())
         return f"{journal()}: a new one could not be written beside it{f': {fault}' if fault else ''} (status {status})"
     closed = ": standard output is closed" if sys.stdout is None else ""
     return f"auc: the output could not be written{closed} (status {status})"

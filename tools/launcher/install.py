@@ -15,7 +15,7 @@ from dataclasses import asdict, dataclass
 from pathlib import Path
 
 from . import build, release, sources
-from .places import INSTALLED, IS_INSTALLED, TOP, Stopped, say, version
+from .places import INSTALLED, IS_INSTALLED, TOP, Stopped, manifest, say, version
 
 HOME = "lib/auc"
 MANIFEST = f"{HOME}/installed.json"
@@ -128,11 +128,9 @@ def is_inside(path):
 def manifest_in(root):
     """What was installed there; nothing if nothing was."""
     try:
-        known = json.loads((root / MANIFEST).read_text(encoding="utf-8"))
+        known = manifest(root / MANIFEST)
     except FileNotFoundError:
         return None
-    except ValueError as error:
-        raise Stopped(f"{root / MANIFEST} can't be read: {error}") from error
     if not all(map(is_inside, [*known["files"], *known["links"], *known["folders"]])):
         raise Stopped(f"{root / MANIFEST} names files that aren't under {root}")
     return known
@@ -158,6 +156,16 @@ def folders_of(paths):
     return {str(it) for path in paths for it in Path(path).parents}
 
 
+@contextlib.contextmanager
+def naming(path):
+    """Has a fault name this file if it names none, as that of a full disk does."""
+    try:
+        yield
+    except OSError as error:
+        error.filename = error.filename or path
+        raise
+
+
 def write_beside(path, entry):
     """Puts a file or link beside its place."""
     with contextlib.suppress(FileNotFoundError):
@@ -165,7 +173,8 @@ def write_beside(path, entry):
     if isinstance(entry, str):
         beside(path).symlink_to(entry)
     else:
-        beside(path).write_bytes(entry.content)
+        with naming(beside(path)):
+            beside(path).write_bytes(entry.content)
         beside(path).chmod(entry.mode)
 
 
@@ -299,7 +308,7 @@ def standing():
 
 def stop_building():
     """Says why an installed copy neither proves nor builds, and what to do."""
-    known = json.loads(INSTALLED.read_text(encoding="utf-8"))
+    known = manifest(INSTALLED)
     raise Stopped(
         "this is an installed copy, which has no sources, so it neither proves nor builds. Take the project's repository, from"
         f" where this copy came, and call `./auc prove` there; the sources of version {known['version']} have the checksum"
