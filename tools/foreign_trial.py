@@ -9,7 +9,7 @@ from dataclasses import dataclass
 
 import foreign_radius
 from eap.messages import IDENTITY, RESPONSE, packet
-from foreign_ours import peer_line, server_line
+from foreign_ours import NotThere, peer_line, server_line
 from foreign_radius import ACCEPT, CHALLENGE, CODES, REJECT, STATE
 from foreign_verdict import Session
 
@@ -42,6 +42,15 @@ def shown_address(address):
     return f"{address[0]}:{address[1]}"
 
 
+def socket_for(address):
+    """A socket of UDP, for an address of any family. The codec of names tells by an error of its own that a name can't be one."""
+    try:
+        family = socket.getaddrinfo(*address, type=socket.SOCK_DGRAM)[0][0]
+    except UnicodeError as error:
+        raise NotThere(f"{address[0]}: it is no name of a host") from error
+    return socket.socket(family, socket.SOCK_DGRAM)
+
+
 # ---- our peer with a foreign server
 
 class Server:
@@ -49,8 +58,7 @@ class Server:
 
     def __init__(self, radius, address, patience):
         self.radius, self.address, self.patience, self.identifier = radius, address, patience, 0
-        family = socket.getaddrinfo(*address, type=socket.SOCK_DGRAM)[0][0]
-        self.door = socket.socket(family, socket.SOCK_DGRAM)
+        self.door = socket_for(address)
         self.door.connect(address)
 
     def ask(self, name, eap, states):
@@ -118,7 +126,7 @@ def with_server(end, server, chosen, before=lambda number: None):
         session = Session(number + 1, "peer", chosen.method, f"the server at {shown_address(server.address)}")
         session.began(end.tell(peer_line(number, chosen, chosen.options_of(number))))
         ran_with_server(end, server, session, chosen)
-        if not session.end and (last := session.last("server")):
+        if not session.end and (last := session.last("server")) and len(last.data) > 1:
             # Our peer tells its cause at the end of the session alone.
             session.hear(end, bytes([4, last.data[1], 0, 4]), made=True)
         session.give_up(end)
@@ -135,9 +143,7 @@ class Door:
     """A RADIUS server with our server behind it, of which a foreign access point is a client. It serves one session at a time."""
 
     def __init__(self, radius, address, say=lambda text: None):
-        family = socket.getaddrinfo(*address, type=socket.SOCK_DGRAM)[0][0]
-        self.radius, self.say = radius, say
-        self.door = socket.socket(family, socket.SOCK_DGRAM)
+        self.radius, self.say, self.door = radius, say, socket_for(address)
         self.door.bind(address)
         self.last = self.answered = self.state = None
 

@@ -5,6 +5,7 @@ A database is only read, and no file is made beside it. One that SQLite keeps a 
 import os
 import shlex
 import sqlite3
+import stat
 import sys
 from contextlib import closing
 from dataclasses import dataclass
@@ -88,9 +89,9 @@ def whole_rows(path, store):
     """The rows of a database, after it was seen that it is whole and that it stayed as it is."""
     # The files beside it have its own name, and not that of a link to it.
     path = os.path.realpath(path) if os.path.islink(path) else path
-    if not os.path.isfile(path):
-        raise Unreadable(f"{path}: no such file")
     try:
+        if not stat.S_ISREG(os.stat(path).st_mode):
+            raise Unreadable(f"{path}: it is no file")
         refuse_if_not_whole(path, store)
         if may_lack_changes(path):
             print(f"import: {path} is in WAL mode, and there is no {path}-wal: if it was copied without that file, changes may be"

@@ -1,11 +1,14 @@
 #!/usr/bin/env python3
-"""Tests of tools/foreign: RADIUS, the answers of our ends, the verdicts, and both trials on the loopback.
+"""Tests of tools/foreign: RADIUS, the answers of our ends, the verdicts, and both trials on the loopback; and of tools/usim.
 
 The bytes of RADIUS are those of RFC 2865 §7.1, and an exchange with hostapd 2.10. The verdicts are tried on each session of the
 rows of crates/auc_ends_cli. In the trials on the loopback both ends are played here, by tools/eap. Neither hostapd nor a
 program of ours is needed.
 """
 import hashlib
+import os
+import signal
+import socket
 import subprocess
 import sys
 import tempfile
@@ -24,6 +27,8 @@ from ends import run_main
 from foreign_ours import Unreadable, answer_in
 from foreign_radius import ACCEPT, Fault, Radius
 from foreign_verdict import DIFFERENT, EQUAL, FAILED, UNSEEN, Judge, Session, verdict_of
+from small_checkout import heed_signals
+from trial import HEADER, KEYS, folder_with
 
 TOOLS = Path(__file__).resolve().parent
 ROWS = TOOLS.parent / "crates/auc_ends_cli"
@@ -329,6 +334,8 @@ class PlayedPeer(Played):
     first = "peer"
 
     def heard(self, data):
+        if len(data) < 4:
+            return "ignored notforme"
         if data[0] > 2:
             self.ended = True
             return self.won() if data[0] == 3 else "ended failure failurereceived"
@@ -399,13 +406,24 @@ class Trials(unittest.TestCase):
         self.assertIn("the peer: it sends nothing more for 0.3 seconds", str(verdict_of(Judge(Subscriber(), "WLAN"), session)))
 
     def test_nobody_listens(self):
-        with foreign_trial.socket.socket(foreign_trial.socket.AF_INET, foreign_trial.socket.SOCK_DGRAM) as probe:
+        with socket.socket(socket.AF_INET, socket.SOCK_DGRAM) as probe:
             probe.bind(("127.0.0.1", 0))
             address = probe.getsockname()
         server = foreign_trial.Server(Radius(b"secret"), address, 0.3)
         self.addCleanup(server.door.close)
         session, = foreign_trial.with_server(PlayedPeer(), server, foreign_trial.Chosen("aka", sessions=1))
         self.assertIn("nobody listens at its port", str(verdict_of(Judge(Subscriber(), "WLAN"), session)))
+
+    def test_packet_of_one_byte_is_told(self):
+        class Curt:
+            address, radius = ("127.0.0.1", 1), Radius(b"secret")
+
+            def ask(self, name, eap, states):
+                asked = self.radius.request(1, name, eap, states)
+                return asked, self.radius.answer(foreign_radius.CHALLENGE, asked, b"\1"), ""
+        session, = foreign_trial.with_server(PlayedPeer(), Curt(), foreign_trial.Chosen("aka", sessions=1))
+        self.assertIn("packet 3, Request of the server, Code or Identifier: they are 01",
+                      str(verdict_of(Judge(Subscriber(), "WLAN"), session)))
 
     def test_keys_of_a_list(self):
         keys = [hashlib.sha512(bytes([it])).digest() for it in range(3)]
@@ -429,6 +447,48 @@ class Words(unittest.TestCase):
             secret.write_text("secret\n")
             status, said = self.ran("server", "127.0.0.1:1", "--secret-file", str(secret), "--ends", f"{folder}/nothing")
             self.assertEqual((status, "nothing isn't there: `rt run` in crates/auc_ends_cli" in said), (3, True))
+
+    def test_name_that_no_host_can_have_has_status_3(self):
+        for role in "server", "peer":
+            for host in "..", f"{'a' * 64}.test":
+                said = self.ran(role, f"{host}:1812", "--secret-file", TOOLS / "foreign", "--ends", "python")
+                self.assertEqual((said[0], said[1].splitlines()[-1]), (3, f"foreign: {host}: it is no name of a host"))
+
+
+class UsimOfAPeer(unittest.TestCase):
+    """tools/usim, asked as wpa_supplicant asks."""
+
+    def setUp(self):
+        imsi = Subscriber().imsi
+        self.folder = self.enterContext(folder_with({"subscribers": f"{HEADER}\n{imsi},{','.join(KEYS)}\n"}))
+        (self.folder / "tmp").mkdir()
+        self.peer = self.enterContext(socket.socket(socket.AF_UNIX, socket.SOCK_DGRAM))
+        self.peer.settimeout(30)
+        self.peer.bind(f"{self.folder}/peer")
+        words = [sys.executable, TOOLS / "usim", f"{self.folder}/peer", self.folder / "subscribers", imsi]
+        self.child = subprocess.Popen(words, env={**os.environ, "TMPDIR": f"{self.folder}/tmp"}, stdout=subprocess.DEVNULL,
+                                      stderr=subprocess.PIPE, preexec_fn=heed_signals)
+        self.addCleanup(self.child.communicate)
+        self.addCleanup(self.child.kill)
+        self.usim = self.peer.recvfrom(99)[1]
+
+    def answers(self, *asked):
+        """The first answer after some lines of the peer."""
+        for line in asked:
+            self.peer.sendto(f"<3>CTRL-REQ-SIM-{line}".encode(), self.usim)
+        return next(data for data in iter(lambda: self.peer.recv(4096), None) if data != b"PING")
+
+    def test_line_that_is_no_challenge_has_no_answer(self):
+        value, wrong = "00" * 16, ["", "0:", "0", "0:UMTS-AUTH", "0:GSM-AUTH needed for SSID a"]
+        wrong += [f"0:{it} needed" for it in (f"UMTS-AUTH:{value}", f"UMTS-AUTH:{value}:zz", f"GSM-AUTH:{value}:12", f"A:{value}")]
+        self.assertEqual(self.answers(*wrong, f"1:UMTS-AUTH:{value}:{value} needed for SSID a"), b"CTRL-RSP-SIM-1:UMTS-FAIL")
+        self.assertRegex(self.answers(*wrong, f"2:GSM-AUTH:{value} needed").decode(), "^CTRL-RSP-SIM-2:GSM-AUTH:[0-9a-f]{16}:")
+
+    def test_ended_script_leaves_no_folder(self):
+        self.assertEqual(len(os.listdir(self.folder / "tmp")), 1)
+        self.child.send_signal(signal.SIGTERM)
+        self.assertEqual((self.child.wait(30), self.child.stderr.read()), (128 + signal.SIGTERM, b""))
+        self.assertEqual(os.listdir(self.folder / "tmp"), [])
 
 
 if __name__ == "__main__":

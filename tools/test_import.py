@@ -2,6 +2,7 @@
 """Tests of tools/import: each kind of line, row and database, and the number that each subscriber starts at."""
 import gzip
 import io
+import os
 import shutil
 import sqlite3
 import subprocess
@@ -12,6 +13,7 @@ from pathlib import Path
 
 from eap.usim import sqn_of, top_of
 from ends import run_main
+from small_checkout import as_a_user
 from trial import loaded
 
 TOOL = Path(__file__).resolve().parent / "import"
@@ -26,8 +28,8 @@ OSMO = ("imsi", "algo_id_3g", "k", "op", "opc", "sqn")
 MADE = Path(__file__).resolve().parent / "testdata"
 
 
-def ran(*words):
-    return subprocess.run([TOOL, *words], capture_output=True, text=True)
+def ran(*words, **more):
+    return subprocess.run([TOOL, *words], capture_output=True, text=True, **more)
 
 
 def own_sqn(number, bits=5):
@@ -430,6 +432,38 @@ class Inputs(unittest.TestCase):
             done = ran(source, path)
             self.assertEqual((done.returncode, done.stdout), (2, ""), (source, path))
             self.assertIn("import: ", done.stderr)
+
+    def test_path_that_is_no_file_is_told_from_one_that_is_not_there(self):
+        with tempfile.TemporaryDirectory() as name:
+            folder = Path(name)
+            os.mkfifo(folder / "fifo")
+            (folder / "shut").mkdir()
+            (folder / "shut" / "hlr.db").write_bytes(b"")
+            (folder / "shut").chmod(0)
+            for path, reason in (("", "it is no file"), ("fifo", "it is no file"), ("hlr.db", "No such file or directory"),
+                                 ("shut/hlr.db", "Permission denied")):
+                done = ran("osmo-hlr", folder / path, preexec_fn=as_a_user)
+                said = f"import: {folder / path}: {reason}\n"
+                self.assertEqual((done.returncode, done.stdout, done.stderr), (2, "", said))
+            (folder / "shut").chmod(0o755)
+
+    def test_control_characters_of_a_database_are_told_by_their_codes(self):
+        with tempfile.TemporaryDirectory() as name, closing(sqlite3.connect(f"{name}/hlr.db")) as tables:
+            tables.execute("CREATE TABLE subscriber (id INTEGER PRIMARY KEY, imsi VARCHAR(15))")
+            tables.execute("CREATE TABLE auc_3g (subscriber_id, algo_id_3g, k, op, opc, sqn, ind_bitlen)")
+            tables.execute("INSERT INTO subscriber VALUES (1, ?)", ("\x1b[2Jé\n",))
+            tables.execute("INSERT INTO auc_3g VALUES (1, ?, '', NULL, '', 1000, 5)", ("\a",))
+            tables.commit()
+            done = ran("osmo-hlr", f"{name}/hlr.db")
+        reason = "its algorithm is number \\x07, and not Milenage"
+        self.assertEqual(done.stderr.splitlines()[0], f"import: subscriber \\x1b[2Jé\\n (id 1) is left out: {reason}")
+
+    def test_byte_order_mark_belongs_to_no_line(self):
+        with tempfile.TemporaryDirectory() as name:
+            path = Path(name) / "milenage"
+            path.write_bytes(b"\xef\xbb\xbf" + f"{IMSI} {K} {OPC} 61df 000000000000\n".encode())
+            done = ran("hostapd", path)
+        self.assertEqual((done.returncode, done.stdout.count(IMSI), done.stderr), (0, 1, ""))
 
     def test_database_of_another_kind_is_status_2_and_an_older_one_may_lack_a_column(self):
         milenage = "CREATE TABLE milenage (imsi INTEGER PRIMARY KEY, ki, opc, amf, sqn{})"

@@ -289,6 +289,15 @@ class Stores(unittest.TestCase):
                 done = self.master(store, "--make")
                 self.assertEqual((done.returncode, said in done.stderr), (status, True))
 
+    def test_name_that_cannot_be_opened_is_told(self):
+        gone = self.folder / "gone"
+        gone.mkdir()
+        for store, folder, reason in (("sqlite:/tmp/\udcff.db", None, "isn't UTF-8"), ("sqlite:x", gone, "can't be found")):
+            remove = gone.rmdir if folder else None
+            done = self.master(store, "--make", cwd=folder, preexec_fn=remove)
+            self.assertEqual((done.returncode, done.stdout, done.stderr.count("\n")), (1, "", 1), done.stderr)
+            self.assertIn(reason, done.stderr)
+
     def test_server_that_may_lose_a_commit_is_refused(self):
         _, store = self.made()
         for session, reason in (("off|on|f|p", "fsync is off"), ("on|off|f|p", "synchronous_commit is off"),

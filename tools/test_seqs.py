@@ -11,6 +11,7 @@ import unittest
 from pathlib import Path
 
 from ends import run_main
+from small_checkout import as_a_user
 from trial import HEADER, K, OPC
 
 TOOL = Path(__file__).resolve().parent / "seqs"
@@ -32,10 +33,10 @@ class Seqs(unittest.TestCase):
     def write(self, *rows):
         self.file.write_text("\n".join([HEADER, *rows, ""]))
 
-    def ran(self, *words, said=None):
+    def ran(self, *words, said=None, file=None, **more):
         """The status, the output and the lines on standard error."""
-        given = [sys.executable, "-S", TOOL, self.file, *words]
-        done = subprocess.run(given, input=said, capture_output=True, text=True, cwd=self.folder)
+        given = [sys.executable, "-S", TOOL, self.file if file is None else file, *words]
+        done = subprocess.run(given, input=said, capture_output=True, text=True, cwd=self.folder, **more)
         return done.returncode, done.stdout, done.stderr
 
     def seqs(self, *words, said):
@@ -50,8 +51,8 @@ class Seqs(unittest.TestCase):
         path.chmod(0o755)
         return ["--program", path]
 
-    def refused(self, status, reason, *words, said=None):
-        found, out, errors = self.ran(*words, said=said)
+    def refused(self, status, reason, *words, **more):
+        found, out, errors = self.ran(*words, **more)
         self.assertEqual((found, out), (status, ""), errors)
         self.assertIn(reason, errors)
         self.assertNotIn("Traceback", errors)
@@ -104,6 +105,19 @@ class Seqs(unittest.TestCase):
         for margin in ("-1", "x", FURTHEST + 1, "99999999999"):
             self.refused(2, "margin", "--reserved", "-", "--margin", str(margin), said="")
 
+    def test_standard_input_is_one_of_both_files(self):
+        for said in ("", f"reserved {ONE} 64\n", self.file.read_text()):
+            self.refused(2, "standard input is one of both", "--reserved", "-", "--margin", "64", said=said, file="-")
+        status, out, _ = self.ran("--reserved", "/dev/null", "--margin", "64", said=self.file.read_text(), file="-")
+        self.assertEqual((status, out.splitlines()[1:]), (0, [row(ONE, 64), row(TWO, 964, 40)]))
+
+    def test_an_empty_name_is_that_of_no_file(self):
+        (self.folder / "auc.journal").write_text("")
+        asked = self.program(f"echo reserved {ONE} 64")
+        self.refused(2, "--reserved needs --margin", *asked, "--reserved", "")
+        self.refused(2, "'': No such file", *asked, "--reserved", "", "--margin", "0")
+        self.refused(2, "'': No such file", *asked, file="")
+
     def test_index_lengths_and_age_limits_stay(self):
         header = f"{HEADER},bits,age"
         self.file.write_text(f"{header}\n{row(ONE, 1)},6,-\n{row(TWO, 2)},0,40\n")
@@ -122,6 +136,21 @@ class Seqs(unittest.TestCase):
             self.refused(2, "subscribers.csv: ", "--reserved", "-", "--margin", "0", said="")
         self.file.write_bytes(b"\xff")
         self.refused(2, "subscribers.csv: ", "--reserved", "-", "--margin", "0", said="")
+
+    def test_a_quote_that_is_not_closed_takes_no_subscriber_into_its_field(self):
+        for last in ('"', '"0', '"0"1'):
+            self.write(row(ONE, 0, last), row(TWO, 900, 40))
+            self.refused(2, "or its quote isn't closed", "--reserved", "-", "--margin", "0", said="")
+
+    def test_a_folder_that_cannot_be_entered_may_have_a_journal(self):
+        centre = self.folder / "centre"
+        centre.mkdir()
+        (centre / "auc.journal").write_text("")
+        asked = self.program(f"echo reserved {ONE} 64")
+        self.refused(2, "subscribers.csv/auc.journal: Not a directory", *asked, "--folder", self.file)
+        centre.chmod(0)
+        self.addCleanup(centre.chmod, 0o755)
+        self.refused(2, "centre/auc.journal: Permission denied", *asked, "--folder", "centre", preexec_fn=as_a_user)
 
     def test_program_is_asked_in_the_folder_of_the_journal(self):
         centre = self.folder / "centre"
