@@ -5,6 +5,9 @@ from dataclasses import dataclass
 import transcript
 from transcript import CENTRE_NOTES, Change, Unreadable, marks_of, name_of, rows_in
 
+# How many of the places where a packet arrives stand in its label.
+MOST_PLACES = 8
+
 
 @dataclass
 class Arrow:
@@ -96,8 +99,7 @@ def departure(packet):
     if not packet.deliveries:
         return [labelled(to, packet, lost=True)]
     if not any(is_at_home(event) for event in packet.deliveries):
-        there = ", ".join(sorted({place_of(event) for event in packet.deliveries}))
-        return [labelled(to, packet, there, away=True)]
+        return [labelled(to, packet, *places_named({place_of(event) for event in packet.deliveries}), away=True)]
     return []
 
 
@@ -105,6 +107,12 @@ def place_of(event):
     """Where a packet arrives that doesn't arrive in its own session."""
     session = event.session
     return f"to a {event.end}" if session is event.delivered.session else f"to session {session.number}"
+
+
+def places_named(places):
+    """Some places of many, so that each label is short."""
+    named = sorted(places)[:MOST_PLACES]
+    return [*named, f"and {len(places) - len(named)} more"] if len(places) > len(named) else named
 
 
 def deed(event):
@@ -127,8 +135,9 @@ def change_of(change):
     packet = change.sent
     if packet is None:
         return Words("network", f"{change.deed}: {change.step}")
-    elsewhere = {f", to session {event.session.number}" for event in packet.deliveries if event.session is not packet.session}
-    where = "" if any(event.session is packet.session for event in packet.deliveries) else "".join(sorted(elsewhere)) or ", lost"
+    elsewhere = {f"to session {event.session.number}" for event in packet.deliveries if event.session is not packet.session}
+    at_home = any(event.session is packet.session for event in packet.deliveries)
+    where = "" if at_home else "".join(f", {place}" for place in places_named(elsewhere) or ["lost"])
     return Words("network", f"{change.deed}: packet {packet.number}{where}")
 
 

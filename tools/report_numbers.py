@@ -41,7 +41,7 @@ class Intervals:
 def scenario_subscribers(text):
     """Of a scenario, the IMSI of each session."""
     rows = [line.split() for line in text.splitlines()]
-    return {int(row[1]): row[2] for row in rows if len(row) == 8 and row[0] == "session" and row[1].isdecimal()}
+    return {int(row[1]): row[2] for row in rows if len(row) == 8 and row[0] == "session" and re.fullmatch("[0-9]{1,20}", row[1])}
 
 
 def names_given(session):

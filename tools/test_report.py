@@ -3,9 +3,11 @@
 import contextlib
 import io
 import json
+import os
 import re
 import subprocess
 import sys
+import tempfile
 import time
 import unittest
 from html.parser import HTMLParser
@@ -366,6 +368,8 @@ class Objects(unittest.TestCase):
             ("vector 00101 1\n", "line 1: 'vector 00101 1' is no line of a transcript"),
             ("closed 001010000000001 0 1\n", "line 1: 'closed 001010000000001 0 1' is no line of a transcript"),
             ("bytes " + "00 " * 4 + "00\n", "line 1: 'bytes 00 00 00 00 00' is no line of a transcript"),
+            *((f"bytes {rand} {rand} {xres} {rand} {rand}\n", f"line 1: 'bytes {rand} {rand[:21]}' is no line of a transcript")
+              for rand, xres in (("0a" * 16, "aabbcc"), ("0a" * 16, "aa" * 9))),
             ("sync 001010000000001 moved 1\n", "line 1: 'sync 001010000000001 moved 1' is no line of a transcript"),
             (begun + "start 1 ended failure notified\n", None),
             (begun + "start 1 ended failure notified x\n", "line 4: 'ended failure notified x' has another form"),
@@ -598,6 +602,10 @@ class Numbers(unittest.TestCase):
                 devices[isinstance(it[0], int)].append(it[3])
             self.assertEqual(devices, {True: list(scenario.values()), False: sims}, path.name)
 
+    def test_line_whose_session_has_no_number_of_a_transcript_tells_nothing(self):
+        lines = [f"session {number} 001010000000001 a b c d e" for number in ("7", "1" * 5000, "\N{ARABIC-INDIC DIGIT ONE}", "x")]
+        self.assertEqual(report_numbers.scenario_subscribers("\n".join(lines)), {7: "001010000000001"})
+
 
 class Growth(unittest.TestCase):
     """Eight times the sessions take some 8 times the processor time, and not 64 times."""
@@ -627,6 +635,13 @@ class Scripts(unittest.TestCase):
         done = run(EXAMPLES / "session.expected", "--scenario", EXAMPLES / "session.scenario")
         self.assertEqual((done.returncode, done.stderr), (0, ""))
         self.assertTrue(done.stdout.startswith("<!DOCTYPE html>"))
+        with tempfile.TemporaryDirectory() as folder:
+            path = os.fsencode(folder) + b"/a\xff"
+            with open(path, "wb") as file:
+                file.write((EXAMPLES / "session.expected").read_bytes())
+            done = run(path)
+        self.assertEqual((done.returncode, done.stderr), (0, ""))
+        self.assertIn("<title>Run: a\N{REPLACEMENT CHARACTER}", done.stdout)
         done = run("-", input="hello\n")
         self.assertEqual((done.returncode, done.stdout, done.stderr), (2, "", "report: -: line 1: 'hello' is no line of a transcript\n"))
 

@@ -232,6 +232,15 @@ class Captures(unittest.TestCase):
             self.assertEqual((done.returncode, done.stdout, done.stderr), (0, "", ""))
             self.assertEqual(len(frames_in(path.read_bytes())), 5)
 
+    def test_longest_packet_and_any_line_fit_into_a_capture(self):
+        longest, note = "0101ffff01" + "00" * 65530, " counter 1" * 7000
+        text = PACKETS.replace("packet 1 0101000501", f"packet 1 {longest}")
+        text = text.replace("deliver 7 peer 2 sent 3", f"deliver 7 peer 2{note} sent 3")
+        frames = frames_in(pcap.capture(pcap.frames_of(transcript.sessions_in(text))))
+        self.assertEqual(frames[0][1][18:].hex(), longest)
+        line = f"line 9: deliver 7 peer 2{note} sent 3"
+        self.assertIn((pcap.COMMENT, line[:65535]), frames[1][2])
+
 
 def response(identity):
     return f"0201{5 + len(identity):04x}01{identity.hex()}"
@@ -408,7 +417,7 @@ class Slopes(unittest.TestCase):
         return [(it.get("class"), end(it, 1), end(it, 2)) for it in root.iter(f"{SVG}line") if it.get("class") in ("way", "lost")]
 
     def test_each_arrow_falls_from_its_sending_to_its_arrival(self):
-        ways = self.ways("start 1 sent 1", "deliver 1 peer 1 sent 2", "deliver 1 server 2 ended failure")
+        ways = self.ways("start 1 sent 1", "deliver 1 peer 1 sent 2", "deliver 1 server 2 ended failure givenup")
         self.assertEqual([(tail[0], tip[0]) for _, tail, tip in ways], [("server", "peer"), ("peer", "server")])
         (_, first, arrived), (_, answered, last) = ways
         self.assertTrue(first[1] < arrived[1] < answered[1] < last[1], ways)
@@ -550,7 +559,7 @@ class Growth(unittest.TestCase):
     def test_chart_of_many_sessions(self):
         self.is_linear(lambda count: (line for number in range(1, count + 1) for line in (
             f"job {number}", f"session {number} open", f"start {number} sent 1", f"deliver {number} peer 1 sent 2",
-            f"deliver {number} server 2 ended failure")))
+            f"deliver {number} server 2 ended failure givenup")))
 
     def test_chart_of_many_packets_of_a_session(self):
         self.is_linear(lambda count: ["session 1 open", "start 1 sent 1", *(line for number in range(2, count + 2) for line in (
@@ -558,6 +567,14 @@ class Growth(unittest.TestCase):
 
     def test_chart_of_many_deliveries_of_a_packet(self):
         self.is_linear(lambda count: ["session 1 open", "start 1 sent 1", *["deliver 1 peer 1 ignored closed"] * count])
+
+    def test_label_of_a_packet_that_reaches_many_sessions_names_some(self):
+        lines = ["session 1 open", *(f"session {number} open" for number in range(10, 23)), "start 1 sent 1", "cut 1 0 made 2",
+                 *(f"deliver {number} peer {packet} ignored notforme" for packet in (1, 2) for number in range(10, 23))]
+        rows = ladders.ladder_of(transcript.sessions_in("".join(line + "\n" for line in ["round 1", "job 1", *lines]))[0]).rows
+        places = "".join(f", to session {number}" for number in range(10, 18)) + ", and 5 more"
+        self.assertIn(f"1 ({places[2:]})", [it.label for it in rows if isinstance(it, ladders.Arrow)])
+        self.assertIn(f"cut 1 0: packet 2{places}", [it.words for it in rows])
 
     def test_chart_of_many_packets_that_cross_in_one_place(self):
         self.is_linear(lambda count: ["session 1 open", "start 1 sent 1", *(f"repeat 1 sent {it}" for it in range(2, count + 1)),
@@ -677,7 +694,7 @@ class Inputs(unittest.TestCase):
         begun = "round 1\njob 1\nsession 1 open\n"
         cases = [
             ("hello\n", "line 1: 'hello' is no line of a transcript"),
-            ("refused scenario 3 fields\n", "line 1: 'refused scenario 3 fields' is no line of a transcript"),
+            ("round 1\nrefused scenario 3 fields\n", "line 2: 'refused scenario 3 fields' is no line of a transcript"),
             ("session 1 open\n", "line 1: a session is opened outside of a job"),
             ("session 1 agree\n", "line 1: session 1 was never opened"),
             (begun + "start 2 sent 1\n", "line 4: session 2 isn't open in this job"),
@@ -706,6 +723,11 @@ class Inputs(unittest.TestCase):
             (begun + "start 1 sent 1\ncut 1 0 sent 2\n", "line 5: 'sent' is nothing that the network does"),
             (begun + "start 1 sent 1\ncut 1 0\n", "line 5: 'cut 1 0' is no line of a transcript"),
             (begun + "start 1 sent 1\npacket 1 010100\n", "line 5: the bytes aren't those of the packet"),
+            (begun + f"start 1 sent 1\npacket 1 {'00' * 65536}\n", "line 5: the bytes aren't those of the packet"),
+            (begun + "start 1 sent 1\ndeliver 1 peer 1 accepted zz sent 2\n", "line 5: 'accepted zz' has another form"),
+            (begun + "start 1  sent 1\n", "line 4: '' is nothing that an end does"),
+            (begun + f"start 1 ended {'a' * 70000}\n", f"line 4: 'ended {'a' * 54}' has another form"),
+            (begun + "start 1 sent 1\npacket 1 010100", "line 5: it has no end, so the output was cut there"),
             (begun + "start 1 sent 1\ncut 1 0 made 2\npacket 1 0101000501\n", "line 6: the bytes aren't those of the packet"),
             (begun + "start 1 sent 1\ncut 1 0 nosuchplace\npacket 2 \n", "line 6: the bytes aren't those of the packet"),
             (begun + "start 1 sent 1\ncut 1 0 made 2\nkeys " + "00" * 16 + " 00 00 00 00\n", "line 6: the keys are of no end"),
@@ -716,9 +738,10 @@ class Inputs(unittest.TestCase):
             self.assertTrue(str(refused.exception).startswith(reason), (text, str(refused.exception)))
 
     def test_lines_of_eps_and_5g_and_of_sites_tell_nothing_of_a_session(self):
-        lines = ["sites 001010000000001 deliver 1 granted 4 sent 2", f"kasme {'1a' * 32}", f"hxresstar {'2b' * 16}", f"seaf {'3c' * 32} {'4d' * 32}",
+        keys = f"fiveg 001010000000001 confirmed\nseaf {'3c' * 32} {'4d' * 32}"
+        lines = [f"kasme {'1a' * 32}", f"hxresstar {'2b' * 16}", keys,
                  *(f"fiveg 001010000000001 {result}" for result in ("noseparation", "servingrefused", "homerefused", "confirmed"))]
-        for line in lines:
+        for line in ["sites 001010000000001 deliver 1 granted 4 sent 2", *(f"vector 001010000000001 1\n{line}" for line in lines)]:
             shown = [ladders.ladder_of(it) for it in transcript.sessions_in(PACKETS.replace("giveup 7", f"{line}\ngiveup 7"))]
             self.assertEqual(chart.text_ladder(shown[0], chart.columns_of(shown)), LADDER, line)
             with self.assertRaisesRegex(transcript.Unreadable, "the keys are of no end", msg=line):
@@ -726,17 +749,34 @@ class Inputs(unittest.TestCase):
 
     def test_tools_tell_what_they_cannot_read(self):
         brief, empty = EXAMPLES / "session.expected", EXAMPLES / "first.expected"
+        cut = Path(self.enterContext(tempfile.TemporaryDirectory()), "cut")
+        cut.write_text(FULL.read_text().partition("packet 1 ")[0] + "packet 1 0101")
         cases = [
             (["pcap", brief, "/dev/null"], "line 4: the bytes of packet 1 are missing; run the scenario with `print full`"),
             (["pcap", empty, "/dev/null"], "no session sends a packet"),
             (["chart", empty], "it has no session"),
             (["chart", "/no/such/file"], "No such file or directory"),
+            (["pcap", cut, "/dev/null"], "line 5: it has no end, so the output was cut there"),
+            (["chart", cut], "line 5: it has no end, so the output was cut there"),
         ]
         for (name, *words), reason in cases:
             done = subprocess.run([TOOLS / name, *words], capture_output=True, text=True)
             self.assertEqual((done.returncode, done.stdout), (2, ""), words)
             self.assertIn(f"{name}: ", done.stderr)
             self.assertIn(reason, done.stderr)
+
+    def test_transcript_is_not_overwritten(self):
+        path = Path(self.enterContext(tempfile.TemporaryDirectory()), "run")
+        path.write_text(FULL.read_text())
+        again = path.with_name("again")
+        again.hardlink_to(path)
+        cases = [["pcap", path, again], ["pcap", "-", path], ["chart", path, "--svg", path], ["chart", "-", "--svg", again]]
+        for name, *words in cases:
+            with path.open() as file:
+                done = subprocess.run([TOOLS / name, *words], stdin=file, capture_output=True, text=True)
+            wanted = (2, "", f"{name}: {words[-1]}: it is the transcript that is read, so it can't be the output\n")
+            self.assertEqual((done.returncode, done.stdout, done.stderr), wanted)
+            self.assertEqual(path.read_text(), FULL.read_text())
 
     def test_tools_tell_what_they_cannot_write(self):
         path = "/no/such/folder/file"

@@ -4,6 +4,7 @@ tools/report show it; tools/transcript_lines.py has its other lines.
 A packet's number counts the packets of its job, and a session's number is its own in the whole transcript. The session of a `sim`
 line has packets of its own, which count from 1, and is called `sim1`, `sim2` and so on, as the transcript has them.
 """
+import os
 import re
 import sys
 from dataclasses import dataclass, field
@@ -28,6 +29,8 @@ EVENTS = {"start": 2, "repeat": 2, "giveup": 3, "deliver": 4}
 # Of a line on a packet that the network changes, the words before what came of it.
 CHANGES = {"tamper": 4, "cut": 3}
 REFUSALS = {"nosuchpacket", "nosuchend", "started"}
+# The bytes that the length of an EAP packet can tell (RFC 3748 §4).
+LONGEST_PACKET = 65535
 ENDS = ("server", "peer")
 # What an identity is, by the form of its username (RFC 4186 §4.2.1.6, RFC 4187 §4.1.1.6 to §4.1.1.8, RFC 9048 §5.1).
 FORMS = {"permanent": rb"[016][0-9]{6,15}", "pseudonym": rb"[27][0-9a-f]{32}", "re-authentication": rb"[48][0-9a-f]{32}"}
@@ -336,10 +339,12 @@ class Reader:
             self.opened.append(session)
 
     def bytes_of_packet(self, words, change):
-        """A packet that is sent has 4 bytes at least. The network may leave none of a copy."""
+        """A packet that is sent has 4 bytes at least. The network may leave none of a copy. No packet has more than its length can
+        tell."""
         event, least = (change, 0) if change else (self.event, 4)
         packet = event and event.sent
-        if not packet or packet.number != self.number(words[1]) or not re.fullmatch(rf"([0-9a-f]{{2}}){{{least},}}", words[2]):
+        form = rf"([0-9a-f]{{2}}){{{least},{LONGEST_PACKET}}}"
+        if not packet or packet.number != self.number(words[1]) or not re.fullmatch(form, words[2]):
             raise Unreadable("the bytes aren't those of the packet that was sent before")
         packet.data = bytes.fromhex(words[2])
 
@@ -479,18 +484,17 @@ def find_copies(session):
 
 
 def sessions_in(text):
-    """The sessions of a transcript, in the order in which they are opened."""
-    reader = Reader()
-    for line, words in enumerate(text.split("\n"), 1):
-        try:
-            if words:
-                reader.read(line, words)
-        except Unreadable as reason:
-            raise Unreadable(f"line {line}: {reason}") from None
-    for session in reader.sessions.values():
+    """The sessions of a transcript, in the order in which they are opened. Each of its lines has to have its form."""
+    # The module stands on this one.
+    from transcript_lines import Lines, objects_in
+    lines = Lines()
+    for _ in objects_in(text, lines):
+        pass
+    sessions = list(lines.reader.sessions.values())
+    for session in sessions:
         find_copies(session)
-    find_bits(reader.sessions.values())
-    return list(reader.sessions.values())
+    find_bits(sessions)
+    return sessions
 
 
 def text_of(path):
@@ -504,6 +508,17 @@ def text_of(path):
         raise Unreadable(f"{path}: {error.strerror}") from None
     except UnicodeDecodeError:
         raise Unreadable(f"{path}: it is no text") from None
+
+
+def keep_apart(path, output):
+    """Refuses an output that is the very file that is read, by whichever name: to write it would destroy it."""
+    try:
+        source = sys.stdin.fileno() if path == "-" else path
+        same = output != "-" and os.path.isfile(source) and os.path.samefile(source, output)
+    except OSError:
+        return
+    if same:
+        raise Unreadable(f"{output}: it is the transcript that is read, so it can't be the output")
 
 
 def sessions_of(path):

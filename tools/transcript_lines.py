@@ -62,11 +62,10 @@ STEPS = ["", "ended {ended=success}", "ignored {ignored}", "{refused=nosuchpacke
          "ended {ended=failure} {why=stopped} {number} {stop}", "ended {ended=failure} {why=clienterror} {code}",
          "ended {ended=failure} {why=notified} {code}", "ended {ended=failure} {why}"]
 
-HEX = "(?:[0-9a-f]{2})+"
 # What a field looks like, if it isn't a number.
 TEXTS = {"imsi": "[0-9]{6,15}", "stop": "fault|full", "sqn": "[0-9a-f]{12}", "end": "server|peer", "why": "[a-z]+",
-         "ignored": "[a-z]+", "auts": "[0-9a-f]{28}", "rand": "[0-9a-f]{32}", "autn": "[0-9a-f]{32}", "xres": HEX, "ck": "[0-9a-f]{32}",
-         "ik": "[0-9a-f]{32}", "bytes": "(?:[0-9a-f]{2})*", "byte": "[0-9a-f]{2}", "k_encr": "[0-9a-f]{32}",
+         "ignored": "[a-z]+", "auts": "[0-9a-f]{28}", "rand": "[0-9a-f]{32}", "autn": "[0-9a-f]{32}", "xres": "[0-9a-f]{16}",
+         "ck": "[0-9a-f]{32}", "ik": "[0-9a-f]{32}", "bytes": "(?:[0-9a-f]{2})*", "byte": "[0-9a-f]{2}", "k_encr": "[0-9a-f]{32}",
          "k_aut": "[0-9a-f]{64}", "k_re": "[0-9a-f]{64}", "msk": "[0-9a-f]{128}", "emsk": "[0-9a-f]{128}", "k_asme": "[0-9a-f]{64}", "hxres_star": "[0-9a-f]{32}",
          "home": "[0-9a-f]{64}", "device": "[0-9a-f]{64}"}
 NUMBER = "[0-9]{1,20}"
