@@ -534,6 +534,15 @@ class Reports(unittest.TestCase):
             right = [packet[0] for packet in told if packet[9] >= 0 and data["texts"][packet[9]].endswith("it is right.")]
             self.assertEqual(right, [], name)
 
+    def test_packet_that_reaches_many_sessions_has_those_of_its_own_and_some_more(self):
+        lines = ["round 1", "job 1", *(f"session {number} open" for number in range(1, 21)), "start 1 sent 1",
+                 *(f"deliver {number} peer 1 ignored notforme" for number in range(1, 21))]
+        sessions = report.data_of("".join(line + "\n" for line in lines), {}, "run")["sessions"]
+        first = [[number, 23 + number] for number in range(1, 9)]
+        for session in sessions:
+            own = [] if session[0] < 9 else [[session[0], 23 + session[0]]]
+            self.assertEqual((session[8][0][11], session[8][0][13]), (first + own, 12 - len(own)), session[0])
+
     def test_sessions_are_found_by_what_happened(self):
         found = {it[0]: (it[4], [self.told[place] for place in it[5]]) for it in self.sessions("failing-sessions")}
         self.assertTrue(any("failure of the peer: wrongautn" in words for _, words in found.values()))
