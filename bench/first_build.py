@@ -59,6 +59,7 @@ def git(*words):
 
 
 def commit_of(revision):
+    """The commit of a revision; nothing if there is none."""
     return git("rev-parse", "--verify", "--quiet", f"{revision}^{{commit}}")
 
 
@@ -83,8 +84,10 @@ def compare(revision, log):
     for name, (status, work, _) in zip(both, builds):
         print(f"{git('log', '-1', '--format=%h %s', name)}: {work:.1f} minutes of processor time{' and not built' if status else ''}")
     (_, before, _), (_, now, _) = builds
-    print(f"{now / before:.2f} times as much")
-    return int(any(status for status, _, _ in builds))
+    is_built = not any(status for status, _, _ in builds)
+    if is_built:
+        print(f"{now / before:.2f} times as much")
+    return int(not is_built)
 
 
 def chains(uses, minutes):
