@@ -18,7 +18,8 @@ from pathlib import Path
 from unittest import mock
 
 from ends import run_main
-from launcher import compiling, costs, explain, processor
+from launcher import compiling, costs, explain, processor, running
+from launcher.places import Stopped
 from small_checkout import OPEN, PIPES, SECONDS, TOP, Checkout, as_a_user
 from trial import HEADER, K, OPC
 
@@ -48,6 +49,14 @@ class Words(Checkout):
                     ran = self.auc(word, **how)
                     self.assertEqual(ran.returncode, 70)
                     self.assertRegex(ran.stderr, r"^auc: the output could not be written: [A-Z][a-z ]+\n$")
+
+    def test_help_is_printed_by_a_checkout_whose_name_is_no_utf_8(self):
+        top = os.fsdecode(bytes(self.room) + b"/top\xff")
+        self.top.rename(top)
+        self.top = Path(top)
+        ran = self.auc("--help", text=False)
+        self.assertEqual((ran.returncode, ran.stderr), (0, b""))
+        self.assertIn(b"To begin: ./auc run %s/examples/first.scenario\n" % os.fsencode(top), ran.stdout)
 
     def test_help_has_the_minutes_of_the_table(self):
         said = self.auc("--help").stdout
@@ -176,6 +185,21 @@ class Runs(Checkout):
                 self.assertEqual((ran.returncode, ran.stdout), (70, ""))
                 self.assertRegex(ran.stderr, f"^auc: the folder of the journal, '{folder}': .*\\n$")
         self.assertEqual((sorted(it.name for it in self.here.iterdir()), self.noted()), (["file"], []))
+
+
+    def test_a_folder_that_was_removed_is_told(self):
+        gone = self.room / "gone"
+        for words in (["run", "x"], ["reserved"], ["compact"], ["--journal-dir", self.here, "serve", "x"]):
+            gone.mkdir()
+            ran = self.auc(*words, cwd=gone, preexec_fn=gone.rmdir)
+            self.assertEqual((ran.returncode, ran.stderr), (70, "auc: the folder that you call it in was removed\n"), words)
+        self.assertEqual(self.noted(), [])
+
+    def test_a_program_that_cannot_be_started_is_told_with_the_reason(self):
+        for error, reason in ((OSError(11, "No room"), "No room"), (OSError(2, "None there", "x/auc"), "x/auc: None there")):
+            with mock.patch.object(subprocess, "Popen", side_effect=error), self.assertRaises(Stopped) as told:
+                running.started("x/auc", ["run"])
+            self.assertEqual(str(told.exception), f"the program can't be started: {reason}")
 
 
 class Explanations(Checkout):

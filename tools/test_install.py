@@ -318,6 +318,18 @@ class Copies(Prefix):
             self.assertEqual((done.returncode, done.stderr), (0, ""), tool)
             self.assertIn(f"usage: auc-{tool} ", done.stdout)
 
+    def test_a_copy_that_was_moved_out_of_its_prefix_runs_and_installs_nothing(self):
+        moved = (self.prefix / "lib/auc").rename(self.room / "moved")
+
+        def called(*words):
+            return subprocess.run([moved / "auc", *map(str, words)], cwd=self.here, env=self.environment, timeout=SECONDS, **PIPES)
+
+        self.assertIn("the proved program of version 1.2.3", called("--version").stdout)
+        self.assertEqual(called("run", "x").returncode, 0)
+        done = called("install", self.room / "other")
+        told = f"auc: {moved} was moved out of its prefix, so nothing is installed of it\n"
+        self.assertEqual((done.returncode, done.stderr, (self.room / "other").exists()), (70, told, False))
+
     def test_it_installs_itself_elsewhere_unless_it_was_changed(self):
         other = self.room / "other"
         self.assertEqual(self.installed("install", other).returncode, 0)

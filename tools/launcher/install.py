@@ -82,6 +82,8 @@ def manifest_of(tree, facts, folders=()):
 def tree_of_copy():
     """What is installed of an installed copy: the same, if nobody changed it."""
     prefix, known = TOP.parents[1], manifest_in(TOP.parents[1])
+    if not known:
+        raise Stopped(f"{TOP} was moved out of its prefix, so nothing is installed of it")
     tree = {path: file_of(prefix / path, (prefix / path).stat().st_mode & RUN) for path in known["files"]}
     changed = [path for path, it in tree.items() if it.sum() != known["files"][path]]
     if changed:
@@ -296,8 +298,7 @@ def install_words(words):
 
 def standing():
     """What is known of the program of an installed copy, in a sentence."""
-    known = manifest_in(TOP.parents[1])
-    program = TOP / "program"
+    known, program = manifest(INSTALLED), TOP / "program"
     if not program.is_file() or release.sha256(program.read_bytes()) != known["program"]:
         return f"not proved: {program} isn't the program that was installed"
     return (

@@ -104,6 +104,14 @@ def enter(folder):
         raise Stopped(f"the folder of the journal, '{folder}': {error.strerror}") from error
 
 
+def refuse_removed_folder():
+    """Refuses a call in a folder that was removed: no journal can be there, and no file has a whole path."""
+    try:
+        os.getcwd()
+    except FileNotFoundError as error:
+        raise Stopped("the folder that you call it in was removed") from error
+
+
 def seen_from_anywhere(words):
     """The words with the files of a run or a service as whole paths."""
     here = os.getcwd()
@@ -134,6 +142,7 @@ class Begun:
 
 def run_proved(given):
     words, journal = given.words, Path(JOURNAL)
+    refuse_removed_folder()
     if given.folder is not None:
         words = seen_from_anywhere(words)
         enter(given.folder)
@@ -201,7 +210,7 @@ def installed(words):
 def done(words):
     """Does what the words say: the exit status."""
     if words[:1] in (["--help"], ["-h"], ["help"]):
-        put(help_text().encode())
+        put(help_text().encode(errors="surrogateescape"))
         return 0
     if words == ["--version"]:
         put(f"auc {version()}\n{standing()}\n".encode())

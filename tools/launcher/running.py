@@ -28,7 +28,8 @@ def started(program, words, **how):
             if signal.getsignal(number) is not signal.SIG_IGN:
                 signal.signal(number, lambda it, _: process.send_signal(it))
     except OSError as error:
-        raise Stopped(f"the program can't be started: {error.filename}: {error.strerror}") from error
+        name = f"{error.filename}: " if error.filename else ""
+        raise Stopped(f"the program can't be started: {name}{error.strerror}") from error
     finally:
         signal.pthread_sigmask(signal.SIG_SETMASK, before)
     return process
