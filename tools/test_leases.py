@@ -255,6 +255,13 @@ class Stores(unittest.TestCase):
             done = self.master(store, input="".join(asked for asked, _ in cases))
             self.assertEqual(done.stdout.splitlines(True), [answer for _, answer in cases])
 
+    def test_request_that_is_no_utf_8_is_away(self):
+        self.made()
+        lines = f"\udcff\nlease 0 8 {A}:0:0\n".encode(errors="surrogateescape")
+        how = {"input": lines, "stdout": subprocess.PIPE, "env": {**self.environment, "PYTHONIOENCODING": "utf-8:strict"}}
+        done = subprocess.run([MASTER, self.sqlite], **how)
+        self.assertEqual(done.stdout.decode(), f"away the request can't be read\nleased {A}:32:39:0\n")
+
     def test_many_masters_lease_no_number_twice(self):
         store, _ = self.made()
         asked = f"lease 0 8 {A}:0:0 {B}:0:0\n" * REQUESTS

@@ -4,6 +4,7 @@
 The exit status is 0 only if each test passes.
 """
 import csv
+import os
 import subprocess
 import sys
 import tempfile
@@ -75,6 +76,11 @@ class Seqs(unittest.TestCase):
         status, out, _ = self.ran("--reserved", "-", "--margin", "0", said=f"reserved {ONE} 64\n")
         wanted = [HEADER, row(ONE, 64, "007", KEYS.upper().replace("OPC", "opc")), row(TWO, "0000000000010", "0")]
         self.assertEqual((status, out.splitlines()), (0, wanted))
+        self.write(row(ONE, 0, keys="é,,,"))
+        given = [sys.executable, "-S", TOOL, self.file, "--reserved", "/dev/null", "--margin", "0"]
+        for encoding in ("ascii", "latin-1"):
+            out = subprocess.check_output(given, env={**os.environ, "PYTHONIOENCODING": encoding})
+            self.assertEqual(out, self.file.read_bytes(), encoding)
 
     def test_file_is_read_as_the_program_reads_it(self):
         self.file.write_bytes(b"\xef\xbb\xbf\r\n" + f'{HEADER}\r\n\n"{ONE}",{KEYS},"1",0\r{row(TWO, 2)}'.encode())
@@ -165,6 +171,9 @@ class Seqs(unittest.TestCase):
         (self.folder / "auc.journal").write_text("")
         for status, reason in ((6, "another process uses it"), (7, "is no journal")):
             self.refused(2, reason, *self.program(f"echo reserved {ONE} 64; exit {status}"))
+        (self.folder / "program").unlink()
+        (self.folder / "program").symlink_to("program")
+        self.refused(2, "Too many levels of symbolic links", "--program", "program")
 
 
 if __name__ == "__main__":
