@@ -37,7 +37,7 @@ import hostapd
 from measure import TOP
 
 sys.path.append(str(TOP / "tools"))
-from ends import needs, run_main
+from ends import Missing, needs, run_main
 
 if __name__ == "__main__":
     needs("cryptography", __doc__)
@@ -238,9 +238,9 @@ def tried(given, method, pair, run):
 def main():
     given = options()
     if not hostapd.are_there():
-        raise SystemExit("hostapd and eapol_test are not there: apt-get install hostapd eapoltest")
+        raise Missing("hostapd or eapol_test", "apt-get install hostapd eapoltest")
     if not given.ends.exists():
-        raise SystemExit(f"{given.ends} is not there: `rt run` in crates/auc_ends_cli builds it")
+        raise Missing(given.ends, "`rt run` in crates/auc_ends_cli proves and builds it")
     pairs = {"our peer with hostapd": with_hostapd, "our server with wpa_supplicant": with_wpa_supplicant}
     right = [tried(given, method, pair, run) for method in METHODS for pair, run in pairs.items()]
     raise SystemExit(not all(right))

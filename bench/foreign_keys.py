@@ -16,7 +16,7 @@ import hostapd
 from measure import TOP
 
 sys.path.append(str(TOP / "tools"))
-from ends import needs, run_main
+from ends import Missing, needs, run_main
 
 if __name__ == "__main__":
     needs("cryptography", __doc__)
@@ -63,7 +63,7 @@ def main():
     if len(sys.argv) > 1:
         raise SystemExit(__doc__)
     if not hostapd.are_there():
-        raise SystemExit("hostapd and eapol_test are not there: apt-get install hostapd eapoltest")
+        raise Missing("hostapd or eapol_test", "apt-get install hostapd eapoltest")
     failed = 0
     for method, name in METHODS.items():
         found = list(renewals(hostapd.log_of(1 + RENEWALS, name)))

@@ -34,7 +34,7 @@ from journal import imsi
 from measure import BUILT, HEADER, KEYS, TOP, runnable
 from peers import gateway_version
 from repository import version_of, write_part
-from rivals import Sqlite, TextFile
+from rivals import HOW, Sqlite, TextFile
 
 sys.path.append(str(TOP / "tools"))
 from eap.usim import seq_of, sqn_of
@@ -309,6 +309,8 @@ def table(found, sessions, given):
 def main():
     given = options()
     given.program = runnable(given.program)
+    if given.hlr_auc_gw is not None:
+        runnable(given.hlr_auc_gw, HOW)
     good, sessions = True, ""
     if hostapd.are_there():
         good = all_sessions(given)

@@ -6,22 +6,12 @@ from pathlib import Path
 
 TOP = Path(__file__).resolve().parent.parent
 sys.path.append(str(TOP / "tools"))
-from ends import Missing
-from trial import HEADER, KEYS, folder_with
-
-BUILT = TOP / "crates/auc_cli/out/auc_cli"
+from trial import BUILT, HEADER, KEYS, folder_with, runnable
 
 
 def subscriber_line(imsi):
     """The line of a subscriber in a scenario."""
     return " ".join(["subscriber", imsi, *KEYS])
-
-
-def runnable(path):
-    """The program at a path, as a word of a command. It has to be there."""
-    if not os.access(path, os.X_OK):
-        raise Missing(path, "./auc prove builds the program")
-    return str(Path(path).resolve())
 
 
 def program():

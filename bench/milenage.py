@@ -18,7 +18,7 @@ from pathlib import Path
 
 TOP = Path(__file__).resolve().parent.parent
 sys.path.append(str(TOP / "tools"))
-from ends import run_main
+from ends import Missing, run_main
 
 FEW, MANY, REPEATS = 200_000, 2_200_000, 3
 LOOP = r"""
@@ -75,7 +75,7 @@ def built_loop(folder):
 def main():
     ours = sys.argv[1] if len(sys.argv) > 1 else str(TOP / "crates/auc_vector_rate/out/auc_vector_rate")
     if not Path(ours).exists():
-        sys.exit(f"{ours} isn't built: run `rt run` in crates/auc_vector_rate")
+        raise Missing(ours, "`rt run` in crates/auc_vector_rate proves and builds it")
     if shutil.which("cc") is None:
         sys.exit("no C compiler: nothing to compare with")
     with tempfile.TemporaryDirectory() as folder:

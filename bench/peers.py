@@ -33,7 +33,7 @@ from pathlib import Path
 
 from journal import NAME, run, write_scenario
 from measure import BUILT, KEYS, TOP, runnable, subscriber_line
-from rivals import IMSI, LAST, Library, OsmoHlr, Sqlite, TextFile, auts_of, sqns_of
+from rivals import HOW, IMSI, LAST, Library, OsmoHlr, Sqlite, TextFile, auts_of, sqns_of
 
 sys.path.append(str(TOP / "tools"))
 from eap import usim
@@ -232,6 +232,7 @@ def peers(given):
     """Each that is there, with its program, and what is to be said of its version."""
     kinds, notes = [], []
     if given.hlr_auc_gw is not None:
+        runnable(given.hlr_auc_gw, HOW)
         kinds += [TextFile, Sqlite]
         notes.append(f"hlr_auc_gw of hostapd {gateway_version(given.hlr_auc_gw)}")
     if OsmoHlr.is_there():

@@ -36,7 +36,7 @@ from journal import imsi
 from measure import BUILT, TOP, runnable
 from peers import gateway_version
 from repository import version_of, write_part
-from rivals import LONGEST_WAIT, Sqlite, TextFile
+from rivals import HOW, LONGEST_WAIT, Sqlite, TextFile
 
 sys.path.append(str(TOP / "tools"))
 from ends import run_main
@@ -65,6 +65,7 @@ def options():
     parser.add_argument("--write", action="store_true", help="put the table into docs/HOSTAPD.md")
     given = parser.parse_args()
     given.program, given.patience = runnable(given.program), LONGEST_WAIT
+    runnable(given.hlr_auc_gw, HOW)
     return given
 
 

@@ -26,6 +26,8 @@ SUBSCRIBER = Subscriber(IMSI, bytes.fromhex(K), bytes.fromhex(OPC))
 LAST = 2**48 - 1
 # The longest wait for an answer, and for a process to begin.
 LONGEST_WAIT = 20
+# What brings hlr_auc_gw.
+HOW = "bench/peers.py --help says how it is built"
 
 
 def sqns_of(vectors):

@@ -45,7 +45,7 @@ sys.path.append(str(TOP / "tools"))
 from eap.ciphers import encryption
 from eap.milenage import Functions
 from eap.usim import Usim
-from ends import run_main
+from ends import Missing, run_main
 from gateway_centre import Subscriber
 from gateway_leases import IN_MEMORY
 
@@ -388,8 +388,7 @@ def main():
     given = options()
     given.program = runnable(given.program)
     if programs() is None:
-        print("PostgreSQL isn't there: apt-get install postgresql", file=sys.stderr)
-        return 1
+        raise Missing("PostgreSQL", "apt-get install postgresql")
     done = [part(given) for part in (all_rates, all_indices, all_kills, all_fail_overs)]
     text = table(done[0][0], done[1][0], [said for said, _ in done[2:]])
     print(text, end="")

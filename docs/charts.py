@@ -4,8 +4,8 @@
     docs/charts.py [--program PROGRAM]            checks; prints one line if all is well
     docs/charts.py [--program PROGRAM] --write    draws them anew
 
-PROGRAM is crates/auc_cli/out/auc_cli unless it is given. The exit status is 0 if all is well, and 1 if a chart isn't as it
-should be; each such chart gets a line on standard error.
+PROGRAM is crates/auc_cli/out/auc_cli unless it is given. The exit status is 0 if all is well, 1 if a chart isn't as it
+should be, and 3 if PROGRAM isn't there; each such chart gets a line on standard error.
 """
 import argparse
 import subprocess
@@ -18,6 +18,7 @@ CHARTS = TOP / "docs/charts"
 sys.path += [str(TOP / "examples"), str(TOP / "tools")]
 from ends import run_main
 from full import transcripts
+from trial import BUILT, runnable
 
 
 def drawn(transcript):
@@ -29,14 +30,14 @@ def drawn(transcript):
 
 def options():
     parser = argparse.ArgumentParser(description=__doc__, formatter_class=argparse.RawDescriptionHelpFormatter)
-    parser.add_argument("--program", type=Path, default=TOP / "crates/auc_cli/out/auc_cli", help="the program to run")
+    parser.add_argument("--program", type=Path, default=BUILT, help="the program to run")
     parser.add_argument("--write", action="store_true", help="draw the charts anew")
     return parser.parse_args()
 
 
 def main():
     asked = options()
-    charts = {CHARTS / f"{name}.svg": drawn(transcript) for name, transcript in transcripts(asked.program.resolve())}
+    charts = {CHARTS / f"{name}.svg": drawn(transcript) for name, transcript in transcripts(runnable(asked.program))}
     there = {path: path.read_text() for path in CHARTS.glob("*.svg")}
     if asked.write:
         CHARTS.mkdir(exist_ok=True)

@@ -3,7 +3,7 @@
 
     examples/compare.py [--program PROGRAM] [--after LINE]
 
-PROGRAM is crates/auc_cli/out/auc_cli, which `rt ci`, `rt run` and `./auc prove` build, unless it is given. NAME.scenario has
+PROGRAM is crates/auc_cli/out/auc_cli, which `rt ci` and `rt run` build, unless it is given. NAME.scenario has
 its expected output in NAME.expected, and the exit status must be 0; a scenario over a file of subscribers stands in
 the table below. NAME.blocks is the standard input of a service, and NAME.expected has its replies. Each example gets a
 line, and the last line is `N passed, M failed`. With --after, LINE is the last line of `rt ci`, and its counts are added;
@@ -21,9 +21,8 @@ from pathlib import Path
 HERE = Path(__file__).resolve().parent
 sys.path.append(str(HERE.parent / "tools"))
 from ends import run_main
-from trial import difference, ran_in_new_folder
+from trial import BUILT, difference, ran_in_new_folder
 
-BUILT = HERE.parent / "crates/auc_cli/out/auc_cli"
 SUBSCRIBERS = {"day": "subscribers.csv"}
 SECONDS = 60
 
@@ -77,7 +76,7 @@ def stray(names):
 def main():
     given = options()
     if not given.program.exists():
-        print(f"examples: {given.program} isn't there; `./auc prove` builds it", file=sys.stderr)
+        print(f"examples: {given.program} isn't there; `rt run` in crates/auc_cli proves and builds it", file=sys.stderr)
     examples = sorted([*HERE.glob("*.scenario"), *HERE.glob("*.blocks")])
     passed, failed = counts_in(given.after) if given.after is not None else (0, 0)
     for path in examples:

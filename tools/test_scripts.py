@@ -186,11 +186,18 @@ class Outputs(unittest.TestCase):
 class WithoutProgram(unittest.TestCase):
     def test_script_that_runs_it_says_what_builds_it(self):
         named = ["crash", "durable", "groups", "load", "longest", "reading", "sessions", "soak", "vectors"]
-        asked = [["service", "--program"], ["sites", "--program"], ["peers", "--program"]]
+        asked = [["service", "--program"], ["sites", "--program"], ["peers", "--program"], ["../docs/charts", "--program"]]
         for name, *words in [[it] for it in named] + asked:
             with self.subTest(script=name):
-                reason = f"{name}.py: /none is missing: ./auc prove builds the program\n"
+                reason = f"{Path(name).name}.py: /none is missing: `rt run` in crates/auc_cli proves and builds the program\n"
                 self.assertEqual(ran([TOP / "bench" / f"{name}.py", *words, "/none"], stdout=subprocess.DEVNULL), (MISSING, reason))
+
+
+    def test_script_that_runs_another_one_says_what_builds_that(self):
+        for name in ("live", "peers", "rates"):
+            words = [TOP / "bench" / f"{name}.py", "--program", "/bin/sh", "--hlr-auc-gw", "/none"]
+            reason = f"{name}.py: /none is missing: bench/peers.py --help says how it is built\n"
+            self.assertEqual(ran(words, stdout=subprocess.DEVNULL), (MISSING, reason))
 
 
 class WithoutCryptography(unittest.TestCase):

@@ -1,5 +1,6 @@
-"""What trials of scripts and of the program share: a run in an empty folder, where two texts differ, a
-script without `.py` as a module, and a subscriber."""
+"""What trials of scripts and of the program share: the program, a run in an empty folder, where two texts
+differ, a script without `.py` as a module, and a subscriber."""
+import os
 import subprocess
 import sys
 import tempfile
@@ -10,12 +11,21 @@ from itertools import zip_longest
 from pathlib import Path
 
 from eap.session import Subscriber
+from ends import Missing
 from gateway_centre import HEADER as FIELDS
 
 TOOLS = Path(__file__).resolve().parent
+BUILT = TOOLS.parent / "crates/auc_cli/out/auc_cli"
 # The header of a file of subscribers, and the fields of one after its IMSI.
 HEADER, K, OPC = ",".join(FIELDS), Subscriber().k.hex(), Subscriber().opc.hex()
 KEYS = K, "opc", OPC, "8000", "0", "0"
+
+
+def runnable(path, how="`rt run` in crates/auc_cli proves and builds the program"):
+    """The program at a path, as a word of a command. It has to be there."""
+    if not os.path.isfile(path) or not os.access(path, os.X_OK):
+        raise Missing(path, how)
+    return str(Path(path).resolve())
 
 
 @contextmanager
