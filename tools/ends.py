@@ -147,3 +147,11 @@ def needs(module, text):
         raise missing(module)
     if is_help_asked() or find_spec(module) is None:
         run_main(fail, text)
+
+
+def needs_python(*least):
+    """Stands before what an older Python can't read, and ends the script if this one is older."""
+    def fail():
+        raise Missing(f"Python {'.'.join(map(str, least))} or later", f"this is {sys.version.split()[0]}")
+    if sys.version_info < least:
+        run_main(fail)

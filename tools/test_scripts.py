@@ -200,6 +200,15 @@ class WithoutProgram(unittest.TestCase):
             self.assertEqual(ran(words, stdout=subprocess.DEVNULL), (MISSING, reason))
 
 
+class OldPython(unittest.TestCase):
+    def test_script_that_needs_a_later_one_says_so(self):
+        for name in ("chart", "foreign", "pcap", "report", "transcript"):
+            script = f"import runpy, sys; sys.version_info, sys.argv = (3, 9), [{name!r}]; runpy.run_path({str(TOOLS / name)!r})"
+            done = subprocess.run([sys.executable, "-c", script], capture_output=True, text=True, env={**os.environ, "PYTHONPATH": str(TOOLS)})
+            said = f"{name}: Python 3.10 or later is missing: this is {sys.version.split()[0]}\n"
+            self.assertEqual((done.returncode, done.stderr), (MISSING, said))
+
+
 class WithoutCryptography(unittest.TestCase):
     def test_script_that_needs_it_says_how_to_install_it(self):
         need = ["tools/eap_rows.py", "bench/random_sessions.py", "bench/foreign_keys.py", "bench/foreign_ends.py"]

@@ -15,6 +15,9 @@ from eap.attributes import (AT_COUNTER, AT_COUNTER_TOO_SMALL, AT_ENCR_DATA, AT_I
 from eap.ciphers import decrypted
 from eap.messages import CODES, IDENTITY, METHODS, SIM, name_of_subtype
 from eap.names import username
+from ends import needs_python
+
+needs_python(3, 10)
 
 # How many words follow the first one of a note, and the ends that they come from.
 CENTRE_NOTES = {"moved": 2, "inrange": 2, "beyond": 2, "drew": 1, "exhausted": 1, "withheld": 2}
