@@ -4,6 +4,7 @@
 The exit status is 0 only if each test passes.
 """
 import fcntl
+import json
 import math
 import os
 import re
@@ -730,6 +731,16 @@ class Releases(Checkout):
             self.assertNotEqual(self.check().returncode, 0)
             path.write_bytes(was)
         self.assertEqual(self.noted(), [], "neither the program was run nor rt")
+
+    def test_a_program_that_is_not_the_one_of_the_gate_is_refused(self):
+        folder = self.top / "release"
+        facts = json.loads((folder / "release.json").read_text())
+        (folder / "release.json").write_text(json.dumps({**facts, "program": "0" * 64}))
+        sums = subprocess.check_output(["sha256sum", "auc.gz", "release.json"], cwd=folder)
+        (folder / "SHA256SUMS").write_bytes(sums)
+        ran = self.auc("run", "x", SAYS="hello")
+        self.assertEqual((ran.returncode, ran.stdout), (70, ""))
+        self.assertTrue(ran.stderr.endswith("doesn't hold the program that release.json names, so it isn't run\n"), ran.stderr)
 
     def test_a_checkout_that_cannot_be_written_runs_too(self):
         subprocess.run(["chmod", "-R", "a+rX,a-w", str(self.top)], check=True)

@@ -279,6 +279,23 @@ class Compactions(Checkout):
         self.assertEqual([status for status, _, _ in found], [-signal.SIGKILL] * 4 + [0])
         self.assertEqual([is_new for _, is_new, _ in found], [False] + [True] * 4)
 
+    def test_new_file_is_locked_and_synced(self):
+        synced, fsync = [], os.fsync
+        with self.journal.open("r+b") as old, (self.room / "new").open("xb") as new, (self.room / "new").open("rb") as other:
+            with mock.patch.object(os, "fsync", lambda it: (synced.append(it), fsync(it))):
+                compacting.make_durable(new, old)
+            self.assertEqual(synced, [new.fileno()])
+            with self.assertRaises(BlockingIOError):
+                fcntl.flock(other, fcntl.LOCK_EX | fcntl.LOCK_NB)
+
+    def test_journal_that_another_call_replaced_meanwhile_is_refused(self):
+        def replaced(*given):
+            os.replace(self.room / "new", self.journal)
+
+        (self.room / "new").write_bytes(self.journal.read_bytes())
+        with mock.patch.object(fcntl, "flock", replaced), self.assertRaises(BlockingIOError), compacting.locked(self.journal):
+            pass
+
     def test_old_file_is_written_over_after_the_new_name_is_on_the_disk(self):
         calls, folder = [], self.journal.parent.stat()
 

@@ -64,6 +64,7 @@ class Seqs(unittest.TestCase):
             (0, f"reserved {ONE} 64\nreserved {TWO} 128\n", {ONE: "64", TWO: "900"}),
             (0, f"reserved {TWO} 901\n", {ONE: "0", TWO: "901"}),
             (1000, f"reserved {ONE} 64\nreserved {TWO} 128\n", {ONE: "1064", TWO: "1900"}),
+            (0, f"reserved {ONE} 128\nreserved {ONE} 64\n", {ONE: "128", TWO: "900"}),
             (1000, "", {ONE: "1000", TWO: "1900"}),
             (FURTHEST, "", {ONE: "268435456", TWO: "268436356"}),
         ]
