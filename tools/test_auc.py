@@ -19,7 +19,7 @@ from pathlib import Path
 from unittest import mock
 
 from ends import run_main
-from launcher import compiling, costs, explain, processor, running
+from launcher import compiling, costs, explain, following, processor, running
 from launcher.places import Stopped
 from small_checkout import OPEN, PIPES, SECONDS, TOP, Checkout, as_a_user
 from trial import HEADER, K, OPC
@@ -61,8 +61,7 @@ class Words(Checkout):
 
     def test_help_has_the_minutes_of_the_table(self):
         said = self.auc("--help").stdout
-        self.assertIn("about 60 minutes of processor time", said)
-        self.assertRegex(said, r"\d+ minutes on this machine, and 24 on\s+4 processors")
+        self.assertRegex(said, r"took 60 minutes of processor time and, on 4 processors, 24\s+minutes; on as many as here it .* \d+\.")
         self.assertEqual([math.ceil(costs.Build(60, 24, 4).minutes(it)) for it in (1, 2, 4, 12)], [60, 36, 24, 16])
 
     def test_version_is_that_of_the_changelog_and_tells_whether_it_is_proved(self):
@@ -400,11 +399,26 @@ class Builds(Checkout):
         self.assertEqual(self.noted()[0], "ci")
         self.assertEqual(self.noted()[1], "jobs=", "rt shares the processors")
         self.assertRegex(self.noted()[2], r": vector ")
-        self.assertRegex(ran.stderr, r"(side by side|one crate after the other): 60 minutes of processor time, about \d+ minutes in")
+        self.assertRegex(ran.stderr, r"(side by side|one crate after the other): 60 minutes of processor time, about \d+ by the clock")
         self.assertEqual([int(it) for it in re.findall(r"(\d+) percent", ran.stderr)], [96, 100])
         self.assertEqual((self.out / "build.log").read_text(), "rt: auc_low is kept: earlier\n== auc_cli\nhello\n")
         self.assertEqual(self.auc("run", "x").stderr, "")
         self.assertEqual(len(self.noted()), 5, "the second call builds nothing")
+
+    def test_the_rest_is_reckoned_by_the_pace_of_this_machine(self):
+        said, minutes = [], {"auc_low": 10, "auc_text": 5, "auc_run": 20, "auc_cli": 5}
+        lines = ["rt: auc_low is kept: earlier", "== auc_text", "== auc_other", "== auc_run", "== auc_cli"]
+        with mock.patch.object(costs, "minutes_by_crate", lambda: minutes), mock.patch.object(following, "say", said.append), \
+                mock.patch.object(following.time, "monotonic", side_effect=[0, 600, 2000, 2010]):
+            progress = following.Progress()
+            for line in lines:
+                progress.hear(line)
+                progress.tell()
+        self.assertEqual(said, [
+            "25 percent of the work is done",
+            "37 percent of the work is done; at this pace the rest takes 50 minutes",
+            "87 percent of the work is done; at this pace the rest takes 7 minutes",
+            "100 percent of the work is done"])
 
     def test_prove_builds_and_runs_nothing(self):
         self.assertEqual(self.auc("prove", "--jobs", "3").returncode, 0)

@@ -106,8 +106,8 @@ def announce(jobs, choice):
     measured = costs.build(is_for_two=choice.cpu != processor.DEFAULT)
     how = f"{jobs} jobs side by side" if jobs > 1 else "one crate after the other"
     say(
-        f"proving and building the program, {how}: {measured.work} minutes of processor time, about"
-        f" {math.ceil(measured.minutes(jobs))} minutes in all, less if some crates are proved; the log is {LOG}"
+        f"proving and building the program, {how}: {measured.work} minutes of processor time, about {math.ceil(measured.minutes(jobs))}"
+        f" by the clock where it was measured, less if some crates are proved; the log is {LOG}"
     )
     say(choice.sentence())
 

@@ -1,11 +1,13 @@
-"""Runs the kit's commands, and follows each to its end. What it writes goes to the log, and the share of the work that is done to
-standard error."""
+"""Runs the kit's commands, and follows each to its end. What it writes goes to the log, and how much of the work is done to standard
+error."""
+import math
 import os
 import re
 import select
 import signal
 import subprocess
 import sys
+import time
 
 from . import costs
 from .places import Stopped, say
@@ -35,21 +37,32 @@ class Listener:
 
 
 class Progress:
-    """Which share of the work is done, by the lines that name a proved crate."""
+    """Which share of the work is done, by the lines that name a proved crate, and what the rest takes at this pace."""
 
     def __init__(self):
-        self.minutes, self.done, self.shown = costs.minutes_by_crate(), set(), 0
+        self.minutes, self.began = costs.minutes_by_crate(), time.monotonic()
+        self.proved, self.kept, self.shown = set(), set(), 0
 
     def hear(self, line):
         found = re.fullmatch(r"== (\w+)|rt: (\w+) is kept: .*", line)
         if found:
-            self.done |= {*found.groups()} & {*self.minutes}
+            self.proved |= {found[1]} & {*self.minutes}
+            self.kept |= {found[2]} & {*self.minutes}
+
+    def work(self, crates):
+        return sum(self.minutes[it] for it in crates)
+
+    def rest(self):
+        """What the rest takes, in words; none before a crate is proved, and none if all are."""
+        left, proved = self.work({*self.minutes} - self.proved - self.kept), self.work(self.proved)
+        minutes = math.ceil((time.monotonic() - self.began) / 60 * left / proved) if proved else 0
+        return f"; at this pace the rest takes {minutes} minute{'s' * (minutes > 1)}" if minutes else ""
 
     def tell(self):
-        share = int(100 * sum(self.minutes[it] for it in self.done) / (sum(self.minutes.values()) or 1))
+        share = int(100 * self.work(self.proved | self.kept) / (self.work(self.minutes) or 1))
         if share > self.shown:
             self.shown = share
-            say(f"{share} percent of the work is done")
+            say(f"{share} percent of the work is done{self.rest()}")
 
 
 class Builder:

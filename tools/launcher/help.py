@@ -40,9 +40,10 @@ That folder is the centre: the same files in another folder give the same number
 """
 BUILDS = """
 The proved program of the last release runs at once. If the sources aren't those of the release, the first call proves and
-builds the program. That takes about {work} minutes of processor time: {here} minutes on this machine, and {measured} on
-{processors} processors. If this processor has x86-64-v3 (AVX2), the program is built for that, too, and one crate proved once
-more; --portable leaves it out.
+builds the program. Where it was measured that took {work} minutes of processor time and, on {processors} processors, {measured}
+minutes; on as many as here it would have taken {here}. A slower machine may take several times as long, and a build says what
+the rest takes at its pace. If this processor has x86-64-v3 (AVX2), the program is built for that, too, and one crate proved
+once more; --portable leaves it out.
 """
 STATUS = """
 The status is the program's; but it is {no_words} for words that aren't here, {no_journal} for `reserved` or `compact` in
