@@ -262,6 +262,13 @@ class Stores(unittest.TestCase):
         done = subprocess.run([MASTER, self.sqlite], **how)
         self.assertEqual(done.stdout.decode(), f"away the request can't be read\nleased {A}:32:39:0\n")
 
+    def test_a_loss_of_power_rolls_no_commit_of_sqlite_back(self):
+        self.made()
+        store = loaded("master").store_of(self.sqlite)
+        store.open()
+        self.addCleanup(store.close)
+        self.assertEqual(store.rows("PRAGMA synchronous"), [("3",)], "EXTRA")
+
     def test_many_masters_lease_no_number_twice(self):
         store, _ = self.made()
         asked = f"lease 0 8 {A}:0:0 {B}:0:0\n" * REQUESTS
