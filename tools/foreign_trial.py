@@ -16,6 +16,8 @@ from foreign_verdict import Session
 # What an access point asks for first, in the trial of a server.
 IDENTITY_REQUEST = bytes.fromhex("0100000501")
 TRIES, LONGEST_DATAGRAM, LINGER = 3, 4096, 1
+# The most answers of a server in a session: an access point lets it have no more.
+MOST_ANSWERS = 100
 WON = "CTRL-EVENT-EAP-SUCCESS"
 
 
@@ -101,10 +103,10 @@ def first_identity(end, session, chosen):
 
 
 def ran_with_server(end, server, session, chosen):
-    """Carries a session's packets between our peer and a server, until one of them ends it."""
+    """Carries a session's packets between our peer and a server, until one of them ends it or the server goes on for too long."""
     eap, states = first_identity(end, session, chosen), []
     name = eap[5:]
-    while eap:
+    for _ in range(MOST_ANSWERS):
         asked, answered, session.silence = server.ask(name, eap, states)
         if not answered:
             return
@@ -116,7 +118,9 @@ def ran_with_server(end, server, session, chosen):
         if code != CHALLENGE:
             session.accepted, session.msk = code == ACCEPT, server.radius.msk_in(answered, asked)
             session.remarks.append(f"RADIUS: {CODES[code]}")
+        if code != CHALLENGE or not eap:
             return
+    session.silence = f"it hasn't ended the session after {MOST_ANSWERS} answers"
 
 
 def with_server(end, server, chosen, before=lambda number: None):

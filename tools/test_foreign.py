@@ -425,6 +425,16 @@ class Trials(unittest.TestCase):
         self.assertIn("packet 3, Request of the server, Code or Identifier: they are 01",
                       str(verdict_of(Judge(Subscriber(), "WLAN"), session)))
 
+    def test_server_that_never_ends_a_session_is_told(self):
+        class Endless:
+            address, radius = ("127.0.0.1", 1), Radius(b"secret")
+
+            def ask(self, name, eap, states):
+                asked = self.radius.request(1, name, eap, states)
+                return asked, self.radius.answer(foreign_radius.CHALLENGE, asked, foreign_trial.IDENTITY_REQUEST), ""
+        session, = foreign_trial.with_server(PlayedPeer(), Endless(), foreign_trial.Chosen("aka", sessions=1))
+        self.assertIn("it hasn't ended the session after 100 answers", str(verdict_of(Judge(Subscriber(), "WLAN"), session)))
+
     def test_keys_of_a_list(self):
         keys = [hashlib.sha512(bytes([it])).digest() for it in range(3)]
         self.assertEqual(foreign_trial.keys_in("".join(f"{it.hex()}\n" for it in keys)), keys)
