@@ -16,7 +16,7 @@ from foreign_verdict import Session
 # What an access point asks for first, in the trial of a server.
 IDENTITY_REQUEST = bytes.fromhex("0100000501")
 TRIES, LONGEST_DATAGRAM, LINGER = 3, 4096, 1
-# The most answers of a server in a session: an access point lets it have no more.
+# The most answers of a server in a session, so that a trial of one that never ends it comes to an end.
 MOST_ANSWERS = 100
 WON = "CTRL-EVENT-EAP-SUCCESS"
 

@@ -186,7 +186,6 @@ class Runs(Checkout):
                 self.assertRegex(ran.stderr, f"^auc: the folder of the journal, '{folder}': .*\\n$")
         self.assertEqual((sorted(it.name for it in self.here.iterdir()), self.noted()), (["file"], []))
 
-
     def test_a_folder_that_was_removed_is_told(self):
         gone = self.room / "gone"
         for words in (["run", "x"], ["reserved"], ["compact"], ["--journal-dir", self.here, "serve", "x"]):

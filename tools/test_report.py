@@ -20,7 +20,7 @@ from eap import ciphers
 from ends import run_main
 from report_numbers import ACCEPTED, DRAWN, MOVED, REFUSED
 from transcript import Unreadable
-from transcript_lines import LINES, NOTES, REFUSED as REFUSED_FORMS, STATUSES, STEPS, Lines, objects_in
+from transcript_lines import LINES, NOTES, REFUSED as REFUSED_FORMS, STATUSES, STEPS, objects_in
 from trial import loaded
 
 TOOLS = Path(__file__).resolve().parent
