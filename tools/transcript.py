@@ -35,7 +35,7 @@ REFUSALS = {"nosuchpacket", "nosuchend", "started"}
 # The bytes that the length of an EAP packet can tell (RFC 3748 §4).
 LONGEST_PACKET = 65535
 ENDS = ("server", "peer")
-# What an identity is, by the form of its username (RFC 4186 §4.2.1.6, RFC 4187 §4.1.1.6 to §4.1.1.8, RFC 9048 §5.1).
+# What an identity is, by the form of its username (RFC 4186 §4.2.1.6, RFC 4187 §4.1.1.6 and §4.1.1.7, RFC 9048 §5.1).
 FORMS = {"permanent": rb"[016][0-9]{6,15}", "pseudonym": rb"[27][0-9a-f]{32}", "re-authentication": rb"[48][0-9a-f]{32}"}
 # How the value of an encrypted attribute is shown.
 ENCRYPTED = {
