@@ -168,10 +168,11 @@ class Outputs(unittest.TestCase):
                       ["transcript", "--json", waiting]):
             run = [sys.executable, TOOLS / words[0], *words[1:]]
             child = subprocess.Popen(run, stdout=subprocess.PIPE, stderr=subprocess.PIPE, preexec_fn=heed_interrupts)
-            # It opens only after the script has come to read it.
-            with child, waiting.open("wb"):
+            # It opens only after the script has come to read it. It closes behind the signal, since Python waits for bytes in spite of
+            # an interrupt that comes just before it waits.
+            with waiting.open("wb"):
                 child.send_signal(signal.SIGINT)
-                self.assertEqual(child.stderr.read().decode(), f"{words[0]}: interrupted\n")
+            self.assertEqual(child.communicate(timeout=60), (b"", f"{words[0]}: interrupted\n".encode()))
             self.assertEqual(child.returncode, INTERRUPTED)
 
     def test_dash_is_standard_output(self):
