@@ -168,8 +168,8 @@ class Outputs(unittest.TestCase):
                       ["transcript", "--json", waiting]):
             run = [sys.executable, TOOLS / words[0], *words[1:]]
             child = subprocess.Popen(run, stdout=subprocess.PIPE, stderr=subprocess.PIPE, preexec_fn=heed_interrupts)
-            # It opens only after the script has come to read it. It closes behind the signal, since Python waits for bytes in spite of
-            # an interrupt that comes just before it waits.
+            # It opens only after the script has come to read it. It closes after the signal: if an interrupt comes just before Python
+            # waits for bytes, Python waits all the same, and is interrupted only after them.
             with waiting.open("wb"):
                 child.send_signal(signal.SIGINT)
             self.assertEqual(child.communicate(timeout=60), (b"", f"{words[0]}: interrupted\n".encode()))
